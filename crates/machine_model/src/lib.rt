@@ -1,0 +1,7 @@
+//! What an MSP430 instruction does to memory, to the sixteen registers and to the list of written bytes, as definitions
+//! (SLAU049, CPU chapter, "Addressing Modes" and "Instruction Set"). They know no regions, domains or kernel.
+//!
+//! `specs/Does.antt` has `does m r i n`, the effect of the instruction `i` of `n` words.
+#![tactic(auto)]
+
+pub mod place;
