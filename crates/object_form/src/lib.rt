@@ -2,5 +2,6 @@
 #![tactic(auto)]
 
 pub mod lists;
+pub mod marks;
 pub mod object;
 pub mod parts;

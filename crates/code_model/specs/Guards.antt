@@ -1,0 +1,172 @@
+-- The guards: a guard is a fixed group of words just before the instruction that it guards.
+use Rattle.std.specs.Prelude.{◌≡◌, ℕ, ◌+◌, ◌/◌, ◌%◌, ◌<◌, ◌≤◌, ◌⊎◌, ◌↔◌, List, [], ◌∷◌, length, slice_index}
+use Rattle.msp_encode.specs.declared.instr.Op2.{Op2}
+use Rattle.msp_encode.specs.declared.instr.Op2.TheVariants.{Mov, Cmp, Bit}
+use Rattle.msp_encode.specs.declared.instr.Op1.{Op1}
+use Rattle.msp_encode.specs.declared.instr.Op1.TheVariants.{Push, Call}
+use Rattle.msp_encode.specs.declared.instr.Width.{Width}
+use Rattle.msp_encode.specs.declared.instr.Width.TheVariants.{Wide, Byte}
+use Rattle.msp_encode.specs.declared.instr.Src.{Src}
+use Rattle.msp_encode.specs.declared.instr.Src.TheVariants as src
+use Rattle.msp_encode.specs.declared.instr.Dst.{Dst}
+use Rattle.msp_encode.specs.declared.instr.Dst.TheVariants as dst
+use Rattle.msp_encode.specs.declared.instr.Instr.{Instr}
+use Rattle.msp_encode.specs.declared.instr.Instr.TheVariants as instr
+use Rattle.msp_encode.specs.Spelling.{src_words}
+use Rattle.object_form.specs.declared.object.Object.{Object}
+use Rattle.object_form.specs.declared.parts.RelKind.TheVariants.{Lo, Hi}
+use Rattle.code_model.specs.declared.guards.GuardKind.{GuardKind}
+use Rattle.code_model.specs.declared.guards.GuardKind.TheVariants as guard
+use Rattle.code_model.specs.declared.guards.Slot.{Slot}
+use Rattle.code_model.specs.declared.guards.Slot.TheVariants as slot
+use Rattle.object_form.specs.Bitmap.{Has}
+use Rattle.code_model.specs.Starts.{Stands, Start}
+use Rattle.code_model.specs.Relocs.{HasReloc, Unrelocated}
+
+abbrev pub guard_words : GuardKind → List Slot
+guard_words guard.Store = slot.Word 0x4205 ∷ slot.Load ∷ slot.Word 0x5034 ∷ slot.Free ∷ slot.Word 0x9034 ∷ slot.Low ∷ slot.Word 0x2803
+    ∷ slot.Word 0x9034 ∷ slot.High ∷ slot.Word 0x2802 ∷ slot.Word 0x4030 ∷ slot.Word 0xF000 ∷ slot.Word 0x4502 ∷ []
+guard_words guard.Growth = slot.Word 0x4205 ∷ slot.Word 0x9211 ∷ slot.Word 0x0200 ∷ slot.Word 0x2C02
+    ∷ slot.Word 0x4030 ∷ slot.Word 0xF002 ∷ slot.Word 0x4502 ∷ []
+guard_words guard.Pop = slot.Word 0x4205 ∷ slot.Word 0x9182 ∷ slot.Word 0x0202 ∷ slot.Word 0x2002
+    ∷ slot.Word 0x4030 ∷ slot.Word 0xF002 ∷ slot.Word 0x4502 ∷ []
+guard_words guard.Sp = slot.Word 0x4205 ∷ slot.Word 0x9214 ∷ slot.Word 0x0200 ∷ slot.Word 0x2803
+    ∷ slot.Word 0x9482 ∷ slot.Word 0x0202 ∷ slot.Word 0x2C02 ∷ slot.Word 0x4030 ∷ slot.Word 0xF002 ∷ slot.Word 0x4502 ∷ []
+
+-- 4n04 for n 1 or 3 to 15, a MOV of a register or of 0 into R4
+abbrev pub IsLoad : ℕ → Type 0
+IsLoad w = (w / 4096 ≡ 4) × (w % 256 ≡ 4) × ((w / 256 % 16 ≡ 1) ⊎ (3 ≤ w / 256 % 16))
+
+-- the word w of a place is one that the slot takes
+abbrev pub Takes : Object → ℕ → ℕ → Slot → Type 0
+Takes o at w (slot.Word v) = (w ≡ v) × Unrelocated o.relocs at
+Takes o at w slot.Load = IsLoad w × Unrelocated o.relocs at
+Takes o at w slot.Free = Unit {0}
+Takes o at w slot.Low = (w ≡ 0) × HasReloc o.relocs at Lo
+Takes o at w slot.High = (w ≡ 0) × HasReloc o.relocs at Hi
+
+abbrev pub Fits : Object → ℕ → Slot → Type 0
+Fits o at s = (at < length o.code) × Takes o at (slice_index o.code at) s
+
+-- the words from a place on fit the slots
+abbrev pub FitAll : Object → ℕ → List Slot → Type 0
+FitAll o at [] = Unit {0}
+FitAll o at (s ∷ ss) = Fits o at s × FitAll o (at + 1) ss
+
+-- CMP and BIT write no destination
+abbrev pub Writes : Op2 → Type 0
+Writes Cmp = ⊥
+Writes Bit = ⊥
+Writes _ = Unit {0}
+
+-- RRC, RRA, SWPB and SXT write their operand
+abbrev pub Changes : Op1 → Type 0
+Changes Push = ⊥
+Changes Call = ⊥
+Changes _ = Unit {0}
+
+-- PUSH and CALL
+abbrev pub Stacks : Op1 → Type 0
+Stacks Push = Unit {0}
+Stacks Call = Unit {0}
+Stacks _ = ⊥
+
+abbrev pub IsMov : Op2 → Type 0
+IsMov Mov = Unit {0}
+IsMov _ = ⊥
+
+abbrev pub IsWide : Width → Type 0
+IsWide Wide = Unit {0}
+IsWide Byte = ⊥
+
+abbrev pub SrcIs : Src → ℕ → Type 0
+SrcIs (src.Reg n) r = n ≡ r
+SrcIs _ r = ⊥
+
+abbrev pub DstIs : Dst → ℕ → Type 0
+DstIs (dst.Reg n) r = n ≡ r
+DstIs _ r = ⊥
+
+-- the source is @Rn+ of this register
+abbrev pub Pops : Src → ℕ → Type 0
+Pops (src.AutoInc n) r = n ≡ r
+Pops _ r = ⊥
+
+-- the source is neither @R4+ nor @SP+
+abbrev pub IsQuiet : Src → Type 0
+IsQuiet s = (Pops s 4 → ⊥) × (Pops s 1 → ⊥)
+
+-- the destination is 0(R4), and its word, at this place, isn't relocated
+abbrev pub IsPlainStore : Object → ℕ → Dst → Type 0
+IsPlainStore o at (dst.Indexed n x) = (n ≡ 4) × (x ≡ 0) × Unrelocated o.relocs at
+IsPlainStore o at _ = ⊥
+
+abbrev pub IsAtR4 : Src → Type 0
+IsAtR4 (src.Indirect n) = n ≡ 4
+IsAtR4 _ = ⊥
+
+abbrev pub IsHigh : Dst → Type 0
+IsHigh (dst.Reg n) = (4 ≤ n) × (n ≤ 15)
+IsHigh _ = ⊥
+
+abbrev pub IsStoreForm : Object → ℕ → Instr → Type 0
+IsStoreForm o at (instr.Two op w s d) = Writes op × IsPlainStore o (at + 1 + length (src_words s)) d × IsQuiet s
+IsStoreForm o at (instr.One op w s) = Changes op × IsAtR4 s
+IsStoreForm o at _ = ⊥
+
+abbrev pub IsGrowthForm : Instr → Type 0
+IsGrowthForm (instr.One op w s) = Stacks op × IsQuiet s
+IsGrowthForm _ = ⊥
+
+abbrev pub IsPopForm : Instr → Type 0
+IsPopForm (instr.Two op w s d) = IsMov op × IsWide w × Pops s 1 × IsHigh d
+IsPopForm _ = ⊥
+
+abbrev pub IsSpForm : Instr → Type 0
+IsSpForm (instr.Two op w s d) = IsMov op × IsWide w × SrcIs s 4 × DstIs d 1
+IsSpForm _ = ⊥
+
+-- an instruction at a place that a guard may stand before
+abbrev pub Serves : GuardKind → Object → ℕ → Instr → Type 0
+Serves guard.Store o at i = IsStoreForm o at i
+Serves guard.Growth o at i = IsGrowthForm i
+Serves guard.Pop o at i = IsPopForm i
+Serves guard.Sp o at i = IsSpForm i
+
+-- the words that end just before a start are those of a guard
+pub record Guarded (o : Object) (at : ℕ) (g : GuardKind) : Type 0 where
+  pub start : Start o.code at
+  pub first : ℕ
+  pub ends : first + length (guard_words g) ≡ at
+  pub begins : Start o.code first
+  pub fit : FitAll o first (guard_words g)
+  pub instr : Instr
+  pub words : ℕ
+  pub stands : Stands o.code at instr words
+  pub serves : Serves g o at instr
+
+-- a guard begins before `at` and guards what stands at `guarded`
+unfoldable pub CoversBy : (o : Object) (at guarded : ℕ) (g : GuardKind) → Type 0
+CoversBy o at guarded g = (h : Guarded o guarded g) × (h.first < at)
+
+unfoldable pub Covers : (o : Object) (at guarded : ℕ) → Type 0
+Covers o at guarded = (g : GuardKind) × CoversBy o at guarded g
+
+-- a guard begins before `at` and guards what stands there or behind
+unfoldable pub Covered : Object → ℕ → Type 0
+Covered o at = (guarded : ℕ) × (at ≤ guarded) × Covers o at guarded
+
+-- a place among a guard's own words, the first included
+abbrev pub Own : Object → ℕ → Type 0
+Own o at = Covered o (at + 1)
+
+-- a start among a guard's words after its first, or the guarded instruction
+abbrev pub Interior : Object → ℕ → Type 0
+Interior o at = Start o.code at × Covered o at
+
+abbrev pub UnitStart : Object → ℕ → Type 0
+UnitStart o at = Start o.code at × (Interior o at → ⊥)
+
+-- the marks are the unit starts
+abbrev pub AreUnits : Object → List ℕ → Type 0
+AreUnits o marks = (at : ℕ) → Has marks at ↔ UnitStart o at

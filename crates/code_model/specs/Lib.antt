@@ -1,0 +1,6 @@
+pub mod Starts
+pub mod Relocs
+pub mod Guards
+pub mod Rules
+pub mod Verdicts
+pub mod Dangers
