@@ -1,4 +1,23 @@
-//! The edge of the program: names, words, folders and sinks, and whole reads and writes over them.
+//! The edge of the program: what it reads and what it writes, seen through two traits.
+//!
+//! A [`Folder`] holds files by name, a [`Sink`] takes bytes in order. Each means a record (`FolderState`, `SinkState` of
+//! `specs/Known.antt`): the contents, where they are told, counts of faults that never fall, and for a folder the last
+//! failed name and the created name. `read_all`, `write_all` and `write_file` take and give whole contents; what they
+//! answer, and when a fault may be answered (`specs/Causes.antt`), is what the layers above build on. `MemFolder` and
+//! `MemSink` are exact forms in memory, with calls that can be made to fail (`specs/Memory.antt`). `StdFolder` and
+//! `StdSink` stand over files and standard streams, and tell no contents. The crate stands on `std` alone.
 #![tactic(auto)]
 
+mod counts;
+pub mod folder;
 pub mod lists;
+pub mod mem_folder;
+pub mod mem_sink;
+pub mod name;
+pub mod null_sink;
+pub mod sink;
+pub mod standard;
+#[cfg(test)]
+mod tests;
+pub mod whole;
+pub mod words;

@@ -1,6 +1,7 @@
 //! Lists that grow, which contracts see as lists.
 
-ghost use Rattle.std.specs.Prelude.{◌≡◌, ℕ, List, [], ◌∷◌, ◌++◌, length, slice_get, OnOk, OnErr};
+ghost use Rattle.std.specs.Prelude.{◌≡◌, ℕ, List, [], ◌∷◌, ◌++◌, length, drop, ◌≤◌, slice_get, IfOk, OnOk, OnErr};
+ghost use Rattle.edge_io.specs.Numbered.{has_call};
 
 use std::alloc::{AllocError, Global};
 use std::marker::Model;
@@ -27,12 +28,29 @@ impl Bytes {
         }
     }
 
+    /// The list of these bytes, or none where there is no memory.
+    pub fn from_slice(alloc: Global, from: &[u8]) -> Result<Bytes, AllocError>
+        ensures { IfOk result (λ list. list ≡ from.now) }
+    {
+        let items = Vec::from_slice(alloc, from)?;
+        Ok(Bytes { items })
+    }
+
     /// Appends a byte, or leaves the list where there is no memory.
     pub fn push(&mut self, item: u8) -> Result<(), AllocError>
         ensures pushed { OnOk result (self.new ≡ self.old ++ item ∷ []) }
         ensures kept { OnErr result (self.new ≡ self.old) }
     {
         self.items.push(item)?;
+        Ok(())
+    }
+
+    /// Appends these bytes, or leaves the list where there is no memory.
+    pub fn extend_from_slice(&mut self, piece: &[u8]) -> Result<(), AllocError>
+        ensures extended { OnOk result (self.new ≡ self.old ++ piece.now) }
+        ensures kept { OnErr result (self.new ≡ self.old) }
+    {
+        self.items.extend_from_slice(piece)?;
         Ok(())
     }
 
@@ -102,4 +120,19 @@ impl Calls {
     {
         self.items.get(at).copied()
     }
+
+    /// Whether the list has this number.
+    pub fn contains(&self, call: u64) -> bool
+        ensures { result ≡ has_call self.now call }
+    {
+        self.items.iter().any(|item| u64::from(*item) == call)
+    }
+}
+
+/// Writes these bytes over the first of a slice that has room for them.
+pub(crate) fn copy_over(into: &mut [u8], from: &[u8])
+    requires { length from.now ≤ length into.old }
+    ensures { into.new ≡ from.now ++ drop (length from.now) into.old }
+{
+    into[..from.len()].copy_from_slice(from);
 }

@@ -4,4 +4,5 @@
 //! `specs/Does.antt` has `does m r i n`, the effect of the instruction `i` of `n` words.
 #![tactic(auto)]
 
+pub mod laws;
 pub mod place;

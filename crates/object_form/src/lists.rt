@@ -1,6 +1,6 @@
 //! The lists of an object.
 
-ghost use Rattle.std.specs.Prelude.{◌≡◌, ℕ, List, [], ◌∷◌, ◌++◌, length, slice_get, OnOk, OnErr};
+ghost use Rattle.std.specs.Prelude.{◌≡◌, ℕ, List, [], ◌∷◌, ◌++◌, length, slice_get, IfOk, OnOk, OnErr};
 ghost use Rattle.object_form.specs.declared.parts.Reloc.{Reloc};
 ghost use Rattle.object_form.specs.declared.parts.Export.{Export};
 
@@ -30,6 +30,15 @@ impl CodeWords {
         }
     }
 
+    /// The empty list, with memory reserved for this many words.
+    pub fn with_room(alloc: Global, room: usize) -> Result<CodeWords, AllocError>
+        ensures { IfOk result (λ list. list ≡ []) }
+    {
+        Ok(CodeWords {
+            items: Vec::with_capacity(alloc, room)?,
+        })
+    }
+
     /// Appends a word, or leaves the list where there is no memory.
     pub fn push(&mut self, item: u16) -> Result<(), AllocError>
         ensures pushed { OnOk result (self.new ≡ self.old ++ item ∷ []) }
@@ -51,6 +60,13 @@ impl CodeWords {
         ensures { result ≡ slice_get self.now at }
     {
         self.items.get(at).copied()
+    }
+
+    /// The words.
+    pub fn as_slice(&self) -> &[u16]
+        ensures { result.now ≡ self.now }
+    {
+        self.items.as_slice()
     }
 }
 
@@ -76,6 +92,15 @@ impl Relocs {
         }
     }
 
+    /// The empty list, with memory reserved for this many relocations.
+    pub fn with_room(alloc: Global, room: usize) -> Result<Relocs, AllocError>
+        ensures { IfOk result (λ list. list ≡ []) }
+    {
+        Ok(Relocs {
+            items: Vec::with_capacity(alloc, room)?,
+        })
+    }
+
     /// Appends a relocation, or leaves the list where there is no memory.
     pub fn push(&mut self, item: Reloc) -> Result<(), AllocError>
         ensures pushed { OnOk result (self.new ≡ self.old ++ item ∷ []) }
@@ -97,6 +122,13 @@ impl Relocs {
         ensures { result ≡ slice_get self.now at }
     {
         self.items.get(at).copied()
+    }
+
+    /// The relocations.
+    pub fn as_slice(&self) -> &[Reloc]
+        ensures { result.now ≡ self.now }
+    {
+        self.items.as_slice()
     }
 }
 
@@ -122,6 +154,15 @@ impl Exports {
         }
     }
 
+    /// The empty list, with memory reserved for this many exports.
+    pub fn with_room(alloc: Global, room: usize) -> Result<Exports, AllocError>
+        ensures { IfOk result (λ list. list ≡ []) }
+    {
+        Ok(Exports {
+            items: Vec::with_capacity(alloc, room)?,
+        })
+    }
+
     /// Appends an export, or leaves the list where there is no memory.
     pub fn push(&mut self, item: Export) -> Result<(), AllocError>
         ensures pushed { OnOk result (self.new ≡ self.old ++ item ∷ []) }
@@ -143,5 +184,12 @@ impl Exports {
         ensures { result ≡ slice_get self.now at }
     {
         self.items.get(at).copied()
+    }
+
+    /// The exports.
+    pub fn as_slice(&self) -> &[Export]
+        ensures { result.now ≡ self.now }
+    {
+        self.items.as_slice()
     }
 }

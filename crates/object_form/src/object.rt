@@ -12,6 +12,9 @@ pub const CODE_WORDS_MAX: usize = 8192;
 /// The largest static part, initialised and zeroed bytes together.
 pub const STATIC_BYTES_MAX: usize = 16384;
 
+/// The largest number of relocations.
+pub const RELOCS_MAX: usize = 16384;
+
 /// An object as data. It always meets the form.
 #[derive(Drop)]
 pub struct Object {

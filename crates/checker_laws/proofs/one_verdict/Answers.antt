@@ -1,0 +1,5 @@
+use Rattle.checker_laws.proofs.Refusing.{one_verdict}
+use Rattle.checker_laws.proofs.one_verdict.Goals as goal
+
+pub returns : goal.returns
+returns c = one_verdict

@@ -1,0 +1,2 @@
+pub mod LegalForms
+pub mod Written

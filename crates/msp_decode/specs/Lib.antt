@@ -1,0 +1,4 @@
+pub mod Reading
+pub mod At
+pub mod Laws
+pub mod Function

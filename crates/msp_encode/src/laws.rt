@@ -1,0 +1,13 @@
+//! Laws of the spelling, for the layers above: each is used by calling it.
+
+ghost use Rattle.msp_encode.specs.Laws.{LegalByCases, OneSpelling};
+
+/// The instructions that some words spell are those that meet the conditions on their parts.
+pub fn legal_by_cases()
+    ensures { LegalByCases }
+{}
+
+/// An instruction has one spelling.
+pub fn one_spelling()
+    ensures { OneSpelling }
+{}

@@ -1,0 +1,75 @@
+-- The one text of an object.
+use Rattle.std.specs.Prelude.{ℕ, ◌%◌, ◌/◌, List, [], ◌∷◌, ◌++◌, length, Bool, true, false}
+use Rattle.std.specs.List.{flat_map}
+use Rattle.object_form.specs.declared.parts.Kind.{Kind}
+use Rattle.object_form.specs.declared.parts.Kind.TheVariants.{App, Module}
+use Rattle.object_form.specs.declared.parts.Reloc.{Reloc}
+use Rattle.object_form.specs.declared.parts.Export.{Export}
+use Rattle.object_form.specs.declared.object.Object.{Object}
+use Rattle.object_form.specs.Form.{kind_code, MeetsForm}
+
+-- an object's fields, without the fact that they meet the form
+pub record Fields : Type 0 where
+  pub kind : Kind
+  pub version : ℕ
+  pub code : List ℕ
+  pub init : List ℕ
+  pub zeroed : ℕ
+  pub stack : ℕ
+  pub threads : ℕ
+  pub entry : ℕ
+  pub relocs : List Reloc
+  pub exports : List Export
+
+abbrev pub fields_by : Kind → ℕ → List ℕ → List ℕ → ℕ → ℕ → ℕ → ℕ → List Reloc → List Export → Fields
+fields_by kind version code init zeroed stack threads entry relocs exports = record { kind = kind; version = version; code = code; init = init; zeroed = zeroed; stack = stack; threads = threads; entry = entry; relocs = relocs; exports = exports }
+
+abbrev pub fields : Object → Fields
+fields o = record { kind = o.kind; version = o.version; code = o.code; init = o.init; zeroed = o.zeroed; stack = o.stack; threads = o.threads; entry = o.entry; relocs = o.relocs; exports = o.exports }
+
+-- these fields meet the form
+abbrev pub Meets : Fields → Type 0
+Meets f = MeetsForm f.kind f.version f.code f.init f.zeroed f.stack f.threads f.entry f.relocs f.exports
+
+-- a word, its low byte first
+abbrev pub word_bytes : ℕ → List ℕ
+word_bytes w = w % 256 ∷ w / 256 ∷ []
+
+abbrev pub kind_number : Kind → ℕ
+kind_number App = 1
+kind_number Module = 2
+
+-- the number of a relocation's section
+abbrev pub section_number : Bool → ℕ
+section_number true = 0
+section_number false = 1
+
+abbrev pub reloc_bytes : Reloc → List ℕ
+reloc_bytes r = section_number r.in_code ∷ kind_code r.kind ∷ word_bytes r.offset
+
+abbrev pub export_bytes : Export → List ℕ
+export_bytes e = e.number ∷ 0 ∷ word_bytes e.offset
+
+-- the four bytes of `RETO`, the version and the kind
+abbrev pub start_bytes : Fields → List ℕ
+start_bytes f = 0x52 ∷ 0x45 ∷ 0x54 ∷ 0x4F ∷ f.version ∷ kind_number f.kind ∷ []
+
+-- how many code words, initialised and zeroed bytes there are
+abbrev pub size_bytes : Fields → List ℕ
+size_bytes f = word_bytes (length f.code) ++ word_bytes (length f.init) ++ word_bytes f.zeroed
+
+-- the stack, the threads, how many exports, the entry, how many relocations
+abbrev pub run_bytes : Fields → List ℕ
+run_bytes f = word_bytes f.stack ++ f.threads ∷ length f.exports ∷ word_bytes f.entry ++ word_bytes (length f.relocs)
+
+-- the twenty bytes before the code
+abbrev pub head_bytes : Fields → List ℕ
+head_bytes f = start_bytes f ++ size_bytes f ++ run_bytes f
+
+-- the text of these fields
+abbrev pub text_of : Fields → List ℕ
+text_of f = head_bytes f ++ (flat_map word_bytes f.code ++ (f.init ++ (flat_map reloc_bytes f.relocs ++ flat_map export_bytes f.exports)))
+
+-- the one text of an object
+unfoldable pub object_bytes : Object → List ℕ
+object_bytes o = text_of (fields o)

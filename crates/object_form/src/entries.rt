@@ -1,0 +1,153 @@
+//! Reading relocations and exports.
+
+ghost use Rattle.std.specs.Prelude.{◌≡◌, ℕ, ◌+◌, ◌*◌, ◌<◌, ◌≤◌, ◌^◌, length};
+ghost use Rattle.object_form.specs.Reading.{byte_at, word_at, rel_kind_of, reloc_at, export_at, relocs_from, exports_from};
+ghost use Rattle.object_form.specs.Faults.{key_at, reloc_field, reloc_fields, export_field, export_fields};
+ghost use Rattle.object_form.specs.Given.{ReadsField, ReadsFields};
+
+use super::fault::{FormFault, FormKind};
+use super::head::wrong;
+use super::lists::{Exports, Relocs};
+use super::parts::{Export, RelKind, Reloc};
+use std::alloc::Global;
+
+/// The kind of a number from 1 to 4.
+fn rel_kind(number: u8) -> RelKind
+    ensures { result ≡ rel_kind_of number }
+{
+    match number {
+        1 => RelKind::Code,
+        2 => RelKind::Data,
+        3 => RelKind::Lo,
+        _ => RelKind::Hi,
+    }
+}
+
+/// The sizes of the two sections in bytes.
+#[derive(Clone, Copy, Drop)]
+pub(crate) struct Sizes {
+    pub code: usize,
+    pub init: usize,
+}
+
+/// The relocation at a place, and its key, which has to be `least` or greater.
+#[tactic(auto, unfolding(crate::specs::Faults::reloc_field))]
+fn reloc(text: &[u8], at: usize, sizes: Sizes, least: u32) -> Result<(Reloc, u32), FormFault>
+    requires place { at < 2 ^ 24 }
+    requires code { sizes.code ≡ 2 * word_at text.now 6 }
+    requires init { sizes.init ≡ word_at text.now 8 }
+    ensures { ReadsField text.now (reloc_field text.now at least) result
+        (λ r. (r.0 ≡ reloc_at text.now at) × (r.1 ≡ key_at text.now at) × (r.1 < 2 ^ 17)) }
+{
+    if text.len() < at + 4 {
+        return Err(wrong(FormKind::Short, text.len()));
+    }
+    let section = text[at];
+    if section > 1 {
+        return Err(wrong(FormKind::Place, at));
+    }
+    let in_code = section == 0;
+    let number = text[at + 1];
+    if number < 1 || number > (if in_code { 4 } else { 2 }) {
+        return Err(wrong(FormKind::Kind, at + 1));
+    }
+    let offset = text[at + 2] as u16 + 256 * text[at + 3] as u16;
+    let size = if in_code { sizes.code } else { sizes.init };
+    if offset % 2 != 0 || offset as usize + 2 > size {
+        return Err(wrong(FormKind::Place, at + 2));
+    }
+    let key = 65536 * section as u32 + offset as u32;
+    if key < least {
+        return Err(wrong(FormKind::Order, at + 2));
+    }
+    let kind = rel_kind(number);
+    Ok((
+        Reloc {
+            in_code,
+            kind,
+            offset,
+        },
+        key,
+    ))
+}
+
+/// The export at a place, whose number has to be `least` or greater.
+#[tactic(auto, unfolding(crate::specs::Faults::export_field))]
+fn export(text: &[u8], at: usize, code: usize, least: u8) -> Result<Export, FormFault>
+    requires place { at < 2 ^ 24 }
+    requires code { code ≡ 2 * word_at text.now 6 }
+    ensures { ReadsField text.now (export_field text.now at least) result
+        (λ e. (e ≡ export_at text.now at) × (e.number ≤ 63)) }
+{
+    if text.len() < at + 4 {
+        return Err(wrong(FormKind::Short, text.len()));
+    }
+    let number = text[at];
+    if number > 63 {
+        return Err(wrong(FormKind::Limit, at));
+    }
+    if number < least {
+        return Err(wrong(FormKind::Order, at));
+    }
+    if text[at + 1] != 0 {
+        return Err(wrong(FormKind::Place, at + 1));
+    }
+    let offset = text[at + 2] as u16 + 256 * text[at + 3] as u16;
+    if offset % 2 != 0 || offset as usize >= code {
+        return Err(wrong(FormKind::Place, at + 2));
+    }
+    Ok(Export { number, offset })
+}
+
+/// The smaller of a number and the number of whole entries of four bytes from a place on.
+fn room(text: &[u8], start: usize, count: usize) -> usize {
+    let rest = text.len().saturating_sub(start) / 4;
+    if rest < count { rest } else { count }
+}
+
+/// So many relocations from a place on, or the first fault of them.
+pub(crate) fn read_relocs(
+    alloc: Global,
+    text: &[u8],
+    start: usize,
+    count: usize,
+    sizes: Sizes,
+) -> Result<Relocs, FormFault>
+    requires place { start + 4 * count < 2 ^ 24 }
+    requires code { sizes.code ≡ 2 * word_at text.now 6 }
+    requires init { sizes.init ≡ word_at text.now 8 }
+    ensures { ReadsFields text.now (reloc_fields text.now start count) result
+        (λ relocs. relocs ≡ relocs_from text.now start count) }
+{
+    let mut relocs = Relocs::with_room(alloc, room(text, start, count))?;
+    let mut least = 0;
+    for k in 0..count {
+        let (reloc, key) = reloc(text, start + 4 * k, sizes, least)?;
+        relocs.push(reloc)?;
+        least = key + 1;
+    }
+    Ok(relocs)
+}
+
+/// So many exports from a place on, or the first fault of them.
+pub(crate) fn read_exports(
+    alloc: Global,
+    text: &[u8],
+    start: usize,
+    count: usize,
+    code: usize,
+) -> Result<Exports, FormFault>
+    requires place { start + 4 * count < 2 ^ 24 }
+    requires code { code ≡ 2 * word_at text.now 6 }
+    ensures { ReadsFields text.now (export_fields text.now start count) result
+        (λ exports. exports ≡ exports_from text.now start count) }
+{
+    let mut exports = Exports::with_room(alloc, room(text, start, count))?;
+    let mut least = 0;
+    for k in 0..count {
+        let export = export(text, start + 4 * k, code, least)?;
+        exports.push(export)?;
+        least = export.number + 1;
+    }
+    Ok(exports)
+}

@@ -1,0 +1,247 @@
+//! Reading the twenty bytes before an object's code.
+
+ghost use Rattle.std.specs.Prelude.{◌≡◌, ℕ, ◌+◌, ◌*◌, ◌<◌, ◌≤◌, ◌^◌, length, MatchResult};
+ghost use Rattle.object_form.specs.Reading.{byte_at, word_at, kind_of};
+ghost use Rattle.object_form.specs.Faults.{magic_field, version_field, kind_field, code_count_field, init_count_field, zeroed_field, stack_field, threads_field, export_count_field, entry_field, reloc_count_field, head_fields};
+ghost use Rattle.object_form.specs.Given.{ReadsField, ReadsFields, IsHead};
+ghost use Rattle.object_form.specs.declared.fault.FormKind.TheVariants as kinds;
+ghost use Rattle.object_form.specs.declared.fault.FormFault.TheVariants.{At};
+
+use super::fault::{FormFault, FormKind};
+use super::object::{CODE_WORDS_MAX, RELOCS_MAX, STATIC_BYTES_MAX};
+use super::parts::Kind;
+
+/// A fault of this kind at an offset.
+pub(crate) fn wrong(kind: FormKind, offset: usize) -> FormFault
+    requires { offset < 2 ^ 32 }
+    ensures { result ≡ At kind offset }
+{
+    FormFault::At {
+        kind,
+        offset: offset as u32,
+    }
+}
+
+/// The byte at a place, or that the text is short of it.
+fn byte(text: &[u8], at: usize) -> Result<u8, FormFault>
+    requires { at < 20 }
+    ensures { MatchResult result
+        (λ b. (at + 1 ≤ length text.now) × (b ≡ byte_at text.now at))
+        (λ e. (length text.now < at + 1) × (e ≡ At kinds.Short (length text.now))) }
+{
+    if at < text.len() {
+        Ok(text[at])
+    } else {
+        Err(wrong(FormKind::Short, text.len()))
+    }
+}
+
+/// The word at a place, or that the text is short of it.
+fn word(text: &[u8], at: usize) -> Result<u16, FormFault>
+    requires { at < 20 }
+    ensures { MatchResult result
+        (λ w. (at + 2 ≤ length text.now) × (w ≡ word_at text.now at))
+        (λ e. (length text.now < at + 2) × (e ≡ At kinds.Short (length text.now))) }
+{
+    if at + 1 < text.len() {
+        Ok(text[at] as u16 + 256 * text[at + 1] as u16)
+    } else {
+        Err(wrong(FormKind::Short, text.len()))
+    }
+}
+
+#[tactic(auto, unfolding(crate::specs::Faults::magic_field))]
+fn magic(text: &[u8]) -> Result<(), FormFault>
+    ensures { ReadsField text.now (magic_field text.now) result (λ _. 4 ≤ length text.now) }
+{
+    if text.len() < 4 {
+        return Err(wrong(FormKind::Short, text.len()));
+    }
+    if text[0] == 0x52 && text[1] == 0x45 && text[2] == 0x54 && text[3] == 0x4F {
+        Ok(())
+    } else {
+        Err(wrong(FormKind::Magic, 0))
+    }
+}
+
+#[tactic(auto, unfolding(crate::specs::Faults::version_field))]
+fn version(text: &[u8]) -> Result<u8, FormFault>
+    ensures { ReadsField text.now (version_field text.now) result (λ v. v ≡ byte_at text.now 4) }
+{
+    let version = byte(text, 4)?;
+    if version != 1 {
+        return Err(wrong(FormKind::Version, 4));
+    }
+    Ok(version)
+}
+
+#[tactic(auto, unfolding(crate::specs::Faults::kind_field))]
+fn kind(text: &[u8]) -> Result<Kind, FormFault>
+    ensures { ReadsField text.now (kind_field text.now) result (λ k. k ≡ kind_of (byte_at text.now 5)) }
+{
+    match byte(text, 5)? {
+        1 => Ok(Kind::App),
+        2 => Ok(Kind::Module),
+        _ => Err(wrong(FormKind::Kind, 5)),
+    }
+}
+
+#[tactic(auto, unfolding(crate::specs::Faults::code_count_field))]
+fn code_count(text: &[u8]) -> Result<u16, FormFault>
+    ensures { ReadsField text.now (code_count_field text.now) result (λ n. n ≡ word_at text.now 6) }
+{
+    let count = word(text, 6)?;
+    if count == 0 || count as usize > CODE_WORDS_MAX {
+        return Err(wrong(FormKind::Limit, 6));
+    }
+    Ok(count)
+}
+
+#[tactic(auto, unfolding(crate::specs::Faults::init_count_field))]
+fn init_count(text: &[u8]) -> Result<u16, FormFault>
+    ensures { ReadsField text.now (init_count_field text.now) result (λ n. n ≡ word_at text.now 8) }
+{
+    let count = word(text, 8)?;
+    if count as usize > STATIC_BYTES_MAX {
+        return Err(wrong(FormKind::Limit, 8));
+    }
+    Ok(count)
+}
+
+#[tactic(auto, unfolding(crate::specs::Faults::zeroed_field))]
+fn zeroed(text: &[u8], init: u16) -> Result<u16, FormFault>
+    requires { init ≡ word_at text.now 8 }
+    ensures { ReadsField text.now (zeroed_field text.now) result (λ n. n ≡ word_at text.now 10) }
+{
+    let count = word(text, 10)?;
+    if init as usize + count as usize > STATIC_BYTES_MAX {
+        return Err(wrong(FormKind::Limit, 10));
+    }
+    Ok(count)
+}
+
+#[tactic(auto, unfolding(crate::specs::Faults::stack_field))]
+fn stack(text: &[u8], kind: Kind) -> Result<u16, FormFault>
+    requires { kind ≡ kind_of (byte_at text.now 5) }
+    ensures { ReadsField text.now (stack_field text.now) result (λ n. n ≡ word_at text.now 12) }
+{
+    let stack = word(text, 12)?;
+    let serves = match kind {
+        Kind::App => stack % 2 == 0 && stack >= 16 && stack <= 1024,
+        Kind::Module => stack == 0,
+    };
+    if !serves {
+        return Err(wrong(FormKind::Limit, 12));
+    }
+    Ok(stack)
+}
+
+#[tactic(auto, unfolding(crate::specs::Faults::threads_field))]
+fn threads(text: &[u8], kind: Kind) -> Result<u8, FormFault>
+    requires { kind ≡ kind_of (byte_at text.now 5) }
+    ensures { ReadsField text.now (threads_field text.now) result (λ n. n ≡ byte_at text.now 14) }
+{
+    let threads = byte(text, 14)?;
+    let serves = match kind {
+        Kind::App => threads >= 1 && threads <= 4,
+        Kind::Module => threads == 0,
+    };
+    if !serves {
+        return Err(wrong(FormKind::Limit, 14));
+    }
+    Ok(threads)
+}
+
+#[tactic(auto, unfolding(crate::specs::Faults::export_count_field))]
+fn export_count(text: &[u8], kind: Kind) -> Result<u8, FormFault>
+    requires { kind ≡ kind_of (byte_at text.now 5) }
+    ensures { ReadsField text.now (export_count_field text.now) result (λ n. n ≡ byte_at text.now 15) }
+{
+    let count = byte(text, 15)?;
+    let serves = match kind {
+        Kind::App => count == 0,
+        Kind::Module => count >= 1 && count <= 64,
+    };
+    if !serves {
+        return Err(wrong(FormKind::Limit, 15));
+    }
+    Ok(count)
+}
+
+#[tactic(auto, unfolding(crate::specs::Faults::entry_field))]
+fn entry(text: &[u8], kind: Kind, code: u16) -> Result<u16, FormFault>
+    requires kind_is { kind ≡ kind_of (byte_at text.now 5) }
+    requires code_is { code ≡ word_at text.now 6 }
+    ensures { ReadsField text.now (entry_field text.now) result (λ n. n ≡ word_at text.now 16) }
+{
+    let entry = word(text, 16)?;
+    let serves = match kind {
+        Kind::App => entry % 2 == 0 && (entry as usize) < 2 * code as usize,
+        Kind::Module => entry == 0,
+    };
+    if !serves {
+        return Err(wrong(FormKind::Place, 16));
+    }
+    Ok(entry)
+}
+
+#[tactic(auto, unfolding(crate::specs::Faults::reloc_count_field))]
+fn reloc_count(text: &[u8]) -> Result<u16, FormFault>
+    ensures { ReadsField text.now (reloc_count_field text.now) result (λ n. n ≡ word_at text.now 18) }
+{
+    let count = word(text, 18)?;
+    if count as usize > RELOCS_MAX {
+        return Err(wrong(FormKind::Limit, 18));
+    }
+    Ok(count)
+}
+
+/// The numbers of a text's head.
+#[derive(Clone, Copy, Drop)]
+pub(crate) struct Head {
+    pub kind: Kind,
+    pub version: u8,
+    /// How many code words there are.
+    pub code: u16,
+    /// How many initialised bytes there are.
+    pub init: u16,
+    /// How many zeroed bytes there are.
+    pub zeroed: u16,
+    pub stack: u16,
+    pub threads: u8,
+    /// How many exports there are.
+    pub exports: u8,
+    pub entry: u16,
+    /// How many relocations there are.
+    pub relocs: u16,
+}
+
+/// The head, or the first fault of its fields.
+#[tactic(auto, unfolding(crate::specs::Faults::first_fault))]
+pub(crate) fn read_head(text: &[u8]) -> Result<Head, FormFault>
+    ensures { ReadsFields text.now (head_fields text.now) result (IsHead text.now) }
+{
+    magic(text)?;
+    let version = version(text)?;
+    let kind = kind(text)?;
+    let code = code_count(text)?;
+    let init = init_count(text)?;
+    let zeroed = zeroed(text, init)?;
+    let stack = stack(text, kind)?;
+    let threads = threads(text, kind)?;
+    let exports = export_count(text, kind)?;
+    let entry = entry(text, kind, code)?;
+    let relocs = reloc_count(text)?;
+    Ok(Head {
+        kind,
+        version,
+        code,
+        init,
+        zeroed,
+        stack,
+        threads,
+        exports,
+        entry,
+        relocs,
+    })
+}

@@ -1,0 +1,62 @@
+//! Reading code words and initialised bytes.
+
+ghost use Rattle.std.specs.Prelude.{◌≡◌, ◌+◌, ◌*◌, ◌≤◌, length, IfOk};
+ghost use Rattle.object_form.specs.Reading.{word_at, init_start, words_from, bytes_from};
+ghost use Rattle.object_form.specs.Faults.{part_fields};
+ghost use Rattle.object_form.specs.Given.{ReadsFields};
+
+use super::fault::{FormFault, FormKind};
+use super::head::wrong;
+use super::lists::CodeWords;
+use edge_io::lists::Bytes;
+use std::alloc::{AllocError, Global};
+
+/// So many code words behind the head.
+fn code_words(alloc: Global, text: &[u8], count: usize) -> Result<CodeWords, AllocError>
+    requires { 20 + 2 * count ≤ length text.now }
+    ensures { IfOk result (λ words. words ≡ words_from text.now 20 count) }
+{
+    let mut words = CodeWords::with_room(alloc, count)?;
+    for k in 0..count {
+        let word = text[20 + 2 * k] as u16 + 256 * text[20 + 2 * k + 1] as u16;
+        words.push(word)?;
+    }
+    Ok(words)
+}
+
+/// So many bytes from a place on.
+fn init_bytes(alloc: Global, text: &[u8], start: usize, count: usize) -> Result<Bytes, AllocError>
+    requires { start + count ≤ length text.now }
+    ensures { IfOk result (λ bytes. bytes ≡ bytes_from text.now start count) }
+{
+    let mut bytes = Bytes::new(alloc);
+    for k in 0..count {
+        bytes.push(text[start + k])?;
+    }
+    Ok(bytes)
+}
+
+/// The code words and the initialised bytes, or that the text is short of them.
+#[tactic(auto, unfolding(crate::specs::Faults::first_fault))]
+pub(crate) fn read_sections(
+    alloc: Global,
+    text: &[u8],
+    code: u16,
+    init: u16,
+) -> Result<(CodeWords, Bytes), FormFault>
+    requires code { code ≡ word_at text.now 6 }
+    requires init { init ≡ word_at text.now 8 }
+    ensures { ReadsFields text.now (part_fields text.now) result
+        (λ x. (x.0 ≡ words_from text.now 20 code) × (x.1 ≡ bytes_from text.now (init_start text.now) init)) }
+{
+    let start = 20 + 2 * code as usize;
+    if text.len() < start {
+        return Err(wrong(FormKind::Short, text.len()));
+    }
+    let code = code_words(alloc, text, code as usize)?;
+    if text.len() < start + init as usize {
+        return Err(wrong(FormKind::Short, text.len()));
+    }
+    let init = init_bytes(alloc, text, start, init as usize)?;
+    Ok((code, init))
+}

@@ -1,0 +1,9 @@
+pub mod Search
+pub mod Standing
+pub mod Walking
+pub mod Guarding
+pub mod CoverLemmas
+pub mod PlaceLemmas
+pub mod Targeting
+pub mod RuleLemmas
+pub mod Judging

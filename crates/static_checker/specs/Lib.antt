@@ -1,0 +1,4 @@
+pub mod Spots
+pub mod Marked
+pub mod Places
+pub mod Refusals

@@ -1,0 +1,32 @@
+-- The places of an object as marks.
+use Rattle.std.specs.Prelude.{◌≡◌, ℕ, ◌*◌, ◌<◌, ◌↔◌, ◌⊎◌, List, length, slice_index_or}
+use Rattle.object_form.specs.declared.object.Object.{Object}
+use Rattle.object_form.specs.declared.parts.Export.{Export}
+use Rattle.object_form.specs.declared.parts.Kind.TheVariants.{App}
+use Rattle.object_form.specs.Bitmap.{Has}
+use Rattle.code_model.specs.Guards.{AreUnits}
+use Rattle.code_model.specs.Rules.{IsNamed}
+use Rattle.static_checker.specs.declared.units.Places.{Places}
+use Rattle.static_checker.specs.Spots.{AreAllStarts}
+use Rattle.static_checker.specs.Marked.{AreCovered}
+
+abbrev pub IsEntry : Object → ℕ → Type 0
+IsEntry o at = (o.kind ≡ App) × (o.entry ≡ 2 * at)
+
+-- the export at an index has this place
+unfoldable pub ExportsAt : List Export → (index at : ℕ) → Type 0
+ExportsAt exports index at = (e : Export) × (index < length exports) × (slice_index_or exports index e ≡ e) × (e.offset ≡ 2 * at)
+
+-- the marks are the entry and the exports
+abbrev pub AreNamed : Object → List ℕ → Type 0
+AreNamed o marks = (at : ℕ) → Has marks at ↔ IsNamed o at
+
+pub record ArePlaces (o : Object) (p : Places) : Type 0 where
+  pub all : AreAllStarts o p.starts
+  pub covered : AreCovered o p.covered
+  pub units : AreUnits o p.units
+  pub named : AreNamed o p.named
+
+-- an export below the index has this place
+unfoldable pub ExportedBelow : List Export → (at end : ℕ) → Type 0
+ExportedBelow exports at end = (index : ℕ) × (index < end) × ExportsAt exports index at

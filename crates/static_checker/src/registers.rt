@@ -1,0 +1,172 @@
+//! The rules on registers and the stack: RETI, PC, SP, SR, pops and pushes.
+
+ghost use Rattle.std.specs.Prelude.{◌≡◌, ℕ, ◌<◌, ◌↔◌, IsTrue};
+ghost use Rattle.code_model.specs.Starts.{AreStarts};
+ghost use Rattle.code_model.specs.Guards.{Guarded};
+ghost use Rattle.code_model.specs.declared.guards.GuardKind.TheVariants as guard;
+ghost use Rattle.code_model.specs.Rules.{IsReti, WritesReg, IsImmediate, IsBranch, const_value, IsFlags, IsBisOrBic, NamesFlags, ChangesFlags, ReadsStack, IsPushOrCall};
+ghost use Rattle.static_checker.specs.Spots.{IsStartSpot};
+
+use crate::forms::{changes, dst_is, is_mov, is_wide, pops, src_is, stacks, writes};
+use crate::guards::is_guarded;
+use crate::relocs::unrelocated;
+use crate::spot::Spot;
+use code_model::guards::GuardKind;
+use msp_encode::instr::{Cg, Instr, Op2, Src};
+use object_form::marks::Marks;
+use object_form::object::Object;
+
+/// Tells whether PC is written by another instruction than `MOV #imm,PC`.
+pub fn breaks_pc(i: Instr) -> bool
+    ensures { IsTrue result ↔ (WritesReg i 0 × (IsBranch i → ⊥)) }
+{
+    writes_reg(i, 0) && !is_branch(i)
+}
+
+/// Tells whether SP is written without its guard.
+pub fn breaks_sp(o: &Object, starts: &Marks, spot: &Spot) -> bool
+    requires starts { AreStarts o.now.code starts.now }
+    requires spot { IsStartSpot o.now.code spot.now }
+    ensures { IsTrue result ↔ (WritesReg spot.now.instr 1 × (Guarded o.now spot.now.at guard.Sp → ⊥)) }
+{
+    writes_reg(spot.instr, 1) && !is_guarded(o, starts, spot, GuardKind::Sp)
+}
+
+/// Tells whether more of SR than the flags is written.
+pub fn breaks_sr(o: &Object, at: usize, i: Instr) -> bool
+    requires { at < 8192 }
+    ensures { IsTrue result ↔ (WritesReg i 2 × (ChangesFlags o.now at i → ⊥)) }
+{
+    writes_reg(i, 2) && !changes_flags(o, at, i)
+}
+
+/// Tells whether the stack is popped without a guard.
+pub fn breaks_pop(o: &Object, starts: &Marks, spot: &Spot) -> bool
+    requires starts { AreStarts o.now.code starts.now }
+    requires spot { IsStartSpot o.now.code spot.now }
+    ensures { IsTrue result ↔ (ReadsStack spot.now.instr × (Guarded o.now spot.now.at guard.Pop → ⊥)) }
+{
+    reads_stack(spot.instr) && !is_guarded(o, starts, spot, GuardKind::Pop)
+}
+
+/// Tells whether the stack is pushed without a guard.
+pub fn breaks_push(o: &Object, starts: &Marks, spot: &Spot) -> bool
+    requires starts { AreStarts o.now.code starts.now }
+    requires spot { IsStartSpot o.now.code spot.now }
+    ensures { IsTrue result ↔ (IsPushOrCall spot.now.instr × (Guarded o.now spot.now.at guard.Growth → ⊥)) }
+{
+    is_push_or_call(spot.instr) && !is_guarded(o, starts, spot, GuardKind::Growth)
+}
+
+/// Tells whether an instruction is RETI.
+pub fn is_reti(i: Instr) -> bool
+    ensures { IsTrue result ↔ IsReti i }
+{
+    matches!(i, Instr::Reti)
+}
+
+/// Tells whether an operation's destination, or the operand that it changes, is this register.
+fn writes_reg(i: Instr, register: u8) -> bool
+    ensures { IsTrue result ↔ WritesReg i register }
+{
+    match i {
+        Instr::Two { op, dst, .. } => writes(op) && dst_is(dst, register),
+        Instr::One { op, src, .. } => changes(op) && src_is(src, register),
+        _ => false,
+    }
+}
+
+/// Tells whether an instruction is `MOV #imm,PC`.
+pub fn is_branch(i: Instr) -> bool
+    ensures { IsTrue result ↔ IsBranch i }
+{
+    match i {
+        Instr::Two {
+            op,
+            width,
+            src,
+            dst,
+        } => is_mov(op) && is_wide(width) && is_immediate(src) && dst_is(dst, 0),
+        _ => false,
+    }
+}
+
+/// Tells whether a source is an immediate.
+fn is_immediate(src: Src) -> bool
+    ensures { IsTrue result ↔ IsImmediate src }
+{
+    matches!(src, Src::Immediate(_))
+}
+
+/// Tells whether an instruction at a place changes flags alone, by a named mask.
+fn changes_flags(o: &Object, at: usize, i: Instr) -> bool
+    requires { at < 8192 }
+    ensures { IsTrue result ↔ ChangesFlags o.now at i }
+{
+    match i {
+        Instr::Two { op, width, src, .. } => is_bis_or_bic(op)
+            && is_wide(width)
+            && names_flags(o, at, src),
+        _ => false,
+    }
+}
+
+/// Tells whether an operation is BIS or BIC.
+fn is_bis_or_bic(op: Op2) -> bool
+    ensures { IsTrue result ↔ IsBisOrBic op }
+{
+    matches!(op, Op2::Bis | Op2::Bic)
+}
+
+/// Tells whether the source of an instruction at a place is a constant or an unrelocated immediate within the flags.
+fn names_flags(o: &Object, at: usize, src: Src) -> bool
+    requires { at < 8192 }
+    ensures { IsTrue result ↔ NamesFlags o.now at src }
+{
+    match src {
+        Src::Const(constant) => is_flags(const_value(constant)),
+        Src::Immediate(x) => unrelocated(o, at + 1) && is_flags(x),
+        _ => false,
+    }
+}
+
+/// Tells whether a word has no bit but those of C, Z, N and V.
+fn is_flags(x: u16) -> bool
+    ensures { IsTrue result ↔ IsFlags x }
+{
+    x & 0xFEF8 == 0
+}
+
+/// The value of a generated constant.
+fn const_value(constant: Cg) -> u16
+    ensures { result ≡ const_value constant }
+{
+    match constant {
+        Cg::Zero => 0,
+        Cg::One => 1,
+        Cg::Two => 2,
+        Cg::Four => 4,
+        Cg::Eight => 8,
+        Cg::AllOnes => 0xFFFF,
+    }
+}
+
+/// Tells whether @SP+ is read.
+fn reads_stack(i: Instr) -> bool
+    ensures { IsTrue result ↔ ReadsStack i }
+{
+    match i {
+        Instr::Two { src, .. } | Instr::One { src, .. } => pops(src, 1),
+        _ => false,
+    }
+}
+
+/// Tells whether an instruction is PUSH or CALL.
+fn is_push_or_call(i: Instr) -> bool
+    ensures { IsTrue result ↔ IsPushOrCall i }
+{
+    match i {
+        Instr::One { op, .. } => stacks(op),
+        _ => false,
+    }
+}

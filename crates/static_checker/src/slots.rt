@@ -1,0 +1,121 @@
+//! The words of guards.
+
+ghost use Rattle.std.specs.Prelude.{◌≡◌, ℕ, ◌+◌, ◌<◌, ◌≤◌, ◌↔◌, IsTrue, length};
+ghost use Rattle.code_model.specs.Guards.{IsLoad, Takes, Fits, FitAll, guard_words};
+
+use crate::relocs::{has_reloc, unrelocated};
+use crate::spot::word_at;
+use code_model::guards::{GuardKind, Slot};
+use object_form::object::Object;
+use object_form::parts::RelKind;
+
+/// `MOV SR,R5`.
+const SAVES: Slot = Slot::Word(0x4205);
+
+/// `MOV R5,SR`.
+const RESTORES: Slot = Slot::Word(0x4502);
+
+/// `MOV #imm,PC`.
+const BRANCHES: Slot = Slot::Word(0x4030);
+
+static STORE: [Slot; 13] = [
+    SAVES,
+    Slot::Load,
+    Slot::Word(0x5034),
+    Slot::Free,
+    Slot::Word(0x9034),
+    Slot::Low,
+    Slot::Word(0x2803),
+    Slot::Word(0x9034),
+    Slot::High,
+    Slot::Word(0x2802),
+    BRANCHES,
+    Slot::Word(0xF000),
+    RESTORES,
+];
+
+static GROWTH: [Slot; 7] = [
+    SAVES,
+    Slot::Word(0x9211),
+    Slot::Word(0x0200),
+    Slot::Word(0x2C02),
+    BRANCHES,
+    Slot::Word(0xF002),
+    RESTORES,
+];
+
+static POP: [Slot; 7] = [
+    SAVES,
+    Slot::Word(0x9182),
+    Slot::Word(0x0202),
+    Slot::Word(0x2002),
+    BRANCHES,
+    Slot::Word(0xF002),
+    RESTORES,
+];
+
+static SP: [Slot; 10] = [
+    SAVES,
+    Slot::Word(0x9214),
+    Slot::Word(0x0200),
+    Slot::Word(0x2803),
+    Slot::Word(0x9482),
+    Slot::Word(0x0202),
+    Slot::Word(0x2C02),
+    BRANCHES,
+    Slot::Word(0xF002),
+    RESTORES,
+];
+
+/// The words of a guard.
+pub fn slots(kind: GuardKind) -> &'static [Slot]
+    ensures { result.now ≡ guard_words kind }
+{
+    match kind {
+        GuardKind::Store => &STORE,
+        GuardKind::Growth => &GROWTH,
+        GuardKind::Pop => &POP,
+        GuardKind::Sp => &SP,
+    }
+}
+
+/// Tells whether the words from a place on fit the slots.
+pub fn fit_all(o: &Object, at: usize, slots: &[Slot]) -> bool
+    requires { at + length slots.now < 32768 }
+    ensures { IsTrue result ↔ FitAll o.now at slots.now }
+{
+    match slots {
+        [] => true,
+        [first, rest @ ..] => fits(o, at, *first) && fit_all(o, at + 1, rest),
+    }
+}
+
+/// Tells whether there is a word at a place that the slot takes.
+fn fits(o: &Object, at: usize, slot: Slot) -> bool
+    requires { at < 32768 }
+    ensures { IsTrue result ↔ Fits o.now at slot }
+{
+    at < o.code.len() && takes(o, at, word_at(&o.code, at), slot)
+}
+
+/// Tells whether the slot takes the word at a place.
+fn takes(o: &Object, at: usize, word: u16, slot: Slot) -> bool
+    requires { at < 32768 }
+    ensures { IsTrue result ↔ Takes o.now at word slot }
+{
+    match slot {
+        Slot::Word(value) => word == value && unrelocated(o, at),
+        Slot::Load => is_load(word) && unrelocated(o, at),
+        Slot::Free => true,
+        Slot::Low => word == 0 && has_reloc(o, at, RelKind::Lo),
+        Slot::High => word == 0 && has_reloc(o, at, RelKind::Hi),
+    }
+}
+
+/// Tells whether a word is a move of a register other than PC and SR, or of 0, into R4.
+fn is_load(word: u16) -> bool
+    ensures { IsTrue result ↔ IsLoad word }
+{
+    let register = word / 256 % 16;
+    word / 4096 == 4 && word % 256 == 4 && (register == 1 || 3 <= register)
+}

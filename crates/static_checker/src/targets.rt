@@ -1,0 +1,167 @@
+//! The rules on where code goes: targets of branches, calls and jumps, and the code's end.
+
+ghost use Rattle.std.specs.Prelude.{◌≡◌, ℕ, ◌+◌, ◌*◌, ◌<◌, ◌≤◌, ◌↔◌, IsTrue, length, pos, ◌+ℤ◌, MatchOption};
+ghost use Rattle.object_form.specs.declared.parts.RelKind.TheVariants.{Code};
+ghost use Rattle.code_model.specs.Relocs.{HasReloc};
+ghost use Rattle.code_model.specs.Guards.{UnitStart, AreUnits};
+ghost use Rattle.code_model.specs.Rules.{IsJumpEntry, IsCallEntry, IsUnitOffset, IsBranchTarget, IsCallTarget, IsCall, GoesAstray, IsJumpTarget, JumpsAstray, IsAlways, IsJmp, RunsOff};
+
+use crate::marking::is_marked;
+use crate::registers::is_branch;
+use crate::relocs::{has_reloc, unrelocated};
+use msp_encode::instr::{Cond, Instr, Op1, Src};
+use object_form::marks::Marks;
+use object_form::object::Object;
+use object_form::parts::{Kind, RelKind};
+
+/// Tells whether an instruction at a place is a branch or a call without an allowed target.
+pub fn goes_astray(o: &Object, units: &Marks, at: usize, i: Instr) -> bool
+    requires units { AreUnits o.now units.now }
+    requires within { at < 8192 }
+    ensures { IsTrue result ↔ GoesAstray o.now at i }
+{
+    match i {
+        Instr::Two { src, .. } => is_branch(i) && !is_branch_target(o, units, at + 1, src),
+        Instr::One { op, src, .. } => is_call(op) && !is_call_target(o, units, at + 1, src),
+        _ => false,
+    }
+}
+
+/// Tells whether an instruction at a place is a jump to no unit start.
+pub fn jumps_astray(o: &Object, units: &Marks, at: usize, i: Instr) -> bool
+    requires units { AreUnits o.now units.now }
+    requires within { at < 8192 }
+    ensures { IsTrue result ↔ JumpsAstray o.now at i }
+{
+    match i {
+        Instr::Jump { offset, .. } => !is_jump_target(o, units, at, offset),
+        _ => false,
+    }
+}
+
+/// Tells whether an instruction of so many words at a place ends the code, and the code could run on behind it.
+pub fn runs_off(o: &Object, at: usize, i: Instr, words: usize) -> bool
+    requires { at + words ≤ length o.now.code }
+    ensures { IsTrue result ↔ RunsOff o.now at i words }
+{
+    at + words == o.code.len() && !is_jmp(i) && !is_branch(i)
+}
+
+/// Tells whether a branch's operand, whose word is at a place, is an allowed target.
+fn is_branch_target(o: &Object, units: &Marks, at: usize, src: Src) -> bool
+    requires units { AreUnits o.now units.now }
+    requires within { at < 32768 }
+    ensures { IsTrue result ↔ IsBranchTarget o.now at src }
+{
+    match src {
+        Src::Immediate(x) => is_code_target(o, units, at, x)
+            || (unrelocated(o, at) && is_jump_entry(o.kind, x)),
+        _ => false,
+    }
+}
+
+/// Tells whether a call's operand, whose word is at a place, is an allowed target.
+fn is_call_target(o: &Object, units: &Marks, at: usize, src: Src) -> bool
+    requires units { AreUnits o.now units.now }
+    requires within { at < 32768 }
+    ensures { IsTrue result ↔ IsCallTarget o.now at src }
+{
+    match src {
+        Src::Immediate(x) => is_code_target(o, units, at, x)
+            || (unrelocated(o, at) && is_call_entry(o.kind, x)),
+        _ => false,
+    }
+}
+
+/// Tells whether the word at a place is the offset of a unit start, to which the code's address is added.
+fn is_code_target(o: &Object, units: &Marks, at: usize, word: u16) -> bool
+    requires units { AreUnits o.now units.now }
+    requires within { at < 32768 }
+    ensures { IsTrue result ↔ (HasReloc o.now.relocs at Code × IsUnitOffset o.now word) }
+{
+    has_reloc(o, at, RelKind::Code) && is_unit_offset(o, units, word)
+}
+
+/// Tells whether a word is the offset of a unit start.
+fn is_unit_offset(o: &Object, units: &Marks, word: u16) -> bool
+    requires { AreUnits o.now units.now }
+    ensures { IsTrue result ↔ IsUnitOffset o.now word }
+{
+    if word % 2 == 1 {
+        return false;
+    }
+    if 16384 <= word {
+        return false;
+    }
+    is_marked(units, usize::from(word / 2))
+}
+
+/// Tells whether a jump at a place goes to a unit start.
+fn is_jump_target(o: &Object, units: &Marks, at: usize, offset: i16) -> bool
+    requires units { AreUnits o.now units.now }
+    requires within { at < 8192 }
+    ensures { IsTrue result ↔ IsJumpTarget o.now at offset }
+{
+    match jump_place(at, offset) {
+        Some(target) => is_marked(units, target),
+        None => false,
+    }
+}
+
+/// Where a jump at a place goes, by its offset in words from the place behind it. None exactly where that is no place
+/// below 8,192.
+fn jump_place(at: usize, offset: i16) -> Option<usize>
+    requires { at < 8192 }
+    ensures { MatchOption result ((t : ℕ) → t < 8192 → pos t ≡ (pos (at + 1) +ℤ offset) → ⊥) (λ t. (t < 8192) × (pos t ≡ (pos (at + 1) +ℤ offset))) }
+{
+    let target = at as i32 + 1 + i32::from(offset);
+    if 0 <= target && target < 8192 {
+        Some(target as usize)
+    } else {
+        None
+    }
+}
+
+/// Tells whether a branch may go to this kernel entry.
+fn is_jump_entry(kind: Kind, entry: u16) -> bool
+    ensures { IsTrue result ↔ IsJumpEntry kind entry }
+{
+    match kind {
+        Kind::App => matches!(entry, 0xF000 | 0xF002 | 0xF004),
+        Kind::Module => matches!(entry, 0xF000 | 0xF002 | 0xF004 | 0xF026),
+    }
+}
+
+/// Tells whether a call may go to this kernel entry.
+fn is_call_entry(kind: Kind, entry: u16) -> bool
+    ensures { IsTrue result ↔ IsCallEntry kind entry }
+{
+    match kind {
+        Kind::App => 0xF006 <= entry && entry <= 0xF024 && entry % 2 == 0,
+        Kind::Module => entry == 0xF006 || entry == 0xF014,
+    }
+}
+
+/// Tells whether an operation is CALL.
+fn is_call(op: Op1) -> bool
+    ensures { IsTrue result ↔ IsCall op }
+{
+    matches!(op, Op1::Call)
+}
+
+/// Tells whether an instruction is JMP.
+fn is_jmp(i: Instr) -> bool
+    ensures { IsTrue result ↔ IsJmp i }
+{
+    match i {
+        Instr::Jump { cond, .. } => is_always(cond),
+        _ => false,
+    }
+}
+
+/// Tells whether a jump is always taken.
+fn is_always(cond: Cond) -> bool
+    ensures { IsTrue result ↔ IsAlways cond }
+{
+    matches!(cond, Cond::Always)
+}
