@@ -1,22 +1,21 @@
 -- In an accepted object each dangerous instruction is guarded.
-use Rattle.std.proofs.Common.{◌≡◌, ℕ, zero, suc, ◌+◌, ◌*◌, ◌/◌, ◌%◌, ◌≤◌, ◌<◌, List, [], ◌∷◌, ◌⊎◌, inl, inr, length, take, drop, slice_index, refl, sym, subst, ap, ◌∙◌, arith}
+use Rattle.std.proofs.Common.{◌≡◌, ℕ, zero, suc, ◌+◌, ◌≤◌, List, [], ◌∷◌, inl, inr, length, drop, slice_index, subst, ap, ◌∙◌, arith}
 use Rattle.std.proofs.Math.Nat.{eq-or-lt_of_le}
 use Rattle.std.proofs.lemmas.List.{get_or-drop}
 use Rattle.msp_encode.specs.declared.instr.Src.{Src}
 use Rattle.msp_encode.specs.declared.instr.Src.TheVariants as src
-use Rattle.msp_encode.specs.declared.instr.Dst.{Dst}
 use Rattle.msp_encode.specs.declared.instr.Dst.TheVariants as dst
 use Rattle.msp_encode.specs.declared.instr.Instr.{Instr}
 use Rattle.msp_encode.specs.declared.instr.Instr.TheVariants as instr
-use Rattle.msp_encode.specs.Spelling.{First, Spells, SrcRow, DstRow, src_words}
+use Rattle.msp_encode.specs.Spelling.{First, SrcRow}
 use Rattle.object_form.specs.declared.object.Object.{Object}
 use Rattle.code_model.specs.declared.guards.GuardKind.{GuardKind}
 use Rattle.code_model.specs.declared.guards.GuardKind.TheVariants as guard
 use Rattle.code_model.specs.declared.rules.Rule.{Rule}
 use Rattle.code_model.specs.declared.rules.Rule.TheVariants as rule
-use Rattle.code_model.specs.Starts.{Begins, Stands, Start}
+use Rattle.code_model.specs.Starts.{Begins, Stands}
 use Rattle.code_model.specs.Guards.{Guarded, guard_words, FitAll, CoversBy, Covers, Covered, Own, Interior, UnitStart, Pops}
-use Rattle.code_model.specs.Rules.{Breaks, BreaksAt, WritesReg, ReadsStack, WritesMemory}
+use Rattle.code_model.specs.Rules.{Breaks, BreaksAt, WritesReg, ReadsStack}
 use Rattle.code_model.specs.Verdicts.{IsAccepted}
 use Rattle.code_model.specs.Dangers.{Acts, IsDangerous, DangersGuarded, WritesAbsolute}
 
@@ -55,17 +54,18 @@ quiet_src (src.Const c) row p = p
 pub saves_quietly : (i : Instr) → First i 0x4205 → Acts i → ⊥
 saves_quietly (instr.Two op w s (dst.Reg n)) f a = go a
   where
-  is : 5 ≡ n
-  is = f.destination.0
-  go : Acts (instr.Two op w s (dst.Reg n)) → ⊥
-  go (inl x) = x.1
-  go (inr (inl x)) = x.1
-  go (inr (inr (inl x))) = omega (arith, x.1, is)
-  go (inr (inr (inr (inl x)))) = omega (arith, x.1, is)
-  go (inr (inr (inr (inr (inl x))))) = omega (arith, x.1, is)
-  go (inr (inr (inr (inr (inr (inl x)))))) = quiet_src s f.source x
-  go (inr (inr (inr (inr (inr (inr (inl x))))))) = x
-  go (inr (inr (inr (inr (inr (inr (inr x))))))) = x
+    is : 5 ≡ n
+    is = f.destination.0
+
+    go : Acts (instr.Two op w s (dst.Reg n)) → ⊥
+    go (inl x) = x.1
+    go (inr (inl x)) = x.1
+    go (inr (inr (inl x))) = omega (arith, x.1, is)
+    go (inr (inr (inr (inl x)))) = omega (arith, x.1, is)
+    go (inr (inr (inr (inr (inl x))))) = omega (arith, x.1, is)
+    go (inr (inr (inr (inr (inr (inl x)))))) = quiet_src s f.source x
+    go (inr (inr (inr (inr (inr (inr (inl x))))))) = x
+    go (inr (inr (inr (inr (inr (inr (inr x))))))) = x
 saves_quietly (instr.Two op w s (dst.Indexed n x)) f a = omega (arith, f.destination.1)
 saves_quietly (instr.Two op w s (dst.Symbolic x)) f a = omega (arith, f.destination.1)
 saves_quietly (instr.Two op w s (dst.Absolute x)) f a = omega (arith, f.destination.1)
@@ -80,11 +80,11 @@ pub guarded_interior : (o : Object) (at : ℕ) (g : GuardKind) → Guarded o at 
 unfolding Covered Covers CoversBy
 guarded_interior o at g h = (h.start, (at, omega arith, (g, (h, omega (arith, h.ends, least g)))))
   where
-  least : (k : GuardKind) → 1 ≤ length (guard_words k)
-  least guard.Store = omega arith
-  least guard.Growth = omega arith
-  least guard.Pop = omega arith
-  least guard.Sp = omega arith
+    least : (k : GuardKind) → 1 ≤ length (guard_words k)
+    least guard.Store = omega arith
+    least guard.Growth = omega arith
+    least guard.Pop = omega arith
+    least guard.Sp = omega arith
 
 pub record BeginsAt (o : Object) (at : ℕ) : Type 0 where
   pub guarded : ℕ
@@ -98,8 +98,9 @@ unfolding Covered Covers CoversBy
 own_first o at unit (guarded, less, (g, (h, before))) =
     let most : h.first ≤ at = omega arith in
     elim (eq-or-lt_of_le most) [
-      inl same ↦ record { guarded = guarded; kind = g; by = h; first = same }
-    | inr earlier ↦ absurd (unit.1 (unit.0, (guarded, omega arith, (g, (h, earlier))))) ]
+      | inl same ↦ record { guarded = guarded; kind = g; by = h; first = same }
+      | inr earlier ↦ absurd (unit.1 (unit.0, (guarded, omega arith, (g, (h, earlier)))))
+    ]
 
 -- a dangerous instruction that starts a unit is none of a guard's own
 danger_free : (o : Object) (at : ℕ) (i : Instr) (n : ℕ) → UnitStart o at → Stands o.code at i n → Acts i → Own o at → ⊥
@@ -140,8 +141,14 @@ module _ (o : Object) (m : List ℕ) (accepted : IsAccepted o m) (at : ℕ) (n :
 
   writes_pc : (i : Instr) → Stands o.code at i n → IsDangerous o at i → (Own o at → ⊥) → WritesReg i 0 → ⊥
   writes_pc (instr.Two op w s t) st d free a =
-      accepted.none at rule.Pc (free, broken rule.Pc (instr.Two op w s t) st (a, λ branch.
-        accepted.none at rule.Target (free, broken rule.Target (instr.Two op w s t) st (branch, λ target. d.no_branch (branch, target)))))
+      accepted.none at rule.Pc (
+        free,
+        broken rule.Pc (instr.Two op w s t) st (
+          a,
+          λ branch.
+              accepted.none at rule.Target (free, broken rule.Target (instr.Two op w s t) st (branch, λ target. d.no_branch (branch, target))),
+        ),
+      )
   writes_pc (instr.One op w s) st d free a = accepted.none at rule.Pc (free, broken rule.Pc (instr.One op w s) st (a, λ branch. branch))
   writes_pc instr.Reti st d free a = a
   writes_pc (instr.Jump c k) st d free a = a
@@ -149,17 +156,18 @@ module _ (o : Object) (m : List ℕ) (accepted : IsAccepted o m) (at : ℕ) (n :
   no_danger : (i : Instr) → Stands o.code at i n → IsDangerous o at i → ⊥
   no_danger i st d = go d.acts
     where
-    free : Own o at → ⊥
-    free = danger_free o at i n unit st d.acts
-    go : Acts i → ⊥
-    go (inl x) = accepted.none at rule.Store (free, broken rule.Store i st (x, unguarded guard.Store))
-    go (inr (inl x)) = two_absolute i st d free x
-    go (inr (inr (inl x))) = writes_pc i st d free x
-    go (inr (inr (inr (inl x)))) = accepted.none at rule.Sp (free, broken rule.Sp i st (x, unguarded guard.Sp))
-    go (inr (inr (inr (inr (inl x))))) = accepted.none at rule.Sr (free, broken rule.Sr i st (x, λ flags. d.no_flags (flags, x)))
-    go (inr (inr (inr (inr (inr (inl x)))))) = pop_free i st free x
-    go (inr (inr (inr (inr (inr (inr (inl x))))))) = accepted.none at rule.Push (free, broken rule.Push i st (x, unguarded guard.Growth))
-    go (inr (inr (inr (inr (inr (inr (inr x))))))) = accepted.none at rule.Reti (broken rule.Reti i st x)
+      free : Own o at → ⊥
+      free = danger_free o at i n unit st d.acts
+
+      go : Acts i → ⊥
+      go (inl x) = accepted.none at rule.Store (free, broken rule.Store i st (x, unguarded guard.Store))
+      go (inr (inl x)) = two_absolute i st d free x
+      go (inr (inr (inl x))) = writes_pc i st d free x
+      go (inr (inr (inr (inl x)))) = accepted.none at rule.Sp (free, broken rule.Sp i st (x, unguarded guard.Sp))
+      go (inr (inr (inr (inr (inl x))))) = accepted.none at rule.Sr (free, broken rule.Sr i st (x, λ flags. d.no_flags (flags, x)))
+      go (inr (inr (inr (inr (inr (inl x)))))) = pop_free i st free x
+      go (inr (inr (inr (inr (inr (inr (inl x))))))) = accepted.none at rule.Push (free, broken rule.Push i st (x, unguarded guard.Growth))
+      go (inr (inr (inr (inr (inr (inr (inr x))))))) = accepted.none at rule.Reti (broken rule.Reti i st x)
 
 pub accepted_guarded : (o : Object) (m : List ℕ) → IsAccepted o m → DangersGuarded o
 accepted_guarded o m accepted at i n start stands danger =

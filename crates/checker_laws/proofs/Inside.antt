@@ -1,5 +1,5 @@
 -- What starts among a guard's words: no guard begins there.
-use Rattle.std.proofs.Common.{◌≡◌, ◌≢◌, ℕ, zero, suc, ◌+◌, ◌/◌, ◌%◌, ◌≤◌, ◌<◌, List, [], ◌∷◌, ◌⊎◌, inl, inr, length, take, drop, slice_index, refl, sym, subst, ap, ◌∙◌, arith}
+use Rattle.std.proofs.Common.{◌≡◌, ◌≢◌, ℕ, zero, suc, ◌+◌, ◌/◌, ◌%◌, ◌≤◌, ◌<◌, List, [], ◌∷◌, ◌⊎◌, inl, inr, length, drop, slice_index, refl, sym, subst, ap, ◌∙◌, arith}
 use Rattle.std.proofs.Math.Nat.{eq-or-lt_of_le}
 use Rattle.std.proofs.lemmas.Bool.{cases_order}
 use Rattle.std.proofs.lemmas.List.{length-append, length-take}
@@ -96,8 +96,8 @@ jump_sized : (w : ℕ) → w / 8192 ≡ 1 → Sized w 1
 unfolding Sized
 jump_sized w e (instr.Two op width s d) f = absurd (omega (arith, two_high op, f.op_code))
   where
-  two_high : (op : Op2) → 4 ≤ op2_code op
-  two_high op = (op2_code-range op).0
+    two_high : (op : Op2) → 4 ≤ op2_code op
+    two_high op = (op2_code-range op).0
 jump_sized w e (instr.One op width s) f = absurd (omega (arith, f.form))
 jump_sized w e instr.Reti f = absurd (omega (arith, f))
 jump_sized w e (instr.Jump c k) f = refl
@@ -136,18 +136,21 @@ spelled_before code m zero a b r s h = absurd (omega arith)
 spelled_before code m (suc n) a b r (q, s, y) h =
     let most : m ≤ n = omega arith in
     elim (eq-or-lt_of_le most) [
-      inl same ↦
-        let e : q ≡ a = one_place code n q a s (subst (λ (k : ℕ). Reached code k a) same r) in
-        record { instr = y.instr; words = y.words; stands = subst (λ (k : ℕ). Stands code k y.instr y.words) e y.stands }
-    | inr less ↦ spelled_before code m n a q r s less ]
+      | inl same ↦
+          let e : q ≡ a = one_place code n q a s (subst (λ (k : ℕ). Reached code k a) same r) in
+          record { instr = y.instr; words = y.words; stands = subst (λ (k : ℕ). Stands code k y.instr y.words) e y.stands }
+      | inr less ↦ spelled_before code m n a q r s less
+    ]
 
 spelled_start : (code : List ℕ) (a b : ℕ) → Start code a → Start code b → a < b → IsSpelled code a
 spelled_start code a b s t h =
     elim (cases_order s.count t.count) [
-      inl same ↦ let e : a ≡ b = one_place code t.count a b (subst (λ (k : ℕ). Reached code k a) same s.reached) t.reached in absurd (omega arith)
-    | inr other ↦ elim other [
-        inl less ↦ spelled_before code s.count t.count a b s.reached t.reached less
-      | inr more ↦ let u : b < a = further code t.count s.count b a t.reached s.reached more in absurd (omega arith) ] ]
+      | inl same ↦ let e : a ≡ b = one_place code t.count a b (subst (λ (k : ℕ). Reached code k a) same s.reached) t.reached in absurd (omega arith)
+      | inr other ↦ elim other [
+        | inl less ↦ spelled_before code s.count t.count a b s.reached t.reached less
+        | inr more ↦ let u : b < a = further code t.count s.count b a t.reached s.reached more in absurd (omega arith)
+      ]
+    ]
 
 size_is : (ws : List ℕ) (i : Instr) (n : ℕ) → Begins ws i n → n ≡ 1 + length (words_after i)
 size_is ws i zero h = absurd h.1
@@ -173,8 +176,9 @@ past_one o a x n w s t less is sized =
 past_line : (o : Object) (a x n : ℕ) → Passes o a x → Start o.code x → slice_index o.code x ≡ 0x4205 → IsLine o a n → Passes o (a + n) x
 past_line o a x n p t saves line =
     elim (eq-or-lt_of_le p.before) [
-      inl same ↦ absurd (line.other (sym line.is ∙ (ap (slice_index o.code) same ∙ saves)))
-    | inr less ↦ past_one o a x n line.word p.start t less line.is line.sized ]
+      | inl same ↦ absurd (line.other (sym line.is ∙ (ap (slice_index o.code) same ∙ saves)))
+      | inr less ↦ past_one o a x n line.word p.start t less line.is line.sized
+    ]
 
 past_all : (o : Object) (a x : ℕ) (ls : List Line) → Passes o a x → Start o.code x → slice_index o.code x ≡ 0x4205 → LinesAt o a ls → Passes o (lines_end a ls) x
 unfolding LinesAt lines_end
@@ -227,24 +231,40 @@ load_line o at load = record {
 -- the lines of a guard stand there: what a word is, is the first part of its slot's fact
 guard_lines : (o : Object) (at : ℕ) (g : GuardKind) → FitAll o at (guard_words g) → LinesAt o (at + 1) (lines g)
 unfolding LinesAt lines
-guard_lines o at guard.Store (w0, (w1, (w2, (w3, (w4, (w5, (w6, (w7, (w8, (w9, (w10, (w11, (w12, end))))))))))))) =
-    (load_line o _ w1.1.0,
-      (immediate_line o _ 0x5034 w2.1.0 (omega arith) (omega arith) (omega arith) (omega arith),
-        (immediate_line o _ 0x9034 w4.1.0 (omega arith) (omega arith) (omega arith) (omega arith),
-          (jump_line o _ 0x2803 w6.1.0 (omega arith),
-            (immediate_line o _ 0x9034 w7.1.0 (omega arith) (omega arith) (omega arith) (omega arith),
-              (jump_line o _ 0x2802 w9.1.0 (omega arith), (branch_line o _ w10.1.0, (restore_line o _ w12.1.0, tt))))))))
-guard_lines o at guard.Growth (w0, (w1, (w2, (w3, (w4, (w5, (w6, end))))))) =
-    (absolute_line o _ 0x9211 w1.1.0 (omega arith) (omega arith) (omega arith) (omega arith),
-      (jump_line o _ 0x2C02 w3.1.0 (omega arith), (branch_line o _ w4.1.0, (restore_line o _ w6.1.0, tt))))
-guard_lines o at guard.Pop (w0, (w1, (w2, (w3, (w4, (w5, (w6, end))))))) =
-    (to_absolute_line o _ 0x9182 w1.1.0 (omega arith) (omega arith) (omega arith),
-      (jump_line o _ 0x2002 w3.1.0 (omega arith), (branch_line o _ w4.1.0, (restore_line o _ w6.1.0, tt))))
-guard_lines o at guard.Sp (w0, (w1, (w2, (w3, (w4, (w5, (w6, (w7, (w8, (w9, end)))))))))) =
-    (absolute_line o _ 0x9214 w1.1.0 (omega arith) (omega arith) (omega arith) (omega arith),
-      (jump_line o _ 0x2803 w3.1.0 (omega arith),
-        (to_absolute_line o _ 0x9482 w4.1.0 (omega arith) (omega arith) (omega arith),
-          (jump_line o _ 0x2C02 w6.1.0 (omega arith), (branch_line o _ w7.1.0, (restore_line o _ w9.1.0, tt))))))
+guard_lines o at guard.Store (w0, (w1, (w2, (w3, (w4, (w5, (w6, (w7, (w8, (w9, (w10, (w11, (w12, end))))))))))))) = (
+  load_line o _ w1.1.0,
+  (
+    immediate_line o _ 0x5034 w2.1.0 (omega arith) (omega arith) (omega arith) (omega arith),
+    (
+      immediate_line o _ 0x9034 w4.1.0 (omega arith) (omega arith) (omega arith) (omega arith),
+      (
+        jump_line o _ 0x2803 w6.1.0 (omega arith),
+        (
+          immediate_line o _ 0x9034 w7.1.0 (omega arith) (omega arith) (omega arith) (omega arith),
+          (jump_line o _ 0x2802 w9.1.0 (omega arith), (branch_line o _ w10.1.0, (restore_line o _ w12.1.0, tt))),
+        ),
+      ),
+    ),
+  ),
+)
+guard_lines o at guard.Growth (w0, (w1, (w2, (w3, (w4, (w5, (w6, end))))))) = (
+  absolute_line o _ 0x9211 w1.1.0 (omega arith) (omega arith) (omega arith) (omega arith),
+  (jump_line o _ 0x2C02 w3.1.0 (omega arith), (branch_line o _ w4.1.0, (restore_line o _ w6.1.0, tt))),
+)
+guard_lines o at guard.Pop (w0, (w1, (w2, (w3, (w4, (w5, (w6, end))))))) = (
+  to_absolute_line o _ 0x9182 w1.1.0 (omega arith) (omega arith) (omega arith),
+  (jump_line o _ 0x2002 w3.1.0 (omega arith), (branch_line o _ w4.1.0, (restore_line o _ w6.1.0, tt))),
+)
+guard_lines o at guard.Sp (w0, (w1, (w2, (w3, (w4, (w5, (w6, (w7, (w8, (w9, end)))))))))) = (
+  absolute_line o _ 0x9214 w1.1.0 (omega arith) (omega arith) (omega arith) (omega arith),
+  (
+    jump_line o _ 0x2803 w3.1.0 (omega arith),
+    (
+      to_absolute_line o _ 0x9482 w4.1.0 (omega arith) (omega arith) (omega arith),
+      (jump_line o _ 0x2C02 w6.1.0 (omega arith), (branch_line o _ w7.1.0, (restore_line o _ w9.1.0, tt))),
+    ),
+  ),
+)
 
 lines_to_end : (at : ℕ) (g : GuardKind) → lines_end (at + 1) (lines g) ≡ at + length (guard_words g)
 unfolding lines_end lines
@@ -333,10 +353,12 @@ saves_at o a g h = guard_begins o h.first g h.fit
 pub guards_apart : GuardsApart
 guards_apart o a b p g k h j h_low h_high j_low j_high =
     elim (cases_order h.first j.first) [
-      inl same ↦
-        let y : SecondWord k (slice_index o.code (h.first + 1)) = subst (λ (n : ℕ). SecondWord k (slice_index o.code (n + 1))) (sym same) (second_word o j.first k j.fit) in
-        let kinds : g ≡ k = one_kind _ g k (second_word o h.first g h.fit) y in
-        record { kind = kinds; first = same; guarded = omega (arith, ap (λ (x : GuardKind). length (guard_words x)) kinds, h.ends, j.ends) }
-    | inr other ↦ elim other [
-        inl less ↦ absurd (none_inside o a j.first g h j.begins less (omega arith) (saves_at o b k j))
-      | inr more ↦ absurd (none_inside o b h.first k j h.begins more (omega arith) (saves_at o a g h)) ] ]
+      | inl same ↦
+          let y : SecondWord k (slice_index o.code (h.first + 1)) = subst (λ (n : ℕ). SecondWord k (slice_index o.code (n + 1))) (sym same) (second_word o j.first k j.fit) in
+          let kinds : g ≡ k = one_kind _ g k (second_word o h.first g h.fit) y in
+          record { kind = kinds; first = same; guarded = omega (arith, ap (λ (x : GuardKind). length (guard_words x)) kinds, h.ends, j.ends) }
+      | inr other ↦ elim other [
+        | inl less ↦ absurd (none_inside o a j.first g h j.begins less (omega arith) (saves_at o b k j))
+        | inr more ↦ absurd (none_inside o b h.first k j h.begins more (omega arith) (saves_at o a g h))
+      ]
+    ]

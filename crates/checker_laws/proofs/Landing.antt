@@ -1,18 +1,16 @@
 -- What follows on what in an object, and where the code of an accepted object goes.
-use Rattle.std.proofs.Common.{◌≡◌, ℕ, ◌+◌, ◌≤◌, ◌<◌, List, ◌⊎◌, inl, inr, length, drop, refl, sym, subst, ap, ◌∙◌, arith}
+use Rattle.std.proofs.Common.{ℕ, ◌+◌, ◌≤◌, ◌<◌, inl, inr, drop, refl, sym, arith}
 use Rattle.std.proofs.Math.Nat.{eq-or-lt_of_le}
-use Rattle.std.proofs.lemmas.Bool.{cases_lt, cases_order}
-use Rattle.msp_encode.specs.declared.instr.Instr.{Instr}
+use Rattle.std.proofs.lemmas.Bool.{cases_lt}
 use Rattle.msp_encode.specs.declared.instr.Instr.TheVariants as instr
 use Rattle.object_form.specs.declared.object.Object.{Object}
 use Rattle.code_model.specs.declared.guards.GuardKind.{GuardKind}
 use Rattle.code_model.specs.declared.rules.Rule.TheVariants as rule
-use Rattle.code_model.specs.Starts.{Stands, Start}
-use Rattle.code_model.specs.Guards.{Guarded, Covered, Covers, CoversBy, Own, UnitStart}
-use Rattle.checker_laws.specs.Laws.{OneStands, NextStart, StartsApart, BeforeInterior, GuardsApart, GoesOnFirst, GuardedLeaves, GuardedFree, JumpLands, BranchLands, CallLands, NamedUnits, IsOneGuard}
+use Rattle.code_model.specs.Starts.{Start}
+use Rattle.code_model.specs.Guards.{Guarded, Covered, Covers, CoversBy}
+use Rattle.checker_laws.specs.Laws.{OneStands, BeforeInterior, GoesOnFirst, GuardedLeaves, GuardedFree, JumpLands, BranchLands, CallLands, NamedUnits, IsOneGuard}
 use Rattle.checker_laws.proofs.Standing.{same_instr, same_size, size_least}
 use Rattle.checker_laws.proofs.Starting.{starts_apart, next_start}
-use Rattle.checker_laws.proofs.DangerLemmas.{own_first}
 use Rattle.checker_laws.proofs.Inside.{guards_apart}
 use Rattle.checker_laws.proofs.Deciding.{stable, unit-or-not, branch-or-not, call-or-not, jump-or-not}
 
@@ -22,8 +20,9 @@ one_stands code at i j m n g h = record { instr = same_instr i j (drop at code) 
 pub before_interior : BeforeInterior
 before_interior o at a b g i n h low high start stands ends =
     elim (cases_lt b h.first) [
-      inl less ↦ let t : b + n ≤ h.first = starts_apart o.code b h.first i n start stands h.begins less in absurd (omega arith)
-    | inr more ↦ more ]
+      | inl less ↦ let t : b + n ≤ h.first = starts_apart o.code b h.first i n start stands h.begins less in absurd (omega arith)
+      | inr more ↦ more
+    ]
 
 -- a place behind a guard's first is covered
 covered : (o : Object) (at a : ℕ) (g : GuardKind) (h : Guarded o a g) → h.first < at → at ≤ a → Covered o at
@@ -34,10 +33,11 @@ pub goes_on_first : GoesOnFirst
 goes_on_first o at a g i n h unit stands low high =
     let t : h.first ≤ at = before_interior o (at + n) a at g i n h low high unit.0 stands refl in
     elim (eq-or-lt_of_le t) [
-      inl same ↦ sym same
-    | inr less ↦
-        let least : 1 ≤ n = size_least i (drop at o.code) n stands in
-        absurd (unit.1 (unit.0, covered o at a g h less (omega arith))) ]
+      | inl same ↦ sym same
+      | inr less ↦
+          let least : 1 ≤ n = size_least i (drop at o.code) n stands in
+          absurd (unit.1 (unit.0, covered o at a g h less (omega arith)))
+    ]
 
 pub guarded_free : GuardedFree
 unfolding Covered Covers CoversBy
@@ -63,17 +63,17 @@ guarded_leaves o at g h inside =
 pub jump_lands : JumpLands
 jump_lands o m at n c k accepted start stands free =
     stable (jump-or-not o m at k accepted)
-      (λ astray. accepted.none at rule.Jump (free, record { start = start; instr = instr.Jump c k; words = n; stands = stands; breaks = astray }))
+    (λ astray. accepted.none at rule.Jump (free, record { start = start; instr = instr.Jump c k; words = n; stands = stands; breaks = astray }))
 
 pub branch_lands : BranchLands
 branch_lands o m at n op w s d accepted start stands free branch =
     stable (branch-or-not o m (at + 1) s accepted)
-      (λ astray. accepted.none at rule.Target (free, record { start = start; instr = instr.Two op w s d; words = n; stands = stands; breaks = (branch, astray) }))
+    (λ astray. accepted.none at rule.Target (free, record { start = start; instr = instr.Two op w s d; words = n; stands = stands; breaks = (branch, astray) }))
 
 pub call_lands : CallLands
 call_lands o m at n op w s accepted start stands free call =
     stable (call-or-not o m (at + 1) s accepted)
-      (λ astray. accepted.none at rule.Target (free, record { start = start; instr = instr.One op w s; words = n; stands = stands; breaks = (call, astray) }))
+    (λ astray. accepted.none at rule.Target (free, record { start = start; instr = instr.One op w s; words = n; stands = stands; breaks = (call, astray) }))
 
 pub named_units : NamedUnits
 named_units o m at accepted named = stable (unit-or-not o m at accepted) (λ no_unit. accepted.none at rule.Entry (named, no_unit))

@@ -1,22 +1,19 @@
 -- The verdict is one, and each refusal lies in the code.
-use Rattle.std.proofs.Common.{◌≡◌, ◌↔◌, ℕ, zero, suc, ◌+◌, ◌*◌, ◌%◌, ◌≤◌, ◌<◌, List, ◌⊎◌, inl, inr, length, slice_index_or, true, refl, sym, subst, ap, ◌∙◌, arith}
+use Rattle.std.proofs.Common.{◌≡◌, ℕ, zero, suc, ◌*◌, ◌≤◌, ◌<◌, List, ◌⊎◌, inl, inr, length, true, refl, subst, arith}
 use Rattle.object_form.specs.declared.object.Object.{Object}
 use Rattle.object_form.specs.declared.parts.Reloc.{Reloc}
 use Rattle.object_form.specs.declared.parts.RelKind.{RelKind}
 use Rattle.object_form.specs.declared.parts.Export.{Export}
 use Rattle.object_form.specs.Form.{RelocFits, IsInCode}
-use Rattle.object_form.specs.Bitmap.{Has}
 use Rattle.code_model.specs.declared.rules.Rule.{Rule}
 use Rattle.code_model.specs.declared.rules.Rule.TheVariants as rule
 use Rattle.code_model.specs.declared.verdict.Verdict.{Verdict}
 use Rattle.code_model.specs.declared.verdict.Verdict.TheVariants.{Accepted, Refused}
-use Rattle.code_model.specs.Starts.{Stands, Reached, Start, Bad, IsSpelled}
+use Rattle.code_model.specs.Starts.{Stands, Reached, Bad}
 use Rattle.code_model.specs.Relocs.{HasReloc}
-use Rattle.code_model.specs.Guards.{UnitStart}
 use Rattle.code_model.specs.Rules.{number, Refuses, IsNamed, IsExported}
 use Rattle.code_model.specs.Verdicts.{AllSpelled, Precedes, IsLeast, IsAccepted, IsRefused, IsVerdict, SameVerdict}
 use Rattle.checker_laws.proofs.Starting.{one_place}
-use Rattle.checker_laws.proofs.Numbers.{same_rule}
 use Rattle.std.proofs.lemmas.Bool.{cases_order}
 use Rattle.std.proofs.Math.Nat.{eq-or-lt_of_le}
 
@@ -57,20 +54,23 @@ refuses_below rule.Entry o at h = named_below o at h.0
 one_bad : (code : List ℕ) (a b : ℕ) → Bad code a → Bad code b → a ≡ b
 one_bad code a b x y =
     elim (cases_order x.start.count y.start.count) [
-      inl same ↦ one_place code y.start.count a b (subst (λ (n : ℕ). Reached code n a) same x.start.reached) y.start.reached
-    | inr other ↦ elim other [
-        inl less ↦ absurd (stuck code x.start.count y.start.count a b x y.start.reached x.start.reached less)
-      | inr more ↦ absurd (stuck code y.start.count x.start.count b a y x.start.reached y.start.reached more) ] ]
+      | inl same ↦ one_place code y.start.count a b (subst (λ (n : ℕ). Reached code n a) same x.start.reached) y.start.reached
+      | inr other ↦ elim other [
+        | inl less ↦ absurd (stuck code x.start.count y.start.count a b x y.start.reached x.start.reached less)
+        | inr more ↦ absurd (stuck code y.start.count x.start.count b a y x.start.reached y.start.reached more)
+      ]
+    ]
   where
-  stuck : (code : List ℕ) (m n a b : ℕ) → Bad code a → Reached code n b → Reached code m a → m < n → ⊥
-  stuck code m zero a b bad r s h = omega arith
-  stuck code m (suc n) a b bad (q, r, step) s h =
-      let most : m ≤ n = omega arith in
-      elim (eq-or-lt_of_le most) [
-        inl same ↦
-          let e : q ≡ a = one_place code n q a r (subst (λ (k : ℕ). Reached code k a) same s) in
-          bad.none step.instr step.words (subst (λ (k : ℕ). Stands code k step.instr step.words) e step.stands)
-      | inr less ↦ stuck code m n a q bad r s less ]
+    stuck : (code : List ℕ) (m n a b : ℕ) → Bad code a → Reached code n b → Reached code m a → m < n → ⊥
+    stuck code m zero a b bad r s h = omega arith
+    stuck code m (suc n) a b bad (q, r, step) s h =
+        let most : m ≤ n = omega arith in
+        elim (eq-or-lt_of_le most) [
+          | inl same ↦
+              let e : q ≡ a = one_place code n q a r (subst (λ (k : ℕ). Reached code k a) same s) in
+              bad.none step.instr step.words (subst (λ (k : ℕ). Stands code k step.instr step.words) e step.stands)
+          | inr less ↦ stuck code m n a q bad r s less
+        ]
 
 spelled_bad : (o : Object) (at : ℕ) → AllSpelled o → Bad o.code at → ⊥
 spelled_bad o at spelled bad = let s = spelled at bad.start in bad.none s.instr s.words s.stands
@@ -91,20 +91,20 @@ one_least o a b r s x y = both a b r s (x.first b s y.refuses) (y.first a r x.re
 accepted_refused : (o : Object) (m : List ℕ) (r at : ℕ) → IsAccepted o m → IsRefused o r at → ⊥
 accepted_refused o m r at accepted why = go why.why
   where
-  go : ((r ≡ 1) × Bad o.code at) ⊎ (AllSpelled o × ((s : Rule) × (r ≡ number s) × IsLeast o at s)) → ⊥
-  go (inl (e, bad)) = spelled_bad o at accepted.spelled bad
-  go (inr (spelled, (s, e, least))) = accepted.none at s least.refuses
+    go : ((r ≡ 1) × Bad o.code at) ⊎ (AllSpelled o × ((s : Rule) × (r ≡ number s) × IsLeast o at s)) → ⊥
+    go (inl (e, bad)) = spelled_bad o at accepted.spelled bad
+    go (inr (spelled, (s, e, least))) = accepted.none at s least.refuses
 
 one_refusal : (o : Object) (q r a b : ℕ) → IsRefused o q a → IsRefused o r b → (q ≡ r) × (a ≡ b)
 one_refusal o q r a b x y = go x.why y.why
   where
-  go : ((q ≡ 1) × Bad o.code a) ⊎ (AllSpelled o × ((s : Rule) × (q ≡ number s) × IsLeast o a s))
-      → ((r ≡ 1) × Bad o.code b) ⊎ (AllSpelled o × ((s : Rule) × (r ≡ number s) × IsLeast o b s)) → (q ≡ r) × (a ≡ b)
-  go (inl (e, bad)) (inl (f, other)) = (omega (arith, e, f), one_bad o.code a b bad other)
-  go (inl (e, bad)) (inr (spelled, f)) = absurd (spelled_bad o a spelled bad)
-  go (inr (spelled, e)) (inl (f, bad)) = absurd (spelled_bad o b spelled bad)
-  go (inr (spelled, (s, e, least))) (inr (spelled', (t, f, other))) =
-      let one = one_least o a b s t least other in (omega (arith, e, f, one.rule), one.place)
+    go : ((q ≡ 1) × Bad o.code a) ⊎ (AllSpelled o × ((s : Rule) × (q ≡ number s) × IsLeast o a s))
+        → ((r ≡ 1) × Bad o.code b) ⊎ (AllSpelled o × ((s : Rule) × (r ≡ number s) × IsLeast o b s)) → (q ≡ r) × (a ≡ b)
+    go (inl (e, bad)) (inl (f, other)) = (omega (arith, e, f), one_bad o.code a b bad other)
+    go (inl (e, bad)) (inr (spelled, f)) = absurd (spelled_bad o a spelled bad)
+    go (inr (spelled, e)) (inl (f, bad)) = absurd (spelled_bad o b spelled bad)
+    go (inr (spelled, (s, e, least))) (inr (spelled', (t, f, other))) =
+        let one = one_least o a b s t least other in (omega (arith, e, f, one.rule), one.place)
 
 pub one_verdict : (o : Object) (u v : Verdict) → IsVerdict o u → IsVerdict o v → SameVerdict u v
 one_verdict o (Accepted m) (Accepted n) x y = λ at. ((λ h. (y.units at).1 ((x.units at).0 h)), (λ h. (x.units at).1 ((y.units at).0 h)))

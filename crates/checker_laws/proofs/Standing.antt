@@ -1,5 +1,5 @@
 -- One instruction stands at a place, of one to three words.
-use Rattle.std.proofs.Common.{◌≡◌, ℕ, zero, suc, ◌+◌, ◌≤◌, List, [], ◌∷◌, length, take, drop, ap, sym, subst, arith}
+use Rattle.std.proofs.Common.{◌≡◌, ℕ, zero, suc, ◌≤◌, List, [], ◌∷◌, length, take, ap, sym, subst, arith}
 use Rattle.std.proofs.lemmas.List.{length-take}
 use Rattle.msp_encode.specs.declared.instr.Instr.{Instr}
 use Rattle.msp_encode.specs.Spelling.{Spells}
@@ -29,4 +29,3 @@ pub same_instr : (i j : Instr) (ws : List ℕ) (m n : ℕ) → Begins ws i m →
 same_instr i j ws m n g h =
     let e : n ≡ m = sym (same_size i j ws m n g h) in
     one-instruction i j (take m ws) g.1 (subst (λ (k : ℕ). Spells j (take k ws)) e h.1)
-

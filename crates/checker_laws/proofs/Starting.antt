@@ -1,10 +1,9 @@
 -- Starts lie one behind the other.
-use Rattle.std.proofs.Common.{◌≡◌, ℕ, zero, suc, ◌+◌, ◌≤◌, ◌<◌, List, ◌⊎◌, inl, inr, length, drop, ap, sym, subst, refl, ◌∙◌, arith}
+use Rattle.std.proofs.Common.{◌≡◌, ℕ, zero, suc, ◌+◌, ◌≤◌, ◌<◌, List, inl, inr, length, drop, sym, subst, refl, ◌∙◌, arith}
 use Rattle.std.proofs.Math.Nat.{eq-or-lt_of_le}
-use Rattle.std.proofs.lemmas.Bool.{cases_lt, cases_order}
-use Rattle.std.proofs.lemmas.List.{length-drop}
+use Rattle.std.proofs.lemmas.Bool.{cases_order}
 use Rattle.msp_encode.specs.declared.instr.Instr.{Instr}
-use Rattle.code_model.specs.Starts.{Begins, Stands, Steps, Reached, Start, IsSpelled}
+use Rattle.code_model.specs.Starts.{Stands, Steps, Reached, Start}
 use Rattle.checker_laws.proofs.Standing.{size_least, same_size}
 
 -- so many instructions lead to one place
@@ -25,8 +24,9 @@ further code m (suc n) a b r (q, s, y) h =
     let last : q < b = step_least code q b y in
     let m_in : m ≤ n = omega arith in
     elim (eq-or-lt_of_le m_in) [
-      inl same ↦ let e : a ≡ q = one_place code n a q (subst (λ (k : ℕ). Reached code k a) same r) s in omega arith
-    | inr less ↦ let t : a < q = further code m n a q r s less in omega arith ]
+      | inl same ↦ let e : a ≡ q = one_place code n a q (subst (λ (k : ℕ). Reached code k a) same r) s in omega arith
+      | inr less ↦ let t : a < q = further code m n a q r s less in omega arith
+    ]
 
 -- no start lies within an instruction
 pub past_step : (code : List ℕ) (m n a b : ℕ) (i : Instr) (w : ℕ) → Reached code m a → Stands code a i w → Reached code n b → m < n → a + w ≤ b
@@ -34,21 +34,24 @@ past_step code m zero a b i w r st s h = absurd (omega arith)
 past_step code m (suc n) a b i w r st (q, s, y) h =
     let m_in : m ≤ n = omega arith in
     elim (eq-or-lt_of_le m_in) [
-      inl same ↦
-        let e : a ≡ q = one_place code n a q (subst (λ (k : ℕ). Reached code k a) same r) s in
-        let f : w ≡ y.words = same_size i y.instr (drop a code) w y.words st (subst (λ (k : ℕ). Stands code k y.instr y.words) (sym e) y.stands) in
-        omega (arith, y.ends)
-    | inr less ↦
-        let t : a + w ≤ q = past_step code m n a q i w r st s less in
-        let last : q < b = step_least code q b y in omega arith ]
+      | inl same ↦
+          let e : a ≡ q = one_place code n a q (subst (λ (k : ℕ). Reached code k a) same r) s in
+          let f : w ≡ y.words = same_size i y.instr (drop a code) w y.words st (subst (λ (k : ℕ). Stands code k y.instr y.words) (sym e) y.stands) in
+          omega (arith, y.ends)
+      | inr less ↦
+          let t : a + w ≤ q = past_step code m n a q i w r st s less in
+          let last : q < b = step_least code q b y in omega arith
+    ]
 
 pub apart_reached : (code : List ℕ) (m n a b : ℕ) (i : Instr) (w : ℕ) → Reached code m a → Stands code a i w → Reached code n b → a < b → a + w ≤ b
 apart_reached code m n a b i w r st s h =
     elim (cases_order m n) [
-      inl same ↦ let e : a ≡ b = one_place code n a b (subst (λ (k : ℕ). Reached code k a) same r) s in absurd (omega arith)
-    | inr other ↦ elim other [
-        inl less ↦ past_step code m n a b i w r st s less
-      | inr more ↦ let t : b < a = further code n m b a s r more in absurd (omega arith) ] ]
+      | inl same ↦ let e : a ≡ b = one_place code n a b (subst (λ (k : ℕ). Reached code k a) same r) s in absurd (omega arith)
+      | inr other ↦ elim other [
+        | inl less ↦ past_step code m n a b i w r st s less
+        | inr more ↦ let t : b < a = further code n m b a s r more in absurd (omega arith)
+      ]
+    ]
 
 pub starts_apart : (code : List ℕ) (a b : ℕ) (i : Instr) (w : ℕ) → Start code a → Stands code a i w → Start code b → a < b → a + w ≤ b
 starts_apart code a b i w s st t h = apart_reached code s.count t.count a b i w s.reached st t.reached h

@@ -1,5 +1,5 @@
 -- Laws of the checker's definitions.
-use Rattle.std.specs.Prelude.{◌≡◌, ℕ, zero, ◌+◌, ◌*◌, ◌<◌, ◌≤◌, List, length, ℤ}
+use Rattle.std.specs.Prelude.{◌≡◌, ℕ, ◌+◌, ◌<◌, ◌≤◌, List, length, ℤ}
 use Rattle.msp_encode.specs.declared.instr.Op1.{Op1}
 use Rattle.msp_encode.specs.declared.instr.Op2.{Op2}
 use Rattle.msp_encode.specs.declared.instr.Width.{Width}

@@ -1,5 +1,5 @@
 -- Bitmaps of zeros.
-use Rattle.std.proofs.Common.{◌≡◌, ℕ, zero, suc, List, [], ◌∷◌, ◌/◌, ◌%◌, replicate, slice_index_or, refl}
+use Rattle.std.proofs.Common.{◌≡◌, ℕ, zero, suc, List, ◌/◌, ◌%◌, replicate, slice_index_or, refl}
 use Rattle.std.proofs.lemmas.Nat.Bits.{bit_at-zero}
 use Rattle.std.specs.Int.{bit_at}
 use Rattle.object_form.specs.Bitmap.{Has}

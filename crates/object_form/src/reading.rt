@@ -52,8 +52,8 @@ fn read_all(alloc: Global, text: &[u8]) -> Result<Parts, FormFault>
     })
 }
 
-/// The object whose text this is, or the first fault of the text. Its lists take memory in
-/// proportion to the text, which is gone over once.
+/// The object whose text this is, or the first fault of the text. Each list takes its memory once,
+/// in proportion to the text, which is gone over once.
 pub fn read_object(alloc: Global, text: &[u8]) -> Result<Object, FormFault>
     // What is read has this text.
     ensures found { IfOk result (λ o. text.now ≡ object_bytes o) }

@@ -29,11 +29,7 @@ fn init_bytes(alloc: Global, text: &[u8], start: usize, count: usize) -> Result<
     requires { start + count ≤ length text.now }
     ensures { IfOk result (λ bytes. bytes ≡ bytes_from text.now start count) }
 {
-    let mut bytes = Bytes::new(alloc);
-    for k in 0..count {
-        bytes.push(text[start + k])?;
-    }
-    Ok(bytes)
+    Bytes::from_slice(alloc, &text[start..start + count])
 }
 
 /// The code words and the initialised bytes, or that the text is short of them.

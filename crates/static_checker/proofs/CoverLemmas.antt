@@ -1,5 +1,5 @@
 -- Marking what guards cover.
-use Rattle.std.proofs.Common.{◌≡◌, ◌↔◌, ℕ, zero, suc, ◌+◌, ◌-◌, ◌≤◌, ◌<◌, List, ◌⊎◌, inl, inr, length, Bool, false, IsTrue, arith, sym, subst}
+use Rattle.std.proofs.Common.{◌≡◌, ◌↔◌, ℕ, ◌+◌, ◌-◌, ◌≤◌, ◌<◌, List, ◌⊎◌, inl, inr, length, arith, subst}
 use Rattle.std.proofs.Math.Nat.{eq-or-lt_of_le}
 use Rattle.object_form.specs.declared.object.Object.{Object}
 use Rattle.object_form.specs.Bitmap.{Has}
@@ -8,7 +8,6 @@ use Rattle.code_model.specs.declared.guards.GuardKind.TheVariants as guard
 use Rattle.code_model.specs.Starts.{NoneStands, Start}
 use Rattle.code_model.specs.Guards.{Guarded, guard_words, CoversBy, Covers, Covered}
 use Rattle.static_checker.specs.Marked.{Adds, CoveredUpTo, CoveredBelow, AreCovered}
-use Rattle.static_checker.proofs.Guarding.{not_true}
 
 -- ---- adding to marks
 

@@ -1,7 +1,7 @@
 -- The verdict from what the loops found.
-use Rattle.std.proofs.Common.{◌≡◌, ◌↔◌, ℕ, ◌+◌, ◌*◌, ◌/◌, ◌%◌, ◌≤◌, ◌<◌, List, slice_index_or, ◌⊎◌, inl, inr, length, refl, sym, subst, arith}
+use Rattle.std.proofs.Common.{◌≡◌, ℕ, ◌+◌, ◌*◌, ◌/◌, ◌%◌, ◌≤◌, ◌<◌, List, slice_index_or, ◌⊎◌, inl, inr, length, refl, sym, subst, arith}
 use Rattle.std.proofs.Math.Nat.{eq-or-lt_of_le}
-use Rattle.std.proofs.lemmas.Bool.{cases_order, cases_lt}
+use Rattle.std.proofs.lemmas.Bool.{cases_order}
 use Rattle.std.specs.Int.{bit_at}
 use Rattle.object_form.specs.declared.object.Object.{Object}
 use Rattle.object_form.specs.Bitmap.{Has}
@@ -9,9 +9,9 @@ use Rattle.code_model.specs.declared.rules.Rule.{Rule}
 use Rattle.code_model.specs.declared.verdict.Verdict.{Verdict}
 use Rattle.code_model.specs.declared.verdict.Verdict.TheVariants.{Accepted, Refused}
 use Rattle.code_model.specs.Starts.{Start, Bad}
-use Rattle.code_model.specs.Guards.{Covered, Interior, UnitStart}
+use Rattle.code_model.specs.Guards.{Interior, UnitStart}
 use Rattle.code_model.specs.Rules.{number, Refuses}
-use Rattle.code_model.specs.Verdicts.{Precedes, IsLeast, IsAccepted, IsVerdict, IsAcceptance}
+use Rattle.code_model.specs.Verdicts.{Precedes, IsVerdict, IsAcceptance}
 use Rattle.code_model.specs.Dangers.{DangersGuarded}
 use Rattle.checker_laws.proofs.Refusing.{refuses_below}
 use Rattle.checker_laws.proofs.DangerLemmas.{accepted_guarded}

@@ -1,12 +1,12 @@
 -- The rules at a place.
-use Rattle.std.proofs.Common.{◌≡◌, ◌↔◌, ℕ, ◌+◌, ◌≤◌, ◌<◌, List, length, Option, None, Some, MatchOption, Bool, IsTrue, false, refl, sym, subst, ap, arith, inl, inr}
+use Rattle.std.proofs.Common.{◌≡◌, ◌↔◌, ℕ, ◌+◌, ◌≤◌, ◌<◌, length, Option, None, Some, MatchOption, Bool, IsTrue, sym, subst, arith, inl, inr}
 use Rattle.std.proofs.Math.Nat.{eq-or-lt_of_le}
 use Rattle.std.proofs.lemmas.Bool.{cases_lt}
 use Rattle.msp_encode.specs.declared.instr.Instr.{Instr}
 use Rattle.object_form.specs.declared.object.Object.{Object}
 use Rattle.code_model.specs.declared.rules.Rule.{Rule}
 use Rattle.code_model.specs.declared.rules.Rule.TheVariants as rule
-use Rattle.code_model.specs.Starts.{Stands, NoneStands, Start, IsSpelled}
+use Rattle.code_model.specs.Starts.{NoneStands, Start}
 use Rattle.code_model.specs.Guards.{Own, Covered, Covers, CoversBy}
 use Rattle.code_model.specs.Rules.{number, Breaks, BreaksAt, Refuses}
 use Rattle.code_model.specs.Verdicts.{AllSpelled}
@@ -14,7 +14,7 @@ use Rattle.checker_laws.proofs.Numbers.{same_rule}
 use Rattle.static_checker.specs.declared.spot.Spot.{Spot}
 use Rattle.static_checker.specs.Spots.{IsSpot, IsStartSpot}
 use Rattle.static_checker.specs.Refusals.{IsSpotAt, IsFirstRule}
-use Rattle.static_checker.proofs.Guarding.{not_true, iff_false, instr_of, words_of}
+use Rattle.static_checker.proofs.Guarding.{instr_of, words_of}
 
 pub not_own : (o : Object) (at : ℕ) → length o.code ≤ at + 1 → Own o at → ⊥
 unfolding Covered Covers CoversBy

@@ -1,5 +1,5 @@
 -- Targets by their offsets.
-use Rattle.std.proofs.Common.{◌≡◌, ◌≢◌, ◌↔◌, ℕ, zero, suc, ◌+◌, ◌*◌, ◌/◌, ◌%◌, ◌≤◌, ◌<◌, List, length, arith, sym, subst, ℤ, pos, ◌+ℤ◌, Bool, true, false, not, IsTrue, refl, ◌∙◌, ◌-◌, drop, w16, to_z, of_z, SFits}
+use Rattle.std.proofs.Common.{◌≡◌, ◌≢◌, ◌↔◌, ℕ, ◌+◌, ◌/◌, ◌%◌, ◌≤◌, ◌<◌, List, arith, sym, subst, ℤ, pos, ◌+ℤ◌, Bool, true, false, not, IsTrue, refl, ◌∙◌, ◌-◌, drop, w16, to_z, of_z, SFits}
 use Rattle.std.proofs.lemmas.Int.{to_z-of_z}
 use Rattle.msp_encode.specs.declared.instr.Instr.{Instr}
 use Rattle.object_form.specs.declared.object.Object.{Object}

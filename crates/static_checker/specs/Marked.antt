@@ -1,5 +1,5 @@
 -- Sets of places as marks.
-use Rattle.std.specs.Prelude.{◌≡◌, ℕ, ◌≤◌, ◌<◌, ◌↔◌, ◌⊎◌, List}
+use Rattle.std.specs.Prelude.{ℕ, ◌≤◌, ◌<◌, ◌↔◌, ◌⊎◌, List}
 use Rattle.object_form.specs.declared.object.Object.{Object}
 use Rattle.object_form.specs.Bitmap.{Has}
 use Rattle.code_model.specs.Guards.{Covers, Covered}

@@ -1,5 +1,5 @@
 -- The places of an object as marks.
-use Rattle.std.specs.Prelude.{◌≡◌, ℕ, ◌*◌, ◌<◌, ◌↔◌, ◌⊎◌, List, length, slice_index_or}
+use Rattle.std.specs.Prelude.{◌≡◌, ℕ, ◌*◌, ◌<◌, ◌↔◌, List, length, slice_index_or}
 use Rattle.object_form.specs.declared.object.Object.{Object}
 use Rattle.object_form.specs.declared.parts.Export.{Export}
 use Rattle.object_form.specs.declared.parts.Kind.TheVariants.{App}

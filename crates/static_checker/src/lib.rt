@@ -1,4 +1,14 @@
-//! The checker.
+//! The checker: which objects are accepted, with the marks of their unit starts, and which are refused, by which rule and where.
+//!
+//! It stands on the decoder (`msp_decode`), on objects (`object_form`) and on the definitions of `code_model`, which say what
+//! starts, guards, unit starts, the fourteen rules and the verdict are. The layers above call `check`: its answer is the
+//! verdict, no other answer is, and in an accepted object each dangerous instruction is guarded. `checker_laws` has what
+//! follows for accepted objects.
+//!
+//! The checker goes by place. It finds the starts, what guards cover, the unit starts and the named places once, each as
+//! marks (`units`), and then asks each rule at each place (`rules`). Every question is a small function that is true exactly
+//! where the definition of its name holds. It takes no memory, and looks at each place a bounded number of times; a
+//! relocation is found by a binary search.
 #![tactic(auto)]
 
 mod covering;
@@ -20,3 +30,6 @@ mod verdict;
 pub use code_model::verdict::Verdict;
 pub use object_form::marks::Marks;
 pub use verdict::check;
+
+#[cfg(test)]
+mod tests;

@@ -10,8 +10,8 @@ use object_form::lists::Relocs;
 use object_form::object::Object;
 use object_form::parts::{RelKind, Reloc};
 
-#[tactic(auto, using(crate::proofs::Search::reloc_rules))]
 /// Tells whether the code word at a place has a relocation of this kind.
+#[tactic(auto, using(crate::proofs::Search::reloc_rules))]
 pub fn has_reloc(o: &Object, at: usize, kind: RelKind) -> bool
     requires { at < 32768 }
     ensures { IsTrue result ↔ HasReloc o.now.relocs at kind }
@@ -22,8 +22,8 @@ pub fn has_reloc(o: &Object, at: usize, kind: RelKind) -> bool
     }
 }
 
-#[tactic(auto, using(crate::proofs::Search::reloc_rules))]
 /// Tells whether the code word at a place has no relocation.
+#[tactic(auto, using(crate::proofs::Search::reloc_rules))]
 pub fn unrelocated(o: &Object, at: usize) -> bool
     requires { at < 32768 }
     ensures { IsTrue result ↔ Unrelocated o.now.relocs at }

@@ -1,4 +1,3 @@
-use Rattle.std.proofs.Common.{sym}
 use Rattle.static_checker.proofs.Guarding.{not_true}
 use Rattle.static_checker.proofs.CoverLemmas.{no_start, no_instr}
 use Rattle.static_checker.proofs.covering.cover_at.Goals as goal

@@ -1,4 +1,4 @@
-use Rattle.std.proofs.Common.{arith, ap, length}
+use Rattle.std.proofs.Common.{ap, length}
 use Rattle.static_checker.proofs.Guarding.{not_true}
 use Rattle.static_checker.proofs.CoverLemmas.{covers_marked, covers_none}
 use Rattle.static_checker.proofs.covering.cover_by.Goals as goal

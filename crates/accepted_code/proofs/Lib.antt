@@ -1,0 +1,16 @@
+pub mod Lines
+pub mod Runs
+pub mod Guarding
+pub mod Placing
+pub mod Fetching
+pub mod Leading
+pub mod Passing
+pub mod Storing
+pub mod Stacking
+pub mod Units
+pub mod UnitSorts
+pub mod UnitLeading
+pub mod Steps
+pub mod Keeping
+pub mod Imaging
+pub mod InStack

@@ -1,0 +1,6 @@
+pub mod BytesLemmas
+pub mod LayoutLemmas
+pub mod FitLemmas
+pub mod OrderlyLemmas
+pub mod OutsideLemmas
+pub mod EmptyLemmas

@@ -1,0 +1,11 @@
+pub mod Patches
+pub mod RowLemmas
+pub mod TableLemmas
+pub mod WordLemmas
+pub mod PieceLemmas
+pub mod QueueLemmas
+pub mod SystemLemmas
+pub mod QueueEdits
+pub mod ListLemmas
+pub mod OrderLemmas
+pub mod ClearLemmas

@@ -1,0 +1,98 @@
+-- Lists in order.
+use Rattle.std.proofs.Common.{◌≡◌, ◌≢◌, ℕ, ◌+◌, ◌-◌, ◌<◌, ◌≤◌, true, false, IsTrue, zero, suc, List, ◌++◌, length, drop, get_or, eqb, refl, ap, sym, ◌∙◌, subst, arith, length-append, AllPairs, Contains}
+use Rattle.std.specs.List.{position_or_len}
+use Rattle.std.proofs.lemmas.Bool.{false≢true, eqb-true}
+use Rattle.std.proofs.lemmas.List.Sums.{passes_at_first}
+use Rattle.std.proofs.lemmas.List.{get_or_append_left, get_or-append-add, get_or_default, ext_get_or, get_or-take, get_or-drop}
+use Rattle.kernel_model.specs.Bytes.{part}
+use Rattle.kernel_model.proofs.BytesLemmas.{length-part}
+use Rattle.kernel_model.proofs.OrderlyLemmas.{pairs_apart}
+use Rattle.kernel_tables.specs.Lists.{AreApart, IsNewAt}
+
+-- what an answer says
+pub no : {P : Type 0} → (P → ⊥) → (IsTrue false → P) × (P → IsTrue false)
+no f = (λ e. absurd (false≢true e), λ p. absurd (f p))
+
+pub yes : {P : Type 0} → P → (IsTrue true → P) × (P → IsTrue true)
+yes p = (λ e. p, λ q. refl)
+
+-- ---- bytes
+
+byte_in : (m : List ℕ) (at n i : ℕ) → i < n → get_or (part m at n) i 0 ≡ get_or m (at + i) 0
+unfolding part
+byte_in m at n i h = get_or-take n (drop at m) i 0 h ∙ get_or-drop at m i 0
+
+pub piece_is : (m bs xs : List ℕ) (at : ℕ) → length bs ≡ 32 → at + 32 ≤ length m → bs ≡ xs → ((k : ℕ) → k < 32 → get_or bs k 0 ≡ get_or m (at + k) 0) → xs ≡ part m at 32
+piece_is m bs xs at h w e f =
+    sym e ∙ ext_get_or 0 bs (part m at 32) (h ∙ sym (length-part m at 32 w)) (λ k l. let in' : k < 32 = omega arith in f k in' ∙ sym (byte_in m at 32 k in'))
+
+pub piece_differs : (m bs xs : List ℕ) (at k b : ℕ) → bs ≡ xs → k < 32 → b ≡ get_or m (at + k) 0 → get_or bs k 0 ≢ b → xs ≡ part m at 32 → ⊥
+piece_differs m bs xs at k b e l h ne p = ne (ap (λ ys. get_or ys k 0) (e ∙ p) ∙ byte_in m at 32 k l ∙ sym h)
+
+-- ---- members that stand once
+
+pub apart_members : (xs ys : List ℕ) → AreApart xs ys → (t : ℕ) → Contains xs t → Contains ys t → ⊥
+apart_members xs ys h t a b =
+    let there : get_or xs a.0 0 ≡ t = get_or_default xs a.0 0 t a.1 ∙ a.2 in
+    let here : get_or ys b.0 0 ≡ t = get_or_default ys b.0 0 t b.1 ∙ b.2 in
+    h a.0 a.1 b.0 b.1 (here ∙ sym there)
+
+pub apart_from_once : (xs ys : List ℕ) → AllPairs (λ x y. x ≢ y) (xs ++ ys) → AreApart xs ys
+apart_from_once xs ys h i l k l' e =
+    let both : length (xs ++ ys) ≡ length xs + length ys = length-append xs ys in
+    h i (length xs + k) 0 (omega arith) (omega arith) (get_or_append_left xs ys 0 i l ∙ sym e ∙ sym (get_or-append-add xs ys k 0))
+
+pub once_from_parts : (xs ys : List ℕ) → AllPairs (λ x y. x ≢ y) xs → AllPairs (λ x y. x ≢ y) ys → AreApart xs ys → AllPairs (λ x y. x ≢ y) (xs ++ ys)
+once_from_parts xs ys h k a = pairs_apart xs ys h k (apart_members xs ys a)
+
+-- ---- from neighbours to all
+
+steps_down : (f : ℕ → ℕ) (xs : List ℕ) → ((k : ℕ) → k + 1 < length xs → f (get_or xs (k + 1) 0) ≤ f (get_or xs k 0)) → (i n : ℕ) → i + n < length xs → f (get_or xs (i + n) 0) ≤ f (get_or xs i 0)
+steps_down f xs h i zero l = let same : i + zero ≡ i = omega arith in subst (λ (j : ℕ). f (get_or xs j 0) ≤ f (get_or xs i 0)) (sym same) (omega arith)
+steps_down f xs h i (suc n) l =
+    let next : i + suc n ≡ i + n + 1 = omega arith in
+    let rest : f (get_or xs (i + n) 0) ≤ f (get_or xs i 0) = steps_down f xs h i n (omega arith) in
+    let last : f (get_or xs (i + n + 1) 0) ≤ f (get_or xs (i + n) 0) = h (i + n) (omega arith) in
+    subst (λ (j : ℕ). f (get_or xs j 0) ≤ f (get_or xs i 0)) (sym next) (omega arith)
+
+pub chain_down : (f : ℕ → ℕ) (xs : List ℕ) → ((k : ℕ) → k + 1 < length xs → f (get_or xs (k + 1) 0) ≤ f (get_or xs k 0)) → AllPairs (λ x y. f y ≤ f x) xs
+chain_down f xs h i j d lt l =
+    let gap : j ≡ i + (j - i) = omega arith in
+    let all : f (get_or xs (i + (j - i)) 0) ≤ f (get_or xs i 0) = steps_down f xs h i (j - i) (omega arith) in
+    let first : get_or xs i d ≡ get_or xs i 0 = get_or_default xs i d 0 (omega arith) in
+    let last : get_or xs j d ≡ get_or xs (i + (j - i)) 0 = get_or_default xs j d 0 l ∙ ap (λ k. get_or xs k 0) gap in
+    let first_f : f (get_or xs i d) ≡ f (get_or xs i 0) = ap f first in
+    let last_f : f (get_or xs j d) ≡ f (get_or xs (i + (j - i)) 0) = ap f last in
+    omega arith
+
+steps_up : (f : ℕ → ℕ) (xs : List ℕ) → ((k : ℕ) → k + 1 < length xs → f (get_or xs k 0) ≤ f (get_or xs (k + 1) 0)) → (i n : ℕ) → i + n < length xs → f (get_or xs i 0) ≤ f (get_or xs (i + n) 0)
+steps_up f xs h i zero l = let same : i + zero ≡ i = omega arith in subst (λ (j : ℕ). f (get_or xs i 0) ≤ f (get_or xs j 0)) (sym same) (omega arith)
+steps_up f xs h i (suc n) l =
+    let next : i + suc n ≡ i + n + 1 = omega arith in
+    let rest : f (get_or xs i 0) ≤ f (get_or xs (i + n) 0) = steps_up f xs h i n (omega arith) in
+    let last : f (get_or xs (i + n) 0) ≤ f (get_or xs (i + n + 1) 0) = h (i + n) (omega arith) in
+    subst (λ (j : ℕ). f (get_or xs i 0) ≤ f (get_or xs j 0)) (sym next) (omega arith)
+
+pub chain_up : (f : ℕ → ℕ) (xs : List ℕ) → ((k : ℕ) → k + 1 < length xs → f (get_or xs k 0) ≤ f (get_or xs (k + 1) 0)) → AllPairs (λ x y. f x ≤ f y) xs
+chain_up f xs h i j d lt l =
+    let gap : j ≡ i + (j - i) = omega arith in
+    let all : f (get_or xs i 0) ≤ f (get_or xs (i + (j - i)) 0) = steps_up f xs h i (j - i) (omega arith) in
+    let first : get_or xs i d ≡ get_or xs i 0 = get_or_default xs i d 0 (omega arith) in
+    let last : get_or xs j d ≡ get_or xs (i + (j - i)) 0 = get_or_default xs j d 0 l ∙ ap (λ k. get_or xs k 0) gap in
+    let first_f : f (get_or xs i d) ≡ f (get_or xs i 0) = ap f first in
+    let last_f : f (get_or xs j d) ≡ f (get_or xs (i + (j - i)) 0) = ap f last in
+    omega arith
+
+-- ---- whether a thread stands in a list
+
+pub not_listed : (ks xs : List ℕ) (t n : ℕ) → IsNewAt xs t n → n ≡ length xs → xs ≡ ks → Contains ks t → ⊥
+not_listed ks xs t n h e s c =
+    let d : Contains xs t = subst (λ (ys : List ℕ). Contains ys t) (sym s) c in
+    let within : d.0 < n = (let in' : d.0 < length xs = d.1 in omega arith) in
+    h d.0 within (get_or_default xs d.0 0 t d.1 ∙ d.2)
+
+pub listed_at : (ks xs : List ℕ) (t n : ℕ) → n ≡ position_or_len (λ x. eqb x t) xs → n < length xs → xs ≡ ks → Contains ks t
+listed_at ks xs t n e l s =
+    let within : position_or_len (λ x. eqb x t) xs < length xs = omega arith in
+    subst (λ (ys : List ℕ). Contains ys t) s
+    (position_or_len (λ x. eqb x t) xs, within, eqb-true (get_or xs (position_or_len (λ x. eqb x t) xs) t) t (passes_at_first (λ x. eqb x t) xs t within))

@@ -1,0 +1,47 @@
+//! Where the tables lie, in bytes.
+
+/// The kernel's words, from CURLIM on.
+pub const SYSTEM_WORDS: u16 = 0x0200;
+/// The unused words behind them.
+pub const UNUSED_WORDS: u16 = 0x0210;
+/// The ready list.
+pub const READY_LIST: u16 = 0x0220;
+/// The sleepers.
+pub const SLEEPERS: u16 = 0x0240;
+/// The applications' rows.
+pub const APP_ROWS: u16 = 0x0260;
+/// The modules' rows.
+pub const MODULE_ROWS: u16 = 0x02E0;
+/// The functions' rows.
+pub const FUNCTION_ROWS: u16 = 0x0320;
+/// The threads' rows.
+pub const THREAD_ROWS: u16 = 0x0420;
+/// The mutexes' rows.
+pub const MUTEX_ROWS: u16 = 0x0A20;
+/// The conditions' lists.
+pub const CONDITION_LISTS: u16 = 0x0B20;
+/// The lines' lists.
+pub const LINE_LISTS: u16 = 0x0BA0;
+/// The unused bytes behind the lines' lists.
+pub const UNUSED_END: u16 = 0x0D60;
+/// The end of the tables.
+pub const TABLES_END: u16 = 0x1000;
+/// The interrupt vectors.
+pub const VECTORS: u16 = 0xFFE0;
+
+/// The bytes of an application's row.
+pub const APP_ROW_BYTES: u16 = 16;
+/// The bytes of a module's row.
+pub const MODULE_ROW_BYTES: u16 = 16;
+/// The bytes of a function's row.
+pub const FUNCTION_ROW_BYTES: u16 = 4;
+/// The bytes of a thread's row.
+pub const THREAD_ROW_BYTES: u16 = 48;
+/// Where the priority stands in a thread's row.
+pub const PRIORITY_AT: u16 = 34;
+/// The bytes of a mutex's row.
+pub const MUTEX_ROW_BYTES: u16 = 8;
+/// The bytes of a condition's list.
+pub const CONDITION_LIST_BYTES: u16 = 4;
+/// The bytes of a line's list, of the ready list and of the sleepers.
+pub const LIST_BYTES: u16 = 32;

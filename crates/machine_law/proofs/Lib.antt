@@ -1,0 +1,14 @@
+pub mod Words
+pub mod Flags
+pub mod Jumps
+pub mod StoreGuard
+pub mod StackGuards
+pub mod Places
+pub mod Values
+pub mod Masks
+pub mod Registers
+pub mod Operations
+pub mod Guarded
+pub mod Plain
+pub mod Branches
+pub mod Memory

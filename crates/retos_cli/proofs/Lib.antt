@@ -1,0 +1,11 @@
+pub mod Clausal
+pub mod Counting
+pub mod Forms
+pub mod Gathered
+pub mod Gathering
+pub mod Inputs
+pub mod Joined
+pub mod Judgments
+pub mod Told
+pub mod Traces
+pub mod Confining

@@ -1,0 +1,147 @@
+-- The clauses of the top call: what each status says of the folder and the two sinks.
+use Rattle.std.specs.Prelude.{◌≡◌, ℕ, ◌⊎◌, List, [], Some, None}
+use Rattle.std.specs.declared.option.Option.{Option}
+use Rattle.edge_io.specs.Known.{Files, FolderState, SinkState, appended, held, GotPrefix}
+use Rattle.edge_io.specs.Causes.{Rose, Still}
+use Rattle.object_form.specs.declared.object.Object.{Object}
+use Rattle.retos_cli.specs.declared.command.Command.{Command}
+use Rattle.retos_cli.specs.declared.command.Command.TheVariants.{Solo, Check}
+use Rattle.retos_cli.specs.declared.form.Form.TheVariants.{Runnable}
+use Rattle.retos_cli.specs.declared.outcome.Status.{Status}
+use Rattle.retos_cli.specs.declared.outcome.Status.TheVariants.{Done, Refused, BadWords, ReadFault, WriteFault, NoMemory, Faulted}
+use Rattle.retos_cli.specs.Commands.{command_of}
+use Rattle.retos_cli.specs.Lines.{words_line, write_line, memory_line, read_line}
+use Rattle.retos_cli.specs.Meaning.{Answer, IsAnswer, IsRefusal, Output, IsDone, status_by, inputs, IsReached, Taken}
+use Rattle.retos_cli.specs.Ends.{Told}
+use Rattle.solo_model.specs.Running.{booted}
+use Rattle.solo_laws.specs.Sound.{AllConfined}
+
+-- a call of the top: the command that its words are, and the folder, out and err before and after
+pub record Call : Type 0 where
+  pub command : Option Command
+  pub f0 : FolderState
+  pub f1 : FolderState
+  pub o0 : SinkState
+  pub o1 : SinkState
+  pub e0 : SinkState
+  pub e1 : SinkState
+
+abbrev pub call_of : {F O E : Type 0} → (F → FolderState) → (O → SinkState) → (E → SinkState) → List (List ℕ) → F → F → O → O → E → E → Call
+call_of folder out err words f0 f1 o0 o1 e0 e1 = record { command = command_of words; f0 = folder f0; f1 = folder f1; o0 = out o0; o1 = out o1; e0 = err e0; e1 = err e1 }
+
+-- ---- statuses 0 and 6: there is no refusal, and all is the output's
+
+pub record IsOutputOf (call : Call) (given : Status) (m : Files) : Type 0 where
+  pub x : Output
+  pub done : IsDone call.command m x
+  pub out : call.o1.bytes ≡ appended call.o0.bytes x.out
+  pub err : call.e1.bytes ≡ call.e0.bytes
+  pub files : call.f1.files ≡ Some m
+  pub status : given ≡ status_by x.faulted
+
+abbrev pub OutputClause : Call → Status → Type 0
+OutputClause call Done = Told call.f0.files (IsOutputOf call Done)
+OutputClause call Faulted = Told call.f0.files (IsOutputOf call Faulted)
+OutputClause call _ = Unit {0}
+
+-- ---- the lines of statuses 1, 2, 3 and 5
+
+-- this is an input of the words, before which nothing is refused
+abbrev pub ReachedBy : Option Command → Files → List ℕ → Type 0
+ReachedBy None m name = ⊥
+ReachedBy (Some command) m name = IsReached m (inputs command) name
+
+-- the read of an input of the words failed in this call, and this is its line
+pub record IsReadLine (call : Call) (line : List ℕ) : Type 0 where
+  pub rose : Rose call.f0.read_faults call.f1.read_faults
+  pub name : List ℕ
+  pub last : call.f1.last_failed ≡ Some name
+  pub line_is : line ≡ read_line name
+  pub reached : Told call.f0.files (λ m. ReachedBy call.command m name)
+
+abbrev pub LineFor : Call → Status → List ℕ → Type 0
+LineFor call Done line = ⊥
+LineFor call Faulted line = ⊥
+LineFor call WriteFault line = ⊥
+LineFor call Refused line = Told call.f0.files (λ m. IsRefusal call.command m Refused line)
+LineFor call BadWords line = (call.command ≡ None) × (line ≡ words_line)
+LineFor call ReadFault line = IsReadLine call line
+LineFor call NoMemory line = line ≡ memory_line
+
+-- out and the folder's files, created name and count of write faults are unchanged, and err got the status's line
+pub record IsUnwritten (call : Call) (given : Status) : Type 0 where
+  pub out : call.o1 ≡ call.o0
+  pub files : call.f1.files ≡ call.f0.files
+  pub created : call.f1.created ≡ call.f0.created
+  pub writes : call.f1.write_faults ≡ call.f0.write_faults
+  pub line : List ℕ
+  pub line_for : LineFor call given line
+  pub err : call.e1.bytes ≡ appended call.e0.bytes line
+
+abbrev pub RefusedClause : Call → Status → Type 0
+RefusedClause call Refused = IsUnwritten call Refused
+RefusedClause call BadWords = IsUnwritten call BadWords
+RefusedClause call _ = Unit {0}
+
+abbrev pub ReadFaultClause : Call → Status → Type 0
+ReadFaultClause call ReadFault = IsUnwritten call ReadFault
+ReadFaultClause call _ = Unit {0}
+
+abbrev pub NoMemoryClause : Call → Status → Type 0
+NoMemoryClause call NoMemory = IsUnwritten call NoMemory
+NoMemoryClause call _ = Unit {0}
+
+-- ---- status 4
+
+-- the line on err, and why it may be this one
+pub data IsCutLine (call : Call) (line : List ℕ) : Type 0 where
+  OfWrites : line ≡ write_line → Rose call.o0.faults call.o1.faults ⊎ Rose call.f0.write_faults call.f1.write_faults → IsCutLine call line
+  OfStatus : (given : Status) → LineFor call given line → Rose call.e0.faults call.e1.faults → IsCutLine call line
+
+pub record IsWriteFault (call : Call) : Type 0 where
+  pub cause : Rose call.o0.faults call.o1.faults ⊎ (Rose call.e0.faults call.e1.faults ⊎ Rose call.f0.write_faults call.f1.write_faults)
+  -- out got a prefix of the output's bytes, where it got anything
+  pub out : Told call.f0.files (λ m. (call.o1.bytes ≡ call.o0.bytes) ⊎ ((x : Output) × IsDone call.command m x × GotPrefix call.o0.bytes call.o1.bytes x.out))
+  pub files : call.f1.files ≡ call.f0.files
+  pub line : List ℕ
+  pub which : IsCutLine call line
+  pub err : (call.e1.bytes ≡ appended call.e0.bytes line) ⊎ (Rose call.e0.faults call.e1.faults × GotPrefix call.e0.bytes call.e1.bytes line)
+
+abbrev pub WriteFaultClause : Call → Status → Type 0
+WriteFaultClause call WriteFault = IsWriteFault call
+WriteFaultClause call _ = Unit {0}
+
+-- ---- completeness
+
+-- no count rose in this call or stands at its last value
+pub record IsCalm (call : Call) : Type 0 where
+  pub reads : Still call.f0.read_faults call.f1.read_faults
+  pub writes : Still call.f0.write_faults call.f1.write_faults
+  pub out : Still call.o0.faults call.o1.faults
+  pub err : Still call.e0.faults call.e1.faults
+
+-- the status is that of the answer
+pub record HasStatus (call : Call) (given : Status) (m : Files) : Type 0 where
+  pub answer : Answer
+  pub is : IsAnswer call.command m answer
+  pub status : given ≡ answer.status
+
+-- where nothing failed, the status is the answer's, or there was no memory
+abbrev pub CompleteClause : Call → Status → Type 0
+CompleteClause call given = IsCalm call → Told call.f0.files (λ m. HasStatus call given m ⊎ (given ≡ NoMemory))
+
+-- words that are no command, whatever the folder tells
+abbrev pub NoCommandClause : Call → Status → Type 0
+NoCommandClause call given = call.command ≡ None → (given ≡ BadWords) ⊎ ((given ≡ NoMemory) ⊎ ((given ≡ WriteFault) × Rose call.e0.faults call.e1.faults))
+
+-- ---- confinement
+
+-- where the words run an application that is taken, each system of the run from boot is sound, and each record is confined by
+-- the system before it
+abbrev pub RunsConfined : Option Command → Files → Type 0
+RunsConfined None m = Unit {0}
+RunsConfined (Some (Check names)) m = Unit {0}
+RunsConfined (Some (Solo name steps)) m = (o : Object) (units : List ℕ) → Taken Runnable (held m name) o units → AllConfined o units steps (booted o)
+
+abbrev pub ConfinedClause : Call → Type 0
+ConfinedClause call = Told call.f0.files (RunsConfined call.command)

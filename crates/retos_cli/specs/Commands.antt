@@ -1,0 +1,49 @@
+-- The words of the commands.
+use Rattle.std.specs.Prelude.{ℕ, ◌+◌, ◌-◌, ◌*◌, ◌==◌, Bool, ◌&&◌, not, nat_le, nat_lt, bytes_eq, List, [], ◌∷◌, length, drop, slice_index, slice_get, unwrap_or, codes, Some, None, if◌then◌else◌}
+use Rattle.std.specs.Option.{option_map, option_and_then}
+use Rattle.std.specs.declared.option.Option.{Option}
+use Rattle.retos_cli.specs.declared.command.Command.{Command}
+use Rattle.retos_cli.specs.declared.command.Command.TheVariants.{Solo, Check}
+
+-- a name has 1 to 255 bytes and doesn't begin with a dash
+abbrev pub is_name : List ℕ → Bool
+is_name w = nat_lt 0 (length w) && nat_le (length w) 255 && not (slice_index w 0 == 45)
+
+abbrev pub name_of : List ℕ → Option (List ℕ)
+name_of w = if is_name w then Some w else None
+
+-- all words are names
+abbrev pub names_of : List (List ℕ) → Option (List (List ℕ))
+names_of [] = Some []
+names_of (w ∷ ws) = if is_name w then option_map (λ names. w ∷ names) (names_of ws) else None
+
+abbrev pub in_range : ℕ → Option ℕ
+in_range n = if nat_le 1 n && nat_le n 10000000 then Some n else None
+
+-- the value of decimal digits behind those of a value; behind one over 10000000 it can only be greater
+abbrev pub digits_value : ℕ → List ℕ → Option ℕ
+digits_value n [] = in_range n
+digits_value n (b ∷ bs) = if nat_le 48 b && nat_le b 57 && nat_le n 10000000 then digits_value (10 * n + (b - 48)) bs else None
+
+-- a number of steps: decimal, from 1 to 10000000, without sign or leading zero
+abbrev pub steps_of : List ℕ → Option ℕ
+steps_of w = if slice_index w 0 == 48 then None else digits_value 0 w
+
+abbrev pub word : List (List ℕ) → ℕ → List ℕ
+word words at = unwrap_or (slice_get words at) []
+
+abbrev pub solo_of : List (List ℕ) → Option Command
+solo_of words =
+    if length words == 3 then option_and_then (λ name. option_map (λ steps. Solo name steps) (steps_of (word words 2))) (name_of (word words 1))
+    else None
+
+-- 1 to 16 names
+abbrev pub check_of : List (List ℕ) → Option Command
+check_of words =
+    if nat_le 2 (length words) && nat_le (length words) 17 then option_map (λ names. Check names) (names_of (drop 1 words))
+    else None
+
+unfoldable pub command_of : List (List ℕ) → Option Command
+command_of words =
+    if bytes_eq (word words 0) (codes "solo") then solo_of words
+    else (if bytes_eq (word words 0) (codes "check") then check_of words else None)

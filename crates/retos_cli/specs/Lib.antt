@@ -1,0 +1,10 @@
+pub mod Commands
+pub mod Lines
+pub mod Thin
+pub mod Meaning
+pub mod Ends
+pub mod Clauses
+pub mod Judging
+pub mod Tracing
+pub mod Bounds
+pub mod Statuses

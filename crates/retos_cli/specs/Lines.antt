@@ -1,0 +1,55 @@
+-- The lines on the error stream, and those that commands print.
+use Rattle.std.specs.Prelude.{ℕ, zero, suc, ◌+◌, ◌/◌, ◌%◌, List, [], ◌∷◌, ◌++◌, length, codes, decimal, slice_index_or}
+use Rattle.std.specs.Int.{bit_at}
+use Rattle.line_text.specs.Hexadecimal.{hex_word}
+use Rattle.object_form.specs.declared.object.Object.{Object}
+use Rattle.object_form.specs.declared.fault.FormKind.{FormKind}
+use Rattle.object_form.specs.declared.fault.FormKind.TheVariants as kinds
+use Rattle.retos_cli.specs.declared.outcome.Why.{Why}
+use Rattle.retos_cli.specs.declared.outcome.Why.TheVariants.{Absent, TooLong, Form, NotApplication, Check, NotYet}
+use Rattle.retos_cli.specs.declared.outcome.Refused.{Refused}
+
+unfoldable pub words_line : List ℕ
+words_line = codes "retos: words" ++ 10 ∷ []
+
+unfoldable pub write_line : List ℕ
+write_line = codes "retos: write fault" ++ 10 ∷ []
+
+unfoldable pub memory_line : List ℕ
+memory_line = codes "retos: want of memory" ++ 10 ∷ []
+
+abbrev pub name_line : List ℕ → List ℕ → List ℕ
+name_line name text = codes "retos: " ++ name ++ text ++ 10 ∷ []
+
+unfoldable pub read_line : List ℕ → List ℕ
+read_line name = name_line name (codes ": read fault")
+
+abbrev pub form_word : FormKind → List ℕ
+form_word kinds.Magic = codes "magic"
+form_word kinds.Version = codes "version"
+form_word kinds.Kind = codes "kind"
+form_word kinds.Limit = codes "limit"
+form_word kinds.Order = codes "order"
+form_word kinds.Place = codes "place"
+form_word kinds.Short = codes "short"
+form_word kinds.Trailing = codes "trailing"
+
+abbrev pub why_text : Why → List ℕ
+why_text Absent = codes ": absent"
+why_text TooLong = codes ": too long"
+why_text (Form kind at) = codes ": form " ++ form_word kind ++ codes " at " ++ decimal at
+why_text NotApplication = codes ": not an application"
+why_text (Check rule place) = codes ": check rule " ++ decimal rule ++ codes " at " ++ hex_word place
+why_text NotYet = codes ": not yet"
+
+unfoldable pub refused_line : Refused → List ℕ
+refused_line r = name_line r.name (why_text r.why)
+
+-- how many of the first places are marked
+abbrev pub marked_below : List ℕ → ℕ → ℕ
+marked_below units zero = 0
+marked_below units (suc k) = marked_below units k + bit_at (slice_index_or units (k / 8) 0) (k % 8)
+
+-- the line of an accepted object: its code words and its units
+unfoldable pub accepted_line : List ℕ → Object → List ℕ → List ℕ
+accepted_line name o units = name ++ codes ": accepted " ++ decimal (length o.code) ++ codes " words " ++ decimal (marked_below units (length o.code)) ++ codes " units" ++ 10 ∷ []

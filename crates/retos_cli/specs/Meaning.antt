@@ -1,0 +1,149 @@
+-- What a command refuses and what it gives, by its words and the files.
+use Rattle.std.specs.Prelude.{◌≡◌, ℕ, ◌<◌, ◌≤◌, ◌⊎◌, Bool, true, false, nat_lt, List, [], ◌∷◌, ◌++◌, length, map, Some, None, if◌then◌else◌}
+use Rattle.std.specs.declared.option.Option.{Option}
+use Rattle.edge_io.specs.Known.{Files, held}
+use Rattle.object_form.specs.declared.object.Object.{Object}
+use Rattle.object_form.specs.declared.parts.Kind.TheVariants as kind
+use Rattle.object_form.specs.Spelling.{object_bytes}
+use Rattle.object_form.specs.Faults.{first_form_fault}
+use Rattle.code_model.specs.Verdicts.{IsAccepted, IsVerdict}
+use Rattle.code_model.specs.declared.verdict.Verdict.TheVariants as verdict
+use Rattle.solo_model.specs.Running.{run, booted, count_faults}
+use Rattle.solo_model.specs.Trace.{trace_text}
+use Rattle.retos_cli.specs.declared.command.Command.{Command}
+use Rattle.retos_cli.specs.declared.command.Command.TheVariants.{Solo, Check}
+use Rattle.retos_cli.specs.declared.form.Form.{Form}
+use Rattle.retos_cli.specs.declared.form.Form.TheVariants.{Checked, Runnable}
+use Rattle.retos_cli.specs.declared.outcome.Why.{Why}
+use Rattle.retos_cli.specs.declared.outcome.Why.TheVariants as why
+use Rattle.retos_cli.specs.declared.outcome.Refused.{Refused}
+use Rattle.retos_cli.specs.declared.outcome.Status.{Status}
+use Rattle.retos_cli.specs.declared.outcome.Status.TheVariants as status
+use Rattle.retos_cli.specs.Lines.{words_line, refused_line, accepted_line}
+use Rattle.retos_cli.specs.Thin.{IsThin}
+
+-- ---- one input
+
+abbrev pub most_bytes : ℕ
+most_bytes = 1048576
+
+-- what is held is the text of an object
+abbrev pub IsTextOf : Option (List ℕ) → Object → Type 0
+IsTextOf held o = (held ≡ Some (object_bytes o)) × (length (object_bytes o) ≤ most_bytes)
+
+-- what is asked before the check
+abbrev pub Suits : Form → Object → Type 0
+Suits Checked o = Unit {0}
+Suits Runnable o = o.kind ≡ kind.App
+
+-- what is asked behind it
+abbrev pub Runs : Form → Object → Type 0
+Runs Checked o = Unit {0}
+Runs Runnable o = IsThin o
+
+-- the input is an accepted object that the command takes
+pub record Taken (form : Form) (held : Option (List ℕ)) (o : Object) (units : List ℕ) : Type 0 where
+  pub text : IsTextOf held o
+  pub suits : Suits form o
+  pub accepted : IsAccepted o units
+  pub runs : Runs form o
+
+-- the input is refused for this
+unfoldable pub Refuses : Form → Option (List ℕ) → Why → Type 0
+Refuses form held why.Absent = held ≡ None
+Refuses form held why.TooLong = (bytes : List ℕ) × (held ≡ Some bytes) × (most_bytes < length bytes)
+Refuses form held (why.Form k at) = (bytes : List ℕ) × (held ≡ Some bytes) × (length bytes ≤ most_bytes) × (first_form_fault bytes ≡ Some (record { kind = k; offset = at }))
+Refuses form held why.NotApplication = (o : Object) × IsTextOf held o × (Suits form o → ⊥)
+Refuses form held (why.Check rule place) = (o : Object) × IsTextOf held o × Suits form o × IsVerdict o (verdict.Refused rule place)
+Refuses form held why.NotYet = (o : Object) × (units : List ℕ) × IsTextOf held o × Suits form o × IsAccepted o units × (Runs form o → ⊥)
+
+-- ---- the inputs of a command
+
+pub record Input : Type 0 where
+  pub name : List ℕ
+  pub form : Form
+
+abbrev pub checked_inputs : List (List ℕ) → List Input
+checked_inputs [] = []
+checked_inputs (name ∷ names) = record { name = name; form = Checked } ∷ checked_inputs names
+
+abbrev pub inputs : Command → List Input
+inputs (Solo name steps) = record { name = name; form = Runnable } ∷ []
+inputs (Check names) = checked_inputs names
+
+unfoldable pub IsTaken : Files → Input → Type 0
+IsTaken m input = (o : Object) × (units : List ℕ) × Taken input.form (held m input.name) o units
+
+-- the first input that is refused, and why
+unfoldable pub IsFirstRefused : Files → List Input → Refused → Type 0
+IsFirstRefused m [] r = ⊥
+IsFirstRefused m (input ∷ others) r =
+    ((r.name ≡ input.name) × Refuses input.form (held m input.name) r.why)
+    ⊎ (IsTaken m input × IsFirstRefused m others r)
+
+-- this is the name of an input, before which nothing is refused
+unfoldable pub IsReached : Files → List Input → List ℕ → Type 0
+IsReached m [] name = ⊥
+IsReached m (input ∷ others) name = (name ≡ input.name) ⊎ (IsTaken m input × IsReached m others name)
+
+-- ---- outputs
+
+-- what a command that nothing refuses writes to out, and whether a run faulted
+pub record Output : Type 0 where
+  pub out : List ℕ
+  pub faulted : Bool
+
+-- the trace of an accepted application
+pub record IsSoloOutput (m : Files) (name : List ℕ) (steps : ℕ) (x : Output) : Type 0 where
+  pub object : Object
+  pub units : List ℕ
+  pub taken : Taken Runnable (held m name) object units
+  pub trace : x.out ≡ trace_text object steps
+  pub faulted_is : x.faulted ≡ nat_lt 0 (count_faults (run steps (booted object)).records)
+
+-- the line of an accepted object, and the lines of the others
+pub record IsAcceptedLine (m : Files) (name line : List ℕ) : Type 0 where
+  pub object : Object
+  pub units : List ℕ
+  pub taken : Taken Checked (held m name) object units
+  pub line_is : line ≡ accepted_line name object units
+
+unfoldable pub AreAcceptedLines : Files → List (List ℕ) → List ℕ → Type 0
+AreAcceptedLines m [] out = out ≡ []
+AreAcceptedLines m (name ∷ names) out = (line : List ℕ) × (rest : List ℕ) × IsAcceptedLine m name line × AreAcceptedLines m names rest × (out ≡ line ++ rest)
+
+unfoldable pub IsOutput : Command → Files → Output → Type 0
+IsOutput (Solo name steps) m x = IsSoloOutput m name steps x
+IsOutput (Check names) m x = AreAcceptedLines m names x.out × (x.faulted ≡ false)
+
+-- ---- the whole, by the words and the files
+
+-- what stands on out and err, and the status
+pub record Answer : Type 0 where
+  pub out : List ℕ
+  pub err : List ℕ
+  pub status : Status
+
+abbrev pub refused_answer : Status → List ℕ → Answer
+refused_answer s line = record { out = []; err = line; status = s }
+
+abbrev pub status_by : Bool → Status
+status_by true = status.Faulted
+status_by false = status.Done
+
+abbrev pub done_answer : Output → Answer
+done_answer x = record { out = x.out; err = []; status = status_by x.faulted }
+
+-- the first refusal, as a status and a line
+unfoldable pub IsRefusal : Option Command → Files → Status → List ℕ → Type 0
+IsRefusal None m s line = (s ≡ status.BadWords) × (line ≡ words_line)
+IsRefusal (Some command) m s line = (s ≡ status.Refused) × ((r : Refused) × IsFirstRefused m (inputs command) r × (line ≡ refused_line r))
+
+unfoldable pub IsDone : Option Command → Files → Output → Type 0
+IsDone None m x = ⊥
+IsDone (Some command) m x = IsOutput command m x
+
+-- a refusal alone, or the output alone
+pub data IsAnswer (command : Option Command) (m : Files) (a : Answer) : Type 0 where
+  IsRefused : (s : Status) (line : List ℕ) → IsRefusal command m s line → a ≡ refused_answer s line → IsAnswer command m a
+  IsPrinted : (x : Output) → IsDone command m x → a ≡ done_answer x → IsAnswer command m a

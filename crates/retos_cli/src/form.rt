@@ -1,0 +1,10 @@
+//! What a command asks of an object.
+
+/// What an input is for.
+#[derive(Clone, Copy, PartialEq, Eq, Debug, Drop)]
+pub enum Form {
+    /// An object to check.
+    Checked,
+    /// An application to run.
+    Runnable,
+}

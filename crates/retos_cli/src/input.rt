@@ -1,0 +1,119 @@
+//! Taking an input: reading it, and the object of its text, checked.
+
+ghost use Rattle.std.specs.Prelude.{◌≡◌, ◌≤◌, ◌↔◌, length, IsTrue};
+ghost use Rattle.code_model.specs.Verdicts.{AllSpelled};
+ghost use Rattle.object_form.specs.Spelling.{object_bytes};
+ghost use Rattle.retos_cli.specs.Meaning.{Suits, Runs};
+ghost use Rattle.retos_cli.specs.Judging.{IsJudged};
+ghost use Rattle.retos_cli.specs.Ends.{InputEnds, OnlyRead};
+
+use super::form::Form;
+use super::outcome::{Refused, Stop, Why};
+use super::thin::is_thin;
+use edge_io::folder::Folder;
+use edge_io::name::Name;
+use edge_io::whole::{InputFault, read_all};
+use object_form::fault::FormFault;
+use object_form::marks::Marks;
+use object_form::object::Object;
+use object_form::parts::Kind;
+use object_form::reading::read_object;
+use static_checker::{Verdict, check};
+use std::alloc::Global;
+
+/// Why a text isn't taken.
+#[derive(Drop)]
+pub enum Judged {
+    Refused(Why),
+    NoMemory,
+}
+
+/// Takes an input: the object of its text with the marks of its unit starts, or why it ends the command.
+pub fn take<F: Folder>(
+    alloc: Global,
+    files: &mut F,
+    name: &Name,
+    form: Form,
+) -> Result<(Object, Marks), Stop>
+    ensures ends { InputEnds (F.state files.old) (F.state files.new) (record { name = name.now; form = form }) result }
+    ensures read { OnlyRead (F.state files.old) (F.state files.new) }
+{
+    match read_all(alloc, files, name) {
+        Ok(bytes) => match judge(alloc, bytes.as_slice(), form) {
+            Ok(taken) => Ok(taken),
+            Err(Judged::Refused(why)) => Err(Stop::Refuse(Refused {
+                name: name.copied(),
+                why,
+            })),
+            Err(Judged::NoMemory) => Err(Stop::NoMemory),
+        },
+        Err(InputFault::Absent) => Err(Stop::Refuse(Refused {
+            name: name.copied(),
+            why: Why::Absent,
+        })),
+        Err(InputFault::TooLong) => Err(Stop::Refuse(Refused {
+            name: name.copied(),
+            why: Why::TooLong,
+        })),
+        Err(InputFault::Failed) => Err(Stop::ReadFault(name.copied())),
+        Err(InputFault::Memory) => Err(Stop::NoMemory),
+    }
+}
+
+/// The object of a text that is taken, or why it is refused.
+#[tactic(auto, using(crate::proofs::Judgments::refuses_form))]
+fn judge(alloc: Global, text: &[u8], form: Form) -> Result<(Object, Marks), Judged>
+    requires { length text.now ≤ 1048576 }
+    ensures { IsJudged form text.now result }
+{
+    match read_object(alloc, text) {
+        Ok(object) => judge_object(object, form),
+        Err(FormFault::At { kind, offset }) => Err(Judged::Refused(Why::Form { kind, at: offset })),
+        Err(FormFault::Memory) => Err(Judged::NoMemory),
+    }
+}
+
+/// The object with its marks where it is taken, or why not.
+#[tactic(auto, using(crate::proofs::Judgments::refuses_unsuited, crate::proofs::Judgments::refuses_check, crate::proofs::Judgments::refuses_yet))]
+fn judge_object(object: Object, form: Form) -> Result<(Object, Marks), Judged>
+    requires { length (object_bytes object) ≤ 1048576 }
+    ensures { IsJudged form (object_bytes object) result }
+{
+    if !suits(form, &object) {
+        return Err(Judged::Refused(Why::NotApplication));
+    }
+    match check(&object) {
+        Verdict::Refused { rule, place } => Err(Judged::Refused(Why::Check { rule, place })),
+        Verdict::Accepted(marks) => {
+            if runs(form, &object) {
+                Ok((object, marks))
+            } else {
+                Err(Judged::Refused(Why::NotYet))
+            }
+        }
+    }
+}
+
+/// Whether the object is one that the command asks for: an application, where it is to run.
+fn suits(form: Form, o: &Object) -> bool
+    ensures { IsTrue result ↔ Suits form o.now }
+{
+    match form {
+        Form::Checked => true,
+        Form::Runnable => match o.kind {
+            Kind::App => true,
+            Kind::Module => false,
+        },
+    }
+}
+
+/// Whether the object is of a form that runs, where it is to run.
+fn runs(form: Form, o: &Object) -> bool
+    requires { AllSpelled o.now }
+    ensures { IsTrue result ↔ Runs form o.now }
+{
+    match form {
+        Form::Checked => true,
+        Form::Runnable => is_thin(o),
+    }
+}

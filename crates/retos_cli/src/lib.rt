@@ -1,0 +1,20 @@
+//! The top call `retos`: words, inputs, commands, messages and statuses.
+//!
+//! `top` has the call, with a clause for each promise; `specs/Clauses.antt` has their words, `specs/Meaning.antt` what is refused
+//! and what is printed, `specs/Commands.antt` what words are a command.
+#![tactic(auto)]
+
+pub mod checking;
+pub mod command;
+pub mod counted;
+pub mod form;
+pub mod input;
+pub mod lines;
+pub mod outcome;
+pub mod parse;
+pub mod report;
+pub mod running;
+#[cfg(test)]
+mod tests;
+pub mod thin;
+pub mod top;

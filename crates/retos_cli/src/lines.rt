@@ -1,0 +1,148 @@
+//! The lines on the error stream, and the line of an accepted object.
+
+ghost use Rattle.std.specs.Prelude.{◌≡◌, ◌+◌, ◌≤◌, ◌++◌, length, codes, decimal};
+ghost use Rattle.retos_cli.specs.Lines.{words_line, write_line, memory_line, read_line, refused_line, why_text, form_word};
+ghost use Rattle.line_text.specs.Hexadecimal.{hex_word};
+
+use super::outcome::{Refused, Why};
+use edge_io::name::Name;
+use line_text::line::Line;
+use object_form::fault::FormKind;
+
+/// A line of fixed words.
+fn fixed(text: &[u8]) -> Line
+    requires { length text.now ≤ 100 }
+    ensures { result ≡ text.now ++ codes "\n" }
+{
+    let mut line = Line::new();
+    line.push_text(text);
+    line.push(b'\n');
+    line
+}
+
+/// The words are no command.
+#[tactic(auto, unfolding(crate::specs::Lines::words_line))]
+pub fn of_words() -> Line
+    ensures { result ≡ words_line }
+{
+    fixed(b"retos: words")
+}
+
+/// A write failed.
+#[tactic(auto, unfolding(crate::specs::Lines::write_line))]
+pub fn of_write() -> Line
+    ensures { result ≡ write_line }
+{
+    fixed(b"retos: write fault")
+}
+
+/// No memory was found.
+#[tactic(auto, unfolding(crate::specs::Lines::memory_line))]
+pub fn of_memory() -> Line
+    ensures { result ≡ memory_line }
+{
+    fixed(b"retos: want of memory")
+}
+
+/// The beginning of a line on an input.
+fn named(name: &Name) -> Line
+    ensures text { result ≡ codes "retos: " ++ name.now }
+    ensures size { length result ≤ 262 }
+{
+    let mut line = Line::new();
+    line.push_text(b"retos: ");
+    line.push_text(name.as_slice());
+    line
+}
+
+/// The read of this input failed.
+#[tactic(auto, unfolding(crate::specs::Lines::read_line))]
+pub fn of_read(name: &Name) -> Line
+    ensures { result ≡ read_line name.now }
+{
+    let mut line = named(name);
+    line.push_text(b": read fault");
+    line.push(b'\n');
+    line
+}
+
+/// The word of a fault of the form.
+fn form_word(kind: FormKind) -> &'static [u8]
+    ensures word { result.now ≡ form_word kind }
+    ensures size { length result.now ≤ 8 }
+{
+    match kind {
+        FormKind::Magic => b"magic",
+        FormKind::Version => b"version",
+        FormKind::Kind => b"kind",
+        FormKind::Limit => b"limit",
+        FormKind::Order => b"order",
+        FormKind::Place => b"place",
+        FormKind::Short => b"short",
+        FormKind::Trailing => b"trailing",
+    }
+}
+
+/// Appends why an input is refused.
+fn push_why(line: &mut Line, why: &Why)
+    requires { length line.old ≤ 262 }
+    ensures why { line.new ≡ line.old ++ why_text why.now }
+    ensures size { length line.new ≤ 300 }
+{
+    match why {
+        Why::Absent => line.push_text(b": absent"),
+        Why::TooLong => line.push_text(b": too long"),
+        Why::Form { kind, at } => push_form(line, *kind, *at),
+        Why::NotApplication => line.push_text(b": not an application"),
+        Why::Check { rule, place } => push_check(line, *rule as u32, *place),
+        Why::NotYet => line.push_text(b": not yet"),
+    }
+}
+
+fn push_form(line: &mut Line, kind: FormKind, at: u32)
+    requires { length line.old ≤ 262 }
+    ensures text { line.new ≡ line.old ++ (codes ": form " ++ form_word kind ++ codes " at " ++ decimal at) }
+    ensures size { length line.new ≤ 300 }
+{
+    line.push_text(b": form ");
+    line.push_text(form_word(kind));
+    line.push_text(b" at ");
+    line.push_decimal(at);
+}
+
+fn push_check(line: &mut Line, rule: u32, place: u16)
+    requires { length line.old ≤ 262 }
+    ensures text { line.new ≡ line.old ++ (codes ": check rule " ++ decimal rule ++ codes " at " ++ hex_word place) }
+    ensures size { length line.new ≤ 300 }
+{
+    line.push_text(b": check rule ");
+    line.push_decimal(rule);
+    line.push_text(b" at ");
+    line.push_word(place);
+}
+
+/// An input is refused.
+#[tactic(auto, unfolding(crate::specs::Lines::refused_line))]
+pub fn of_refused(refused: &Refused) -> Line
+    ensures { result ≡ refused_line refused.now }
+{
+    let mut line = named(&refused.name);
+    push_why(&mut line, &refused.why);
+    line.push(b'\n');
+    line
+}
+
+/// An object is accepted, with this many code words and units.
+pub fn of_accepted(name: &Name, words: u32, units: u32) -> Line
+    ensures { result ≡ name.now ++ codes ": accepted " ++ decimal words ++ codes " words " ++ decimal units ++ codes " units" ++ codes "\n" }
+{
+    let mut line = Line::new();
+    line.push_text(name.as_slice());
+    line.push_text(b": accepted ");
+    line.push_decimal(words);
+    line.push_text(b" words ");
+    line.push_decimal(units);
+    line.push_text(b" units");
+    line.push(b'\n');
+    line
+}

@@ -1,0 +1,87 @@
+//! What a command comes to.
+
+ghost use Rattle.std.specs.Prelude.{◌≡◌};
+ghost use Rattle.retos_cli.specs.Statuses.{status_number};
+
+use edge_io::name::Name;
+use object_form::fault::FormKind;
+
+/// The status that the program ends with.
+#[derive(Clone, Copy, PartialEq, Eq, Debug, Drop)]
+pub enum Status {
+    /// Done, without a fault.
+    Done,
+    /// An input is refused.
+    Refused,
+    /// The words are no command.
+    BadWords,
+    /// A read failed.
+    ReadFault,
+    /// A write failed.
+    WriteFault,
+    /// No memory was found.
+    NoMemory,
+    /// Done, and an application faulted.
+    Faulted,
+}
+
+impl Status {
+    /// The number that the program ends with.
+    pub fn number(self) -> u8
+        ensures { result ≡ status_number self }
+    {
+        match self {
+            Status::Done => 0,
+            Status::Refused => 1,
+            Status::BadWords => 2,
+            Status::ReadFault => 3,
+            Status::WriteFault => 4,
+            Status::NoMemory => 5,
+            Status::Faulted => 6,
+        }
+    }
+}
+
+/// Why an input is refused.
+#[derive(Clone, Copy, PartialEq, Eq, Debug, Drop)]
+pub enum Why {
+    /// The folder doesn't hold it.
+    Absent,
+    /// It holds over 1,048,576 bytes.
+    TooLong,
+    /// Its bytes are no object's text: what is wrong, and at which offset.
+    Form { kind: FormKind, at: u32 },
+    /// A module can't run alone.
+    NotApplication,
+    /// The checker refuses it by this rule at this offset.
+    Check { rule: u8, place: u16 },
+    /// An application of a form that isn't run yet.
+    NotYet,
+}
+
+/// An input that is refused.
+#[derive(Drop)]
+pub struct Refused {
+    pub name: Name,
+    pub why: Why,
+}
+
+/// Why a command ends before it has written anything.
+#[derive(Drop)]
+pub enum Stop {
+    Refuse(Refused),
+    /// The read of this input failed.
+    ReadFault(Name),
+    NoMemory,
+}
+
+/// What words come to.
+#[derive(Drop)]
+pub enum Outcome {
+    /// All was written; whether an application faulted.
+    Done(bool),
+    BadWords,
+    Stopped(Stop),
+    /// A write of out failed.
+    WriteFault,
+}

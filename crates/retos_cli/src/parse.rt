@@ -1,0 +1,127 @@
+//! The words of a command line, read as a command.
+
+ghost use Rattle.std.specs.Prelude.{◌≡◌, ◌+◌, ◌<◌, ◌≤◌, List, [], length, drop, true, false, IfOk, IfSome, MatchOption};
+ghost use Rattle.retos_cli.specs.Bounds.{IsBoundedIfSome};
+ghost use Rattle.retos_cli.specs.Commands.{command_of, is_name, name_of, names_of, steps_of, digits_value, solo_of, check_of, word};
+
+use super::command::{Command, Names};
+use edge_io::name::Name;
+use edge_io::words::Words;
+use std::alloc::{AllocError, Global};
+
+/// The greatest number of steps.
+const STEPS_MAX: u32 = 10_000_000;
+
+/// The most objects that a command takes.
+const OBJECTS_MAX: usize = 16;
+
+/// The command that the words are. None exactly where they are none.
+#[tactic(auto, unfolding(crate::specs::Commands::command_of))]
+pub fn read_command(alloc: Global, words: &Words) -> Result<Option<Command>, AllocError>
+    ensures read { IfOk result (λ command. command ≡ command_of words.now) }
+    ensures bounded { IfOk result (λ command. IsBoundedIfSome command) }
+{
+    let first = word_at(words, 0);
+    if first == b"solo".as_slice() {
+        Ok(solo(words))
+    } else if first == b"check".as_slice() {
+        check(alloc, words)
+    } else {
+        Ok(None)
+    }
+}
+
+/// The word at a place, or no bytes past the end.
+fn word_at(words: &Words, at: usize) -> &[u8]
+    ensures { result.now ≡ word words.now at }
+{
+    match words.word(at) {
+        Some(bytes) => bytes,
+        None => &[],
+    }
+}
+
+fn solo(words: &Words) -> Option<Command>
+    ensures read { result ≡ solo_of words.now }
+    ensures bounded { IsBoundedIfSome result }
+{
+    if words.len() != 3 {
+        return None;
+    }
+    match name(word_at(words, 1)) {
+        Some(name) => match steps(word_at(words, 2)) {
+            Some(steps) => Some(Command::Solo { name, steps }),
+            None => None,
+        },
+        None => None,
+    }
+}
+
+fn check(alloc: Global, words: &Words) -> Result<Option<Command>, AllocError>
+    ensures read { IfOk result (λ command. command ≡ check_of words.now) }
+    ensures bounded { IfOk result (λ command. IsBoundedIfSome command) }
+{
+    if words.len() < 2 || words.len() > OBJECTS_MAX + 1 {
+        return Ok(None);
+    }
+    match names(alloc, words) {
+        Ok(Some(names)) => Ok(Some(Command::Check { names })),
+        Ok(None) => Ok(None),
+        Err(e) => Err(e),
+    }
+}
+
+/// A name: 1 to 255 bytes that don't begin with a dash.
+fn name(bytes: &[u8]) -> Option<Name>
+    ensures named { result ≡ name_of bytes.now }
+    ensures tested { MatchOption result (is_name bytes.now ≡ false) (λ name. (is_name bytes.now ≡ true) × (name ≡ bytes.now)) }
+{
+    if bytes.is_empty() || bytes.len() > 255 || bytes[0] == b'-' {
+        return None;
+    }
+    Name::from_slice(bytes)
+}
+
+/// The words behind the first, where all are names.
+#[tactic(auto, using(crate::proofs::Gathered::gathered_all, crate::proofs::Gathered::gathered_one, crate::proofs::Gathered::gathered_none))]
+fn names(alloc: Global, words: &Words) -> Result<Option<Names>, AllocError>
+    requires { 1 ≤ length words.now }
+    ensures { IfOk result (λ names. names ≡ names_of (drop 1 words.now)) }
+{
+    let mut names = Names::new(alloc);
+    for at in 1..words.len() {
+        match name(word_at(words, at)) {
+            Some(name) => names.push(name)?,
+            None => return Ok(None),
+        }
+    }
+    Ok(Some(names))
+}
+
+/// A number of steps: decimal, from 1 to 10000000, without sign or leading zero.
+fn steps(bytes: &[u8]) -> Option<u32>
+    ensures read { result ≡ steps_of bytes.now }
+    ensures bounded { IfSome result (λ n. n ≤ 10000000) }
+{
+    if bytes.is_empty() || bytes[0] == b'0' {
+        return None;
+    }
+    digits(bytes)
+}
+
+fn digits(bytes: &[u8]) -> Option<u32>
+    ensures read { result ≡ digits_value 0 bytes.now }
+    ensures bounded { IfSome result (λ n. n ≤ 10000000) }
+{
+    let mut value: u32 = 0;
+    for byte in bytes {
+        if *byte < b'0' || *byte > b'9' || value > STEPS_MAX {
+            return None;
+        }
+        value = 10 * value + (*byte - b'0') as u32;
+    }
+    if value < 1 || value > STEPS_MAX {
+        return None;
+    }
+    Some(value)
+}

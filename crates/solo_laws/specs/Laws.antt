@@ -1,0 +1,28 @@
+-- The laws of the run of one accepted application.
+use Rattle.std.specs.Prelude.{◌≡◌, ℕ, ◌≤◌, List, true}
+use Rattle.object_form.specs.declared.object.Object.{Object}
+use Rattle.object_form.specs.declared.parts.Kind.TheVariants.{App}
+use Rattle.code_model.specs.Verdicts.{IsAccepted}
+use Rattle.solo_model.specs.Booted.{region_end}
+use Rattle.solo_model.specs.Running.{System, Next, step, booted}
+use Rattle.solo_laws.specs.Sound.{IsSound, IsConfined, LeavesFaulted, AllConfined}
+
+-- what a step from a sound system comes to, and its record
+pub record StepKeeps (o : Object) (units : List ℕ) (s : System) (next : Next) : Type 0 where
+  pub sound : IsSound o units next.system
+  pub confined : IsConfined o units s next.shown
+  pub faulted : LeavesFaulted s next
+
+abbrev pub StepLaw : Type 0
+StepLaw = (o : Object) (units : List ℕ) (s : System) → IsSound o units s → s.live ≡ true → StepKeeps o units s (step s)
+
+abbrev pub RunLaw : Type 0
+RunLaw = (o : Object) (units : List ℕ) (n : ℕ) (s : System) → IsSound o units s → AllConfined o units n s
+
+-- an accepted application of one thread, whose region fits in the data pool, is sound at boot
+abbrev pub BootLaw : Type 0
+BootLaw = (o : Object) (units : List ℕ) → o.kind ≡ App → o.threads ≡ 1 → region_end o ≤ 0x6000 → IsAccepted o units → IsSound o units (booted o)
+
+-- so its whole run is confined
+abbrev pub SoloLaw : Type 0
+SoloLaw = (o : Object) (units : List ℕ) (n : ℕ) → o.kind ≡ App → o.threads ≡ 1 → region_end o ≤ 0x6000 → IsAccepted o units → AllConfined o units n (booted o)

@@ -1,0 +1,68 @@
+-- A system of one accepted application, what each of its records may be, and a run of it.
+use Rattle.std.specs.Prelude.{◌≡◌, ℕ, zero, suc, ◌+◌, ◌*◌, ◌<◌, ◌≤◌, ◌⊎◌, List, true, false, slice_index}
+use Rattle.std.specs.List.{AllByRecursion}
+use Rattle.object_form.specs.declared.object.Object.{Object}
+use Rattle.code_model.specs.Rules.{IsJumpEntry, IsCallEntry}
+use Rattle.machine_model.specs.Context.{reg}
+use Rattle.machine_law.specs.Steady.{Limits}
+use Rattle.accepted_code.specs.Placed.{Domain, StandsIn, CodeStands}
+use Rattle.accepted_code.specs.Good.{IsGood}
+use Rattle.accepted_code.specs.Laws.{StepsAt}
+use Rattle.solo_model.specs.Booted.{region_end, stack_low, stack_top, idle_context}
+use Rattle.solo_model.specs.Running.{System, Record, Ran, StoreFault, Nothing, Next, is_quiet, is_fault, step}
+
+-- the application at its places: code from 6000 on, its region from 2000 on
+abbrev pub domain_of : Object → List ℕ → Domain
+domain_of o units = record { object = o; units = units; code_lo = 0x6000; lo = 0x2000; hi = region_end o }
+
+-- the entries [F000, F080) hold no instruction
+abbrev pub AreEntries : List ℕ → Type 0
+AreEntries m = (k : ℕ) → 0xF000 ≤ k → k < 0xF080 → slice_index m k ≡ 0
+
+-- one thread runs on a stack in the region, until nothing runs
+pub record IsSound (o : Object) (units : List ℕ) (s : System) : Type 0 where
+  -- memory is 65,536 bytes, and the accepted code stands in it at its places
+  pub stands : StandsIn (domain_of o units) s.memory
+  -- the words for the current limit and the current top are those of the stack
+  pub limits : Limits s.memory (stack_low o) (stack_top o)
+  pub within : stack_top o ≤ region_end o
+  pub entries : AreEntries s.memory
+  pub running : s.live ≡ true → IsGood (domain_of o units) (stack_low o) (stack_top o) s.context
+  pub idle : s.live ≡ false → s.context ≡ idle_context
+
+-- ---- records
+
+abbrev pub InRegion : Object → ℕ × ℕ → Type 0
+InRegion o w = (0x2000 ≤ w.0) × (w.0 < region_end o)
+
+-- an instruction of the object, at a start, as its words stand in memory, and all that it wrote lies in the region
+pub record IsOwnStep (o : Object) (units : List ℕ) (s : System) (pc word : ℕ) (written : List (ℕ × ℕ)) : Type 0 where
+  pub at_pc : pc ≡ reg s.context 0
+  pub place : StepsAt (domain_of o units) s.memory s.context
+  pub code : CodeStands (domain_of o units) s.memory
+  pub first : word ≡ slice_index o.code place.at
+  pub inside : AllByRecursion (InRegion o) written
+
+-- a record is confined by the system before it. No instruction is spelled at the other entries alone
+abbrev pub IsConfined : Object → List ℕ → System → Record → Type 0
+IsConfined o units s (Ran n pc word written) = IsOwnStep o units s pc word written
+IsConfined o units s (StoreFault n value) = (reg s.context 0 ≡ 0xF000) × (value ≡ reg s.context 4)
+IsConfined o units s (Nothing n pc) = (pc ≡ reg s.context 0) × (IsJumpEntry o.kind pc ⊎ IsCallEntry o.kind pc)
+
+-- memory is the same, and nothing runs
+pub record IsFaulted (s t : System) : Type 0 where
+  pub memory : t.memory ≡ s.memory
+  pub live : t.live ≡ false
+  pub context : t.context ≡ idle_context
+
+abbrev pub LeavesFaulted : System → Next → Type 0
+LeavesFaulted s next = is_fault next.shown ≡ true → IsFaulted s next.system
+
+-- ---- runs
+
+-- each system of a run of at most so many steps is sound, and each record is confined by the system before it
+abbrev pub AllConfined : Object → List ℕ → ℕ → System → Type 0
+AllConfined o units zero s = IsSound o units s
+AllConfined o units (suc n) s =
+    IsSound o units s
+    × (is_quiet s ≡ false → IsConfined o units s (step s).shown × LeavesFaulted s (step s) × AllConfined o units n (step s).system)

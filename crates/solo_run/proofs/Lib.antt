@@ -1,0 +1,4 @@
+pub mod Readings
+pub mod Pieces
+pub mod Left
+pub mod Shown
