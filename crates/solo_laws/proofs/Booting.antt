@@ -1,5 +1,5 @@
 -- An accepted application is sound at boot.
-use Rattle.std.proofs.Common.{◌≡◌, ◌≢◌, ℕ, zero, suc, ◌+◌, ◌*◌, ◌/◌, ◌%◌, ◌<◌, ◌≤◌, ◌⊎◌, Bool, true, false, List, [], ◌∷◌, length, replicate, get_or, refl, sym, ap, ◌∙◌, subst, inl, inr, arith}
+use Rattle.std.proofs.Common.{◌≡◌, ◌≢◌, ℕ, zero, suc, ◌+◌, ◌*◌, ◌/◌, ◌%◌, ◌<◌, ◌≤◌, ◌⊎◌, Bool, true, List, [], ◌∷◌, length, replicate, get_or, refl, sym, ap, ◌∙◌, inl, inr, arith}
 use Rattle.std.specs.Prelude.{if◌then◌else◌}
 use Rattle.std.proofs.lemmas.Bool.{cases_lt}
 use Rattle.std.proofs.lemmas.List.{get_or_default, get_or-replicate, get_or_past, length-replicate}
@@ -10,15 +10,13 @@ use Rattle.object_form.specs.declared.parts.RelKind.{RelKind}
 use Rattle.object_form.specs.declared.parts.RelKind.TheVariants.{Code, Data, Lo, Hi}
 use Rattle.object_form.specs.Form.{key, InOrder, RelocFits, AppForm}
 use Rattle.code_model.specs.Relocs.{HasReloc, Unrelocated}
-use Rattle.code_model.specs.Rules.{static_size}
-use Rattle.code_model.specs.Guards.{UnitStart}
 use Rattle.code_model.specs.Verdicts.{IsAccepted}
 use Rattle.checker_laws.specs.Laws.{NamedUnits}
 use Rattle.checker_laws.proofs.Deciding.{from-fields}
 use Rattle.machine_model.specs.Memory.{IsMemory}
 use Rattle.machine_model.specs.Memory as model
 use Rattle.machine_model.specs.Context.{reg, set_reg, IsContext}
-use Rattle.machine_law.specs.Steady.{Limits, IsStatus, IsSteady}
+use Rattle.machine_law.specs.Steady.{Limits}
 use Rattle.machine_law.proofs.Words.{set-context}
 use Rattle.flat_mem.specs.Bytes.{even, word_at, with_word, patch}
 use Rattle.accepted_code.specs.Placed as placed
@@ -26,7 +24,7 @@ use Rattle.accepted_code.specs.Placed.{Domain, CodeStands, IsWellPlaced, StandsI
 use Rattle.accepted_code.specs.Good.{IsGood, AtUnit}
 use Rattle.solo_model.specs.Booted.{addend, region_end, stack_low, stack_top, with_limits, with_vectors, put_words, reloc_address, relocated_by, relocated, blank, boot_memory, boot_context, fresh}
 use Rattle.solo_model.specs.Running.{booted}
-use Rattle.solo_laws.specs.Sound.{domain_of, AreEntries, IsSound}
+use Rattle.solo_laws.specs.Sound.{domain_of, AreEntries}
 use Rattle.solo_laws.specs.Laws.{BootLaw, RunLaw, SoloLaw}
 use Rattle.solo_laws.proofs.Memories.{with-length, word-same, byte-other, word-of, word-other, with-memory, put-memory, put-byte, put-word, patch-below, patch-above, patch-memory, relocated-memory, AreElsewhere, relocated-byte, relocated-word, here-address, reloc-range, reloc-apart, vectors-memory, vectors-byte, blank-byte, blank-memory}
 

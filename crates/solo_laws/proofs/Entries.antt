@@ -1,5 +1,5 @@
 -- Where a safe context stands at an entry, and that nothing is fetched there.
-use Rattle.std.proofs.Common.{◌≡◌, ℕ, zero, suc, ◌+◌, ◌*◌, ◌/◌, ◌<◌, ◌≤◌, ◌⊎◌, List, [], ◌∷◌, take, get_or, refl, sym, ap, ◌∙◌, subst, inl, inr, arith}
+use Rattle.std.proofs.Common.{◌≡◌, ℕ, zero, suc, ◌+◌, ◌<◌, ◌≤◌, ◌⊎◌, List, [], ◌∷◌, take, inl, inr, arith}
 use Rattle.msp_encode.specs.declared.instr.Op2.{Op2}
 use Rattle.msp_encode.specs.declared.instr.Op2.TheVariants.{Mov, Add, Addc, Subc, Sub, Cmp, Dadd, Bit, Bic, Bis, Xor, And}
 use Rattle.msp_encode.specs.declared.instr.Instr.{Instr}
@@ -11,9 +11,7 @@ use Rattle.object_form.specs.declared.parts.Kind.TheVariants.{App, Module}
 use Rattle.code_model.specs.Rules.{IsJumpEntry, IsCallEntry}
 use Rattle.machine_model.specs.Memory.{word_at, IsMemory, even}
 use Rattle.machine_model.specs.Context.{reg}
-use Rattle.machine_model.specs.Operands.{sum_of}
-use Rattle.machine_model.specs.Fetching.{IsFetched}
-use Rattle.accepted_code.specs.Placed.{Domain, StandsIn, address}
+use Rattle.accepted_code.specs.Placed.{Domain, StandsIn}
 use Rattle.accepted_code.specs.Good.{IsGood, IsSomewhere, AtUnit, Within, Jumped, Called, bounds}
 use Rattle.accepted_code.proofs.Runs.{place-start}
 use Rattle.solo_laws.specs.Sound.{AreEntries}

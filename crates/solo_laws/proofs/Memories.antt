@@ -1,5 +1,5 @@
 -- Words, pieces and relocations put in a memory.
-use Rattle.std.proofs.Common.{◌≡◌, ◌≢◌, ℕ, zero, suc, ◌+◌, ◌-◌, ◌*◌, ◌/◌, ◌%◌, ◌<◌, ◌≤◌, ◌⊎◌, Bool, true, false, List, [], ◌∷◌, ◌++◌, length, take, drop, replicate, get_or, set, refl, sym, ap, ◌∙◌, subst, inl, inr, arith}
+use Rattle.std.proofs.Common.{◌≡◌, ◌≢◌, ℕ, zero, suc, ◌+◌, ◌-◌, ◌*◌, ◌/◌, ◌%◌, ◌<◌, ◌≤◌, ◌⊎◌, Bool, true, false, List, [], ◌∷◌, ◌++◌, length, take, drop, replicate, get_or, set, refl, ap, ◌∙◌, inl, inr, arith}
 use Rattle.std.specs.Prelude.{if◌then◌else◌}
 use Rattle.std.proofs.lemmas.Bool.{cases_Bool, cases_eq, cases_lt}
 use Rattle.std.proofs.lemmas.List.{length-set, length-replicate, length-append, length-drop, length-take-le, get_or-set_same, get_or-set_other, get_or_past, get_or-replicate, get_or-take, get_or-drop, get_or_append_left, get_or-append_right}
@@ -8,7 +8,7 @@ use Rattle.object_form.specs.declared.parts.Reloc.{Reloc}
 use Rattle.object_form.specs.Form.{RelocFits}
 use Rattle.machine_model.specs.Memory.{IsMemory}
 use Rattle.flat_mem.specs.Bytes.{even, word_at, with_word, patch}
-use Rattle.solo_model.specs.Booted.{put_words, with_vectors, reloc_address, relocated_by, relocated, addend, blank}
+use Rattle.solo_model.specs.Booted.{put_words, with_vectors, reloc_address, relocated_by, relocated, blank}
 
 -- ---- one word
 

@@ -1,5 +1,5 @@
 -- A step of a sound system.
-use Rattle.std.proofs.Common.{◌≡◌, ℕ, zero, suc, ◌+◌, ◌*◌, ◌<◌, ◌≤◌, ◌==◌, ◌⊎◌, Bool, true, false, not, cond, List, [], ◌∷◌, take, Some, None, MatchOption, refl, sym, ap, ◌∙◌, subst, inl, inr, arith}
+use Rattle.std.proofs.Common.{◌≡◌, ℕ, zero, suc, ◌<◌, ◌≤◌, ◌==◌, ◌⊎◌, Bool, true, false, not, cond, List, [], ◌∷◌, take, Some, None, MatchOption, refl, sym, ap, ◌∙◌, inl, inr, arith}
 use Rattle.std.specs.declared.option.Option.{Option}
 use Rattle.std.proofs.lemmas.Bool.{cases_lt, eqb-true}
 use Rattle.object_form.specs.declared.object.Object.{Object}
@@ -8,19 +8,19 @@ use Rattle.msp_encode.specs.Spelling.{Spells}
 use Rattle.msp_decode.specs.Function.{reading, ReadingLaw}
 use Rattle.msp_decode.specs.Reading.{NoneBegins}
 use Rattle.code_model.specs.Rules.{IsJumpEntry, IsCallEntry}
-use Rattle.machine_model.specs.Memory.{word_at, put_all}
+use Rattle.machine_model.specs.Memory.{word_at}
 use Rattle.machine_model.specs.Context.{reg}
 use Rattle.machine_model.specs.Operands.{sum_of}
 use Rattle.machine_model.specs.Does.{does}
 use Rattle.machine_model.specs.Fetching.{IsFetched}
-use Rattle.accepted_code.specs.Placed.{Domain, StandsIn, address}
+use Rattle.accepted_code.specs.Placed.{Domain}
 use Rattle.accepted_code.specs.Good.{IsGood}
 use Rattle.accepted_code.specs.Kept.{LimitsLeftLaw, PartLeftLaw, StandsLeftLaw}
 use Rattle.accepted_code.specs.Laws.{FetchLaw, InstructionLaw, RegionLaw, Leads, StepsAt}
 use Rattle.accepted_code.proofs.Fetching.{first-unrelocated}
-use Rattle.solo_model.specs.Booted.{stack_low, stack_top, region_end, idle_context}
-use Rattle.solo_model.specs.Running.{System, Next, Record, step, fault_step, instruction_step, fetched, is_quiet}
-use Rattle.solo_laws.specs.Sound.{domain_of, IsSound, IsConfined, IsOwnStep, IsFaulted, LeavesFaulted, AllConfined}
+use Rattle.solo_model.specs.Booted.{stack_low, stack_top}
+use Rattle.solo_model.specs.Running.{System, step, fault_step, instruction_step, fetched, is_quiet, Run, run, after}
+use Rattle.solo_laws.specs.Sound.{domain_of, IsSound, AreConfined}
 use Rattle.solo_laws.specs.Laws.{StepKeeps, StepLaw, RunLaw}
 use Rattle.solo_laws.proofs.Entries.{zero-spells, none-spells, word-small, word-zero, entry-low, at-entry}
 
@@ -112,6 +112,22 @@ lively : (b : Bool) → not b ≡ false → b ≡ true
 lively true e = refl
 lively false e = absurd (cc e)
 
+abbrev Confines : Object → List ℕ → System → Run → Type 0
+Confines o units s r = AreConfined o units s r.records r.last
+
+stopped : System → Run
+stopped s = record { records = []; last = s }
+
+by-quiet : (o : Object) (units : List ℕ) (n : ℕ) (s : System) → IsSound o units s → (s.live ≡ true → StepKeeps o units s (step s)) → (IsSound o units (step s).system → Confines o units (step s).system (run n (step s).system))
+    → (b : Bool) → is_quiet s ≡ b → Confines o units s (cond b (stopped s) (after (step s).shown (run n (step s).system)))
+unfolding stopped
+by-quiet o units n s h keeps next true e = (h, refl)
+by-quiet o units n s h keeps next false e =
+    let live : s.live ≡ true = lively s.live e in
+    let k : StepKeeps o units s (step s) = keeps live in
+    (h, record { live = live; shown = refl; confined = k.confined; faulted = k.faulted }, next k.sound)
+
 pub run-confined : StepLaw → RunLaw
-run-confined law o units zero s h = h
-run-confined law o units (suc n) s h = (h, λ q. let k = law o units s h (lively s.live q) in (k.confined, k.faulted, run-confined law o units n (step s).system k.sound))
+unfolding run stopped
+run-confined law o units zero s h = (h, refl)
+run-confined law o units (suc n) s h = by-quiet o units n s h (law o units s h) (λ k. run-confined law o units n (step s).system k) (is_quiet s) refl

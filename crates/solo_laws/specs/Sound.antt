@@ -1,5 +1,5 @@
 -- A system of one accepted application, what each of its records may be, and a run of it.
-use Rattle.std.specs.Prelude.{◌≡◌, ℕ, zero, suc, ◌+◌, ◌*◌, ◌<◌, ◌≤◌, ◌⊎◌, List, true, false, slice_index}
+use Rattle.std.specs.Prelude.{◌≡◌, ℕ, ◌<◌, ◌≤◌, ◌⊎◌, List, [], ◌∷◌, true, false, slice_index}
 use Rattle.std.specs.List.{AllByRecursion}
 use Rattle.object_form.specs.declared.object.Object.{Object}
 use Rattle.code_model.specs.Rules.{IsJumpEntry, IsCallEntry}
@@ -9,7 +9,7 @@ use Rattle.accepted_code.specs.Placed.{Domain, StandsIn, CodeStands}
 use Rattle.accepted_code.specs.Good.{IsGood}
 use Rattle.accepted_code.specs.Laws.{StepsAt}
 use Rattle.solo_model.specs.Booted.{region_end, stack_low, stack_top, idle_context}
-use Rattle.solo_model.specs.Running.{System, Record, Ran, StoreFault, Nothing, Next, is_quiet, is_fault, step}
+use Rattle.solo_model.specs.Running.{System, Record, Ran, StoreFault, Nothing, Next, is_fault, step, run}
 
 -- the application at its places: code from 6000 on, its region from 2000 on
 abbrev pub domain_of : Object → List ℕ → Domain
@@ -60,9 +60,19 @@ LeavesFaulted s next = is_fault next.shown ≡ true → IsFaulted s next.system
 
 -- ---- runs
 
--- each system of a run of at most so many steps is sound, and each record is confined by the system before it
+-- the next record of a run, and what it leaves
+pub record IsConfinedStep (o : Object) (units : List ℕ) (s : System) (r : Record) : Type 0 where
+  pub live : s.live ≡ true
+  pub shown : r ≡ (step s).shown
+  pub confined : IsConfined o units s r
+  pub faulted : LeavesFaulted s (step s)
+
+-- from a system on these are the records up to the last system. Each system is sound, and each record is confined by the
+-- system before it
+abbrev pub AreConfined : Object → List ℕ → System → List Record → System → Type 0
+AreConfined o units s [] last = IsSound o units s × (last ≡ s)
+AreConfined o units s (r ∷ rs) last = IsSound o units s × IsConfinedStep o units s r × AreConfined o units (step s).system rs last
+
+-- all of a run of at most so many steps
 abbrev pub AllConfined : Object → List ℕ → ℕ → System → Type 0
-AllConfined o units zero s = IsSound o units s
-AllConfined o units (suc n) s =
-    IsSound o units s
-    × (is_quiet s ≡ false → IsConfined o units s (step s).shown × LeavesFaulted s (step s) × AllConfined o units n (step s).system)
+AllConfined o units n s = AreConfined o units s (run n s).records (run n s).last
