@@ -1,5 +1,5 @@
 use crate::top::retos;
-use edge_io::lists::Calls;
+use edge_io::lists::{Bytes, Calls};
 use edge_io::mem_folder::MemFolder;
 use edge_io::mem_sink::MemSink;
 use edge_io::name::Name;
@@ -39,6 +39,13 @@ const UNGUARDED: [u8; 30] = [
 const PUSHES: [u8; 38] = [
     0x52, 0x45, 0x54, 0x4F, 1, 1, 9, 0, 0, 0, 0, 0, 0x10, 0, 1, 0, 0, 0, 0, 0, 5, 0x42, 0x11, 0x92,
     0, 2, 2, 0x2C, 0x30, 0x40, 2, 0xF0, 2, 0x45, 6, 0x12, 0xF7, 0x3F,
+];
+
+/// An application that emits 5 and exits, which isn't run yet.
+const EMITS: [u8; 62] = [
+    0x52, 0x45, 0x54, 0x4F, 1, 1, 0x15, 0, 0, 0, 0, 0, 0x10, 0, 1, 0, 0, 0, 0, 0, 0x3C, 0x40, 5, 0,
+    5, 0x42, 0x11, 0x92, 0, 2, 2, 0x2C, 0x30, 0x40, 2, 0xF0, 2, 0x45, 0xB0, 0x12, 0x24, 0xF0, 5,
+    0x42, 0x11, 0x92, 0, 2, 2, 0x2C, 0x30, 0x40, 2, 0xF0, 2, 0x45, 0xB0, 0x12, 8, 0xF0, 0xFF, 0x3F,
 ];
 
 /// A module that exports function 5.
@@ -124,6 +131,7 @@ fn all_files(alloc: Global, fail: &[u32]) -> Result<MemFolder, Fail> {
     add(&mut files, b"low.o", &STORE_BELOW)?;
     add(&mut files, b"u.o", &UNGUARDED)?;
     add(&mut files, b"p.o", &PUSHES)?;
+    add(&mut files, b"e.o", &EMITS)?;
     add(&mut files, b"m.o", &MODULE)?;
     add(&mut files, b"short.o", &GUARDED_STORE[..67])?;
     add(&mut files, b"empty.o", &[])?;
@@ -168,6 +176,12 @@ fn solo_runs_accepted_applications(rt: HostRuntime) -> Result<(), Fail> {
 #[test]
 fn what_is_refused_is_named(rt: HostRuntime) -> Result<(), Fail> {
     let cases = [
+        Case {
+            line: "solo e.o 9",
+            out: "",
+            err: "retos: e.o: not yet\n",
+            status: 1,
+        },
         Case {
             line: "solo p.o 9",
             out: "",
@@ -252,6 +266,12 @@ fn what_is_refused_is_named(rt: HostRuntime) -> Result<(), Fail> {
 fn check_prints_once_all_are_accepted(rt: HostRuntime) -> Result<(), Fail> {
     let cases = [
         Case {
+            line: "check e.o",
+            out: "e.o: accepted 21 words 4 units\n",
+            err: "",
+            status: 0,
+        },
+        Case {
             line: "check s.o p.o m.o",
             out: "s.o: accepted 18 words 3 units\np.o: accepted 9 words 2 units\nm.o: accepted 3 words 2 units\n",
             err: "",
@@ -316,4 +336,21 @@ fn a_refusal_that_cannot_be_written_is_a_write_fault(rt: HostRuntime) -> Result<
     assert_eq!(rt; status.number(), 4);
     assert_eq!(rt; err.bytes(), b"".as_slice());
     Ok(())
+}
+
+#[test]
+fn more_than_a_mebibyte_is_too_long(rt: HostRuntime) -> Result<(), Fail> {
+    let mut whole = Bytes::new(rt.alloc());
+    for _ in 0..1_048_577u32 {
+        whole.push(0)?;
+    }
+    let mut files = folder(rt.alloc(), &[])?;
+    add(&mut files, b"big.o", whole.as_slice())?;
+    let case = Case {
+        line: "check big.o",
+        out: "",
+        err: "retos: big.o: too long\n",
+        status: 1,
+    };
+    try_case(&rt, rt.alloc(), &mut files, &[], &case)
 }
