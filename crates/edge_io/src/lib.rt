@@ -8,6 +8,8 @@
 //! `StdSink` stand over files and standard streams, and tell no contents. The crate stands on `std` alone.
 #![tactic(auto)]
 
+mod bytes;
+mod calls;
 mod counts;
 pub mod folder;
 pub mod lists;
@@ -17,6 +19,8 @@ pub mod name;
 pub mod null_sink;
 pub mod sink;
 pub mod standard;
+mod std_folder;
+mod std_sink;
 #[cfg(test)]
 mod tests;
 pub mod whole;
