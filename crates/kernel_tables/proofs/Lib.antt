@@ -5,6 +5,7 @@ pub mod WordLemmas
 pub mod PieceLemmas
 pub mod QueueLemmas
 pub mod SystemLemmas
+pub mod RegisterLemmas
 pub mod QueueEdits
 pub mod ListLemmas
 pub mod OrderLemmas

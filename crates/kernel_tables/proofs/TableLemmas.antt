@@ -45,7 +45,7 @@ pub record Kept (before after : List ℕ) (k : Kernel) : Type 0 where
   pub ready_bytes : nth (tables after) 2 ≡ nth (tables before) 2
   pub sleepers_bytes : nth (tables after) 3 ≡ nth (tables before) 3
 
-total_sizes : (i : ℕ) → i < 12 → total (take i sizes) + get_or sizes i 0 ≤ 3584
+pub total_sizes : (i : ℕ) → i < 12 → total (take i sizes) + get_or sizes i 0 ≤ 3584
 total_sizes i h = (let all : get_or sizes i 0 + total (take i sizes) ≤ total sizes = total-get sizes i in omega arith)
 
 pub kept_row : {X : Type 0} (read : List ℕ → X) (write : X → List ℕ) (r n i : ℕ) (m : List ℕ) (put : List X → Kernel) (t a : ℕ) (x : X)
@@ -291,7 +291,7 @@ thread_rewritten bs h =
     let regs : length (take 16 (words_of bs)) ≡ 16 = length-take-le 16 (words_of bs) (omega arith) in
     (thread_back (thread_read bs) (record { regs = regs })).size
 
-thread_table : (m : List ℕ) → length m ≡ 65536 → IsTable thread_read thread_bytes 48 32 7 m (λ xs. record (kernel_of m) { threads = xs })
+pub thread_table : (m : List ℕ) → length m ≡ 65536 → IsTable thread_read thread_bytes 48 32 7 m (λ xs. record (kernel_of m) { threads = xs })
 unfolding tables kernel_in kernel_of
 thread_table m e = record {
   read_in = λ q. refl;
@@ -304,6 +304,11 @@ thread_table m e = record {
   sleepers_stay = λ q. refl;
   rewritten = thread_rewritten;
 }
+
+-- a row's bytes in its table are those at its address
+pub thread_piece : (m : List ℕ) (t : ℕ) → t < 32 → part (nth (tables m) 7) (48 * t) 48 ≡ part m (1056 + 48 * t) 48
+unfolding tables
+thread_piece m t h = part-part m 1056 1536 (48 * t) 48 (omega arith)
 
 pub thread_got : (m : List ℕ) (t : ℕ) → length m ≡ 65536 → t < 32 → thread_at (kernel_of m) t ≡ thread_read (part m (1056 + 48 * t) 48)
 unfolding kernel_of kernel_in tables

@@ -1,5 +1,5 @@
 -- Where the kernel's words lie.
-use Rattle.std.specs.Prelude.{ℕ}
+use Rattle.std.specs.Prelude.{ℕ, ◌+◌, ◌*◌}
 use Rattle.kernel_model.specs.declared.rows.SysWord.{SysWord}
 use Rattle.kernel_model.specs.declared.rows.SysWord.TheVariants.{CurLim, CurTop, Running, Module, Budget, Pending, TickLow, TickHigh}
 
@@ -12,3 +12,7 @@ place_of Budget = 0x0208
 place_of Pending = 0x020A
 place_of TickLow = 0x020C
 place_of TickHigh = 0x020E
+
+-- the address of register r in the row of the thread with identity t
+abbrev pub register_place : (t r : ℕ) → ℕ
+register_place t r = 0x0420 + 48 * t + 2 * r

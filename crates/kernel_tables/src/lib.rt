@@ -25,7 +25,7 @@ pub use emptying::clear;
 pub use kernel_model::rows::{AppRow, FnRow, ModuleRow, MutexRow, SysWord, ThreadRow};
 pub use order::queues_hold;
 pub use queues::{ready, ready_end, ready_front, ready_take, sleep_in, sleep_take, sleepers};
-pub use threads::{set_thread, thread};
+pub use threads::{set_register, set_thread, thread};
 pub use waiting::{cond, line, mutex, set_cond, set_line, set_mutex};
 pub use words::{get, put};
 

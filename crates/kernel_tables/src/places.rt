@@ -29,6 +29,8 @@ pub const TABLES_END: u16 = 0x1000;
 /// The interrupt vectors.
 pub const VECTORS: u16 = 0xFFE0;
 
+/// The bytes of a word.
+pub const WORD_BYTES: u16 = 2;
 /// The bytes of an application's row.
 pub const APP_ROW_BYTES: u16 = 16;
 /// The bytes of a module's row.

@@ -4,6 +4,9 @@ ghost use Rattle.std.specs.Prelude.{◌<◌, ◌≤◌, IsTrue, Contains};
 ghost use Rattle.kernel_model.specs.Layout.{kernel_of};
 ghost use Rattle.kernel_model.specs.Queues.{QueuesHold};
 
+mod filled;
+mod setters;
+
 use crate::order::{all_below, new_at};
 use crate::queues::place_of;
 use crate::*;
@@ -34,7 +37,7 @@ fn is_out(m: &FlatMem, t: u8) -> bool
 }
 
 /// Writes the row of a thread that stands in neither list. False where it does.
-fn put_row(m: &mut FlatMem, t: u8, row: &ThreadRow) -> bool {
+pub fn put_row(m: &mut FlatMem, t: u8, row: &ThreadRow) -> bool {
     let out = is_out(m, t);
     if out {
         set_thread(m, t, row);
@@ -44,14 +47,14 @@ fn put_row(m: &mut FlatMem, t: u8, row: &ThreadRow) -> bool {
 
 /// Where a thread goes.
 #[derive(Clone, Copy, Drop)]
-enum Place {
+pub enum Place {
     Front,
     End,
     Sleepers,
 }
 
 /// Puts a thread into a list. False where it stands in one, or has no priority.
-fn put_in(m: &mut FlatMem, t: u8, place: Place) -> bool {
+pub fn put_in(m: &mut FlatMem, t: u8, place: Place) -> bool {
     if !is_out(m, t) {
         return false;
     }
@@ -67,8 +70,7 @@ fn put_in(m: &mut FlatMem, t: u8, place: Place) -> bool {
 }
 
 /// Takes a thread out of the ready list. False where it isn't there.
-#[tactic(auto, using(crate::proofs::OrderLemmas::listed_at))]
-fn take(m: &mut FlatMem, t: u8) -> bool {
+pub fn take(m: &mut FlatMem, t: u8) -> bool {
     if !queues_hold(m) {
         return false;
     }
@@ -80,8 +82,21 @@ fn take(m: &mut FlatMem, t: u8) -> bool {
     true
 }
 
+/// Takes a thread out of the sleepers. False where it isn't there.
+pub fn wake(m: &mut FlatMem, t: u8) -> bool {
+    if !queues_hold(m) {
+        return false;
+    }
+    let list = sleepers(m);
+    if place_of(list.as_slice(), t) >= list.len() {
+        return false;
+    }
+    sleep_take(m, t);
+    true
+}
+
 /// Writes a mutex whose waiters are identities. False where they aren't.
-fn put_mutex(m: &mut FlatMem, a: u8, i: u8, row: &MutexRow) -> bool {
+pub fn put_mutex(m: &mut FlatMem, a: u8, i: u8, row: &MutexRow) -> bool {
     if a >= 8 || i >= 4 || !all_below(row.waiters.as_slice()) {
         return false;
     }
@@ -90,7 +105,7 @@ fn put_mutex(m: &mut FlatMem, a: u8, i: u8, row: &MutexRow) -> bool {
 }
 
 /// Writes a line's list of identities. False where they aren't.
-fn put_line(m: &mut FlatMem, n: u8, list: &ArrayVec<u8, 32>) -> bool {
+pub fn put_line(m: &mut FlatMem, n: u8, list: &ArrayVec<u8, 32>) -> bool {
     if n >= 14 || !all_below(list.as_slice()) {
         return false;
     }
@@ -99,7 +114,7 @@ fn put_line(m: &mut FlatMem, n: u8, list: &ArrayVec<u8, 32>) -> bool {
 }
 
 /// Some members.
-fn members<const N: usize>(some: &[u8]) -> ArrayVec<u8, N> {
+pub fn members<const N: usize>(some: &[u8]) -> ArrayVec<u8, N> {
     let mut list = ArrayVec::new();
     let _ = list.try_extend_from_slice(some);
     list

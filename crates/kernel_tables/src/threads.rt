@@ -1,15 +1,16 @@
 //! The threads' rows.
 
 ghost use Rattle.std.specs.Prelude.{◌≡◌, ◌+◌, ◌*◌, ◌%◌, ◌<◌, ◌≤◌, Contains, length};
-ghost use Rattle.flat_mem.specs.Bytes.{patch};
+ghost use Rattle.flat_mem.specs.Bytes.{patch, with_word};
 ghost use Rattle.kernel_model.specs.Bytes.{part};
 ghost use Rattle.kernel_model.specs.Kernel.{thread_at, with_thread};
-ghost use Rattle.kernel_model.specs.Words.{priority_of, wake_time};
+ghost use Rattle.kernel_model.specs.Words.{priority_of, wake_time, saved_register};
 ghost use Rattle.kernel_model.specs.Layout.{kernel_of, thread_bytes, thread_read};
 ghost use Rattle.kernel_model.specs.Queues.{Leaves, QueuesHold, wake_time_of};
+ghost use Rattle.kernel_tables.specs.Places.{register_place};
 
 use crate::pieces::{put_words, sixteen_words};
-use crate::places::{PRIORITY_AT, THREAD_ROW_BYTES, THREAD_ROWS};
+use crate::places::{PRIORITY_AT, THREAD_ROW_BYTES, THREAD_ROWS, WORD_BYTES};
 use flat_mem::FlatMem;
 use kernel_model::rows::ThreadRow;
 
@@ -35,6 +36,21 @@ pub fn set_thread(m: &mut FlatMem, t: u8, row: &ThreadRow)
 {
     m.is_flat();
     put_thread_row(m, THREAD_ROWS + THREAD_ROW_BYTES * t as u16, row);
+}
+
+/// Replaces one saved register in the row of the thread with identity t, t below 32 and r below 16. It writes that register's word
+/// and no other.
+pub fn set_register(m: &mut FlatMem, t: u8, r: u8, value: u16)
+    requires number { t < 32 }
+    requires register { r < 16 }
+    ensures leaves { Leaves m.old m.new (saved_register (kernel_of m.old) t r value) }
+    ensures word { m.new ≡ with_word m.old (register_place t r) value }
+{
+    m.is_flat();
+    m.set_word(
+        THREAD_ROWS + THREAD_ROW_BYTES * t as u16 + WORD_BYTES * r as u16,
+        value,
+    );
 }
 
 /// The priority in the row of the thread with identity t, t below 32.

@@ -13,7 +13,11 @@ pub mod lines;
 pub mod outcome;
 pub mod parse;
 pub mod report;
+#[cfg(test)]
+mod rows;
 pub mod running;
+#[cfg(test)]
+mod test_support;
 #[cfg(test)]
 mod tests;
 pub mod thin;
