@@ -4,3 +4,4 @@ pub mod FitLemmas
 pub mod OrderlyLemmas
 pub mod OutsideLemmas
 pub mod EmptyLemmas
+pub mod KeptLemmas

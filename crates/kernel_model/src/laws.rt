@@ -1,8 +1,8 @@
 //! What ties the layout to the kernel that is read back. Each law is a function that does nothing, and its contract is the law.
 
-ghost use Rattle.std.specs.Prelude.{◌≡◌, ℕ, ◌<◌, ◌≤◌, ◌⊎◌, List, length, slice_index, All};
+ghost use Rattle.std.specs.Prelude.{◌≡◌, ℕ, ◌+◌, ◌*◌, ◌<◌, ◌≤◌, ◌⊎◌, List, length, slice_index, slice_set, All};
 ghost use Rattle.kernel_model.specs.Kernel.{Kernel};
-ghost use Rattle.kernel_model.specs.Layout.{kernel_of, layout, table_bytes, outside, empty, Fits, IsLaidOut};
+ghost use Rattle.kernel_model.specs.Layout.{kernel_of, layout, tables, table_bytes, outside, empty, Fits, IsLaidOut};
 ghost use Rattle.kernel_model.specs.Queues.{QueuesHold};
 ghost use Rattle.kernel_model.specs.Orderly.{IsOrderly};
 
@@ -46,4 +46,16 @@ pub fn outside_bytes()
 #[tactic(auto, using(crate::proofs::EmptyLemmas::empty_orderly))]
 pub fn empty_is_orderly()
     ensures { IsOrderly empty }
+{}
+
+/// A byte written above the tables leaves them, and memories with the same tables have the same kernel.
+pub fn tables_stay()
+    ensures written { (m : List ℕ) (a v : ℕ) → 4096 ≤ a → tables (slice_set m a v) ≡ tables m }
+    ensures kernel { (m n : List ℕ) → tables n ≡ tables m → kernel_of n ≡ kernel_of m }
+{}
+
+/// The first two words of the tables are the current limit and the current top.
+pub fn limit_words()
+    ensures limit { (m : List ℕ) (k : Kernel) → table_bytes m ≡ layout k → slice_index m 512 + 256 * slice_index m 513 ≡ k.cur_lim }
+    ensures top { (m : List ℕ) (k : Kernel) → table_bytes m ≡ layout k → slice_index m 514 + 256 * slice_index m 515 ≡ k.cur_top }
 {}
