@@ -1,0 +1,4 @@
+pub mod Gaps
+pub mod Placing
+pub mod Marking
+pub mod Settled

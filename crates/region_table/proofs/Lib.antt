@@ -1,0 +1,5 @@
+pub mod BitLemmas
+pub mod ListLemmas
+pub mod TableLemmas
+pub mod PlaceLemmas
+pub mod SettledLemmas
