@@ -52,6 +52,7 @@ const SYSTEM: [SysWord; 8] = [
 
 // ---- a filled kernel: each word tells its table and its place there
 
+/// An application's row of words from this one on.
 pub fn app_from(first: u16) -> AppRow {
     AppRow {
         state: first,
@@ -65,6 +66,7 @@ pub fn app_from(first: u16) -> AppRow {
     }
 }
 
+/// A module's row of words from this one on.
 pub fn module_from(first: u16) -> ModuleRow {
     ModuleRow {
         state: first,
@@ -75,6 +77,7 @@ pub fn module_from(first: u16) -> ModuleRow {
     }
 }
 
+/// A function's row of words from this one on.
 pub fn function_from(first: u16) -> FnRow {
     FnRow {
         module: first,
@@ -82,6 +85,7 @@ pub fn function_from(first: u16) -> FnRow {
     }
 }
 
+/// A thread's row of words from this one on, with this priority.
 pub fn thread_from(first: u16, priority: u16) -> ThreadRow {
     let mut regs = [0; 16];
     for i in 0..16 {
@@ -151,6 +155,7 @@ fn fill_waiting(m: &mut FlatMem, a: u8) -> bool {
     true
 }
 
+/// Fills every table. False where a setter's condition isn't met.
 pub fn fill(m: &mut FlatMem) -> bool {
     clear(m);
     fill_rows(m);
@@ -270,6 +275,7 @@ fn add_queue(all: &mut Given, m: &FlatMem, table: Table) {
     }
 }
 
+/// What a table's getter gives.
 pub fn given(m: &FlatMem, table: Table) -> Given {
     let mut all = ArrayVec::new();
     match table {
