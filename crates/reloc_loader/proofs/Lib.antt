@@ -1,0 +1,9 @@
+mod Order
+mod Words
+mod Images
+mod Tables
+mod Filling
+mod Placed
+mod Settling
+mod RowLemmas
+mod Cleared

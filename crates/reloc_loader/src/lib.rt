@@ -1,0 +1,21 @@
+//! Loading an application: its places, its row, its marks, and the bytes of its code and of its region.
+//!
+//! It stands on places and marks (`region_table`), on the rows of the kernel (`kernel_tables`) and on the definitions of placed
+//! bytes (`image_model`). `load` answers the application's number, or the first cause that there is no room for it, and
+//! `specs/Loading.antt` says what it leaves. A relocation adds to its word, modulo 65,536: CODE the code's address, DATA and LO the
+//! region's, HI the address behind the region. Each byte is written once, and no call takes memory.
+//!
+//! `load` stands on memory that is settled, and leaves it so; memory that `clear` begins with is (`laws`).
+#![tactic(auto)]
+
+pub mod laws;
+mod loading;
+mod rows;
+mod sections;
+
+pub use loading::load;
+pub use object_form::marks::Marks;
+pub use region_table::{NoRoom, Regions};
+
+#[cfg(test)]
+mod tests;

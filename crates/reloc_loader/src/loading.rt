@@ -1,0 +1,118 @@
+//! Loading.
+
+ghost use Rattle.std.specs.Prelude.{◌≡◌, MatchResult, IfOk, OnErr, Err, Ok};
+ghost use Rattle.object_form.specs.declared.parts.Kind.TheVariants.{App};
+ghost use Rattle.code_model.specs.Verdicts.{IsAccepted};
+ghost use Rattle.kernel_model.specs.Kernel.{app_at, with_app};
+ghost use Rattle.kernel_model.specs.Layout.{kernel_of};
+ghost use Rattle.kernel_model.specs.Queues.{Leaves};
+ghost use Rattle.place_model.specs.declared.places.Regions.{Regions};
+ghost use Rattle.place_model.specs.Placing.{placing, placed_app};
+ghost use Rattle.place_model.specs.Settled.{IsSettled};
+ghost use Rattle.image_model.specs.Domains.{code_length, region_length};
+ghost use Rattle.reloc_loader.specs.Loading.{Loaded, HasImages, ArePlaces};
+
+use crate::rows::{code_bytes, put_rows, region_bytes};
+use crate::sections::{Section, put_section};
+use flat_mem::FlatMem;
+use image_model::{image_lengths, region_is_words};
+use kernel_model::laws::outside_bytes;
+use object_form::marks::Marks;
+use object_form::object::Object;
+use object_form::parts::Kind;
+use place_model::laws::{placings_are_lowest, placings_keep_settled};
+use region_table::{NoRoom, Regions, place, set_marks};
+
+/// Loads an application that was accepted with these marks, and answers its number, 0 to 7. Its row gets the places, the size of
+/// the static part, the stack's size and the number of threads; register R0 in the row of its thread 0 keeps the entry's address;
+/// the bits of its code become the marks; its code and its initialised bytes stand relocated, and the rest of its region is 0.
+/// Refusals, in the order slots, code, region, leave memory as it was. Memory is settled before and after: among ranges with even
+/// ends the lowest gaps are even too.
+pub fn load(m: &mut FlatMem, o: &Object, marks: &Marks) -> Result<u8, NoRoom>
+    requires app { (o.now).kind ≡ App }
+    requires accepted { IsAccepted o.now marks.now }
+    requires settled { IsSettled m.old }
+    ensures answer { MatchResult result
+        (λ n. (r : Regions) × (placing (kernel_of m.old) App (code_length o.now) (region_length o.now) ≡ Ok r) × (r.dom ≡ n) × Loaded m.old m.new o.now marks.now r)
+        (λ e. (placing (kernel_of m.old) App (code_length o.now) (region_length o.now) ≡ Err e) × (m.new ≡ m.old)) }
+    ensures keeps { IsSettled m.new }
+{
+    match loaded(m, o, marks) {
+        Err(cause) => Err(cause),
+        Ok(r) => Ok(r.dom),
+    }
+}
+
+/// Loads an application with any marks, and answers its places.
+pub fn loaded(m: &mut FlatMem, o: &Object, marks: &Marks) -> Result<Regions, NoRoom>
+    requires app { (o.now).kind ≡ App }
+    requires settled { IsSettled m.old }
+    ensures answer { result ≡ placing (kernel_of m.old) App (code_length o.now) (region_length o.now) }
+    ensures loaded { IfOk result (λ r. Loaded m.old m.new o.now marks.now r) }
+    ensures refused { OnErr result (m.new ≡ m.old) }
+    ensures keeps { IsSettled m.new }
+{
+    m.is_flat();
+    outside_bytes();
+    match place_app(m, o) {
+        Err(cause) => Err(cause),
+        Ok(r) => {
+            m.is_flat();
+            fill(m, o, marks, &r);
+            Ok(r)
+        }
+    }
+}
+
+/// Places an application: its row has the places, and nothing else.
+fn place_app(m: &mut FlatMem, o: &Object) -> Result<Regions, NoRoom>
+    requires app { (o.now).kind ≡ App }
+    requires settled { IsSettled m.old }
+    ensures answer { result ≡ placing (kernel_of m.old) App (code_length o.now) (region_length o.now) }
+    ensures places { IfOk result (λ r. ArePlaces o.now r) }
+    ensures row { IfOk result (λ r. Leaves m.old m.new (with_app (kernel_of m.old) r.dom (placed_app r))) }
+    ensures refused { OnErr result (m.new ≡ m.old) }
+    ensures keeps { IsSettled m.new }
+{
+    placings_are_lowest();
+    placings_keep_settled();
+    place(m, Kind::App, code_bytes(o), region_bytes(o))
+}
+
+/// Writes the rows, the marks, the code and the region of an application that is placed.
+fn fill(m: &mut FlatMem, o: &Object, marks: &Marks, r: &Regions)
+    requires app { (o.now).kind ≡ App }
+    requires places { ArePlaces o.now r.now }
+    ensures loaded { Loaded m.old m.new o.now marks.now r.now }
+    ensures keeps { app_at (kernel_of m.old) (r.now).dom ≡ placed_app r.now → IsSettled m.old → IsSettled m.new }
+{
+    m.is_flat();
+    outside_bytes();
+    put_rows(m, o, r);
+    m.is_flat();
+    set_marks(m, r, marks);
+    put_images(m, o, r);
+}
+
+/// Writes the code and the region.
+fn put_images(m: &mut FlatMem, o: &Object, r: &Regions)
+    requires { ArePlaces o.now r.now }
+    ensures images { HasImages m.old m.new o.now r.now }
+    ensures keeps { IsSettled m.old → IsSettled m.new }
+{
+    m.is_flat();
+    image_lengths();
+    region_is_words();
+    let code = Section {
+        in_code: true,
+        at: r.code_lo,
+        words: o.code.len(),
+    };
+    let next = put_section(m, o, r, &code, 0);
+    let region = Section {
+        in_code: false,
+        at: r.lo,
+        words: usize::from((r.hi - r.lo) / 2),
+    };
+    let _all = put_section(m, o, r, &region, next);
+}

@@ -1,0 +1,74 @@
+//! The lengths of an application's code and region, and its rows.
+
+ghost use Rattle.std.specs.Prelude.{◌≡◌, ◌%◌, ◌≤◌};
+ghost use Rattle.object_form.specs.declared.parts.Kind.TheVariants.{App};
+ghost use Rattle.code_model.specs.Rules.{static_size};
+ghost use Rattle.kernel_model.specs.Layout.{kernel_of};
+ghost use Rattle.kernel_model.specs.Queues.{Leaves};
+ghost use Rattle.kernel_model.specs.Kernel.{app_at};
+ghost use Rattle.place_model.specs.Placing.{placed_app};
+ghost use Rattle.place_model.specs.Settled.{IsSettled};
+ghost use Rattle.image_model.specs.Domains.{code_length, region_length};
+ghost use Rattle.reloc_loader.specs.Loading.{ArePlaces, loaded_kernel};
+
+use flat_mem::FlatMem;
+use kernel_tables::{AppRow, set_app, set_register};
+use object_form::object::Object;
+use region_table::Regions;
+
+/// The state of an application that hasn't ended.
+const LIVE: u16 = 1;
+/// How many threads an application may have: an identity is this times the application's number, plus the thread's.
+const THREADS_MAX: u8 = 4;
+/// The register that is the program counter.
+const PC: u8 = 0;
+
+/// The bytes of the code.
+pub fn code_bytes(o: &Object) -> u16
+    ensures size { result ≡ code_length o.now }
+    ensures least { 2 ≤ result }
+    ensures most { result ≤ 16384 }
+{
+    2 * o.code.len() as u16
+}
+
+/// The bytes of the static part, rounded up to even.
+pub fn static_bytes(o: &Object) -> u16
+    ensures size { result ≡ static_size o.now }
+    ensures most { result ≤ 16384 }
+{
+    (o.init.len() as u16 + o.zeroed + 1) / 2 * 2
+}
+
+/// The bytes of an application's region: the static part, and a stack for each thread.
+pub fn region_bytes(o: &Object) -> u32
+    requires { (o.now).kind ≡ App }
+    ensures size { result ≡ region_length o.now }
+    ensures even { result % 2 ≡ 0 }
+{
+    u32::from(static_bytes(o)) + u32::from(o.threads) * u32::from(o.stack)
+}
+
+/// Fills the application's row, and keeps the entry's address in the row of its thread 0.
+pub fn put_rows(m: &mut FlatMem, o: &Object, r: &Regions)
+    requires app { (o.now).kind ≡ App }
+    requires places { ArePlaces o.now r.now }
+    ensures leaves { Leaves m.old m.new (loaded_kernel (kernel_of m.old) o.now r.now) }
+    ensures keeps { app_at (kernel_of m.old) (r.now).dom ≡ placed_app r.now → IsSettled m.old → IsSettled m.new }
+{
+    set_app(
+        m,
+        r.dom,
+        &AppRow {
+            state: LIVE,
+            code_lo: r.code_lo,
+            code_hi: r.code_hi,
+            lo: r.lo,
+            hi: r.hi,
+            z: static_bytes(o),
+            stack: o.stack,
+            threads: u16::from(o.threads),
+        },
+    );
+    set_register(m, THREADS_MAX * r.dom, PC, r.code_lo + o.entry);
+}
