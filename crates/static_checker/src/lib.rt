@@ -17,7 +17,7 @@ mod guards;
 mod marking;
 mod operand_words;
 mod registers;
-mod relocs;
+pub mod relocs;
 mod rules;
 mod slots;
 pub mod spot;
