@@ -26,7 +26,8 @@ use Rattle.machine_model.specs.Memory.{word_at}
 use Rattle.machine_model.specs.Operands.{sum_of}
 use Rattle.machine_model.specs.Fetching.{words_from, IsFetched}
 use Rattle.machine_law.specs.Places.{GuardPlace, place_offset}
-use Rattle.accepted_code.specs.Placed.{Domain, IsWellPlaced, CodeStands, StandsIn, address, addend}
+use Rattle.image_model.specs.Domains.{Domain, addend}
+use Rattle.accepted_code.specs.Placed.{IsWellPlaced, CodeStands, StandsIn, address}
 use Rattle.accepted_code.specs.Good.{guard_of}
 use Rattle.accepted_code.proofs.Lines.{line, line_words, IsLine, SlotWord, Worded, begins-line}
 use Rattle.accepted_code.proofs.Runs.{fit-at, line-least, line-few, line-ends}

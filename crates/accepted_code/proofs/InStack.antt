@@ -21,7 +21,8 @@ use Rattle.machine_law.specs.Places.{GuardPlace, TakesAddress, AddsIndex, Compar
 use Rattle.machine_law.specs.Guarded.{IsQuiet, IsStore, PushLaw, CallLaw}
 use Rattle.machine_law.specs.Plain.{IsCalm, Plain, Tests, ToReg, ToData, SetsBits, ClearsBits, SetsConst, ClearsConst, ChangesReg, ChangesData}
 use Rattle.accepted_code.specs.Given.{CheckerLaws}
-use Rattle.accepted_code.specs.Placed.{Domain, StandsIn, address, bits}
+use Rattle.image_model.specs.Domains.{Domain}
+use Rattle.accepted_code.specs.Placed.{StandsIn, address, bits}
 use Rattle.accepted_code.specs.Good.{IsAtPlace, IsSomewhere, AtUnit, Within, Jumped, Called, bounds}
 use Rattle.accepted_code.specs.Laws.{Inside, StaysInStack, StackLaw, RegionLaw}
 use Rattle.accepted_code.proofs.Lines.{line, line_words, IsLine, load_of}

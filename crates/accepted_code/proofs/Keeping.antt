@@ -4,7 +4,8 @@ use Rattle.std.specs.List.{AllByRecursion}
 use Rattle.machine_model.specs.Memory.{word_at, put_all}
 use Rattle.machine_model.specs.Does.{does}
 use Rattle.machine_law.specs.Writes.{SamePart, Avoids, MemoryLaw, PartLaw, WordLaw}
-use Rattle.accepted_code.specs.Placed.{Domain, IsWellPlaced, address}
+use Rattle.image_model.specs.Domains.{Domain}
+use Rattle.accepted_code.specs.Placed.{IsWellPlaced, address}
 use Rattle.accepted_code.specs.Laws.{Inside}
 use Rattle.accepted_code.specs.Kept.{CodeLaw, CodeLeftLaw, PartLeftLaw, LimitsLeftLaw, StandsLeftLaw}
 

@@ -20,7 +20,8 @@ use Rattle.machine_model.specs.Fetching.{IsFetched}
 use Rattle.machine_law.specs.Steady.{IsSteady, AreBounds, Limits}
 use Rattle.machine_law.specs.Places.{GuardPlace, TakesAddress, AddsIndex, ComparesLow, JumpsIfLow, ComparesHigh, JumpsIfHigh, StoreFails, StoreRestores, ComparesLimit, JumpsIfRoom, GrowthFails, GrowthRestores, ComparesTop, JumpsIfFilled, PopFails, PopRestores, ComparesNewLow, JumpsIfNewLow, ComparesNewHigh, JumpsIfNewHigh, SpFails, SpRestores, Stores, Grows, Pops, SetsSp}
 use Rattle.machine_law.specs.Own.{GuardAt, IsGuardAt, IsOwn, GoesTo, Faults, Next, OwnLaw}
-use Rattle.accepted_code.specs.Placed.{Domain, IsWellPlaced, StandsIn, address, bits}
+use Rattle.image_model.specs.Domains.{Domain}
+use Rattle.accepted_code.specs.Placed.{IsWellPlaced, StandsIn, address, bits}
 use Rattle.accepted_code.specs.Good.{guard_of, IsAtPlace, Within, Jumped, bounds}
 use Rattle.accepted_code.specs.Laws.{Inside, Leads}
 use Rattle.accepted_code.proofs.Lines.{line, line_words, IsLine, load_src, load_src-takes}

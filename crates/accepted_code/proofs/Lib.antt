@@ -12,5 +12,4 @@ pub mod UnitSorts
 pub mod UnitLeading
 pub mod Steps
 pub mod Keeping
-pub mod Imaging
 pub mod InStack

@@ -14,7 +14,8 @@ use Rattle.machine_model.specs.Alu.{writes, changes}
 use Rattle.machine_model.specs.Does.{Effect}
 use Rattle.machine_law.specs.Guarded.{IsQuiet, Passes}
 use Rattle.machine_law.specs.Plain.{IsCalm, Goes}
-use Rattle.accepted_code.specs.Placed.{Domain, bits, address}
+use Rattle.image_model.specs.Domains.{Domain}
+use Rattle.accepted_code.specs.Placed.{bits, address}
 use Rattle.accepted_code.specs.Good.{AtUnit, bounds}
 use Rattle.accepted_code.specs.Laws.{Inside, Leads}
 use Rattle.accepted_code.proofs.Placing.{placed_src}

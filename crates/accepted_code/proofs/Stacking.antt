@@ -28,7 +28,8 @@ use Rattle.machine_law.specs.Steady.{IsSteady, Limits}
 use Rattle.machine_law.specs.Places.{Grows, Pops as pops_place, SetsSp}
 use Rattle.machine_law.specs.Guarded.{Passes, PushLaw, CallLaw, PopLaw, SpLaw}
 use Rattle.accepted_code.specs.Given.{CheckerLaws}
-use Rattle.accepted_code.specs.Placed.{Domain, StandsIn, address, bits}
+use Rattle.image_model.specs.Domains.{Domain}
+use Rattle.accepted_code.specs.Placed.{StandsIn, address, bits}
 use Rattle.accepted_code.specs.Good.{IsAtPlace, Called, bounds}
 use Rattle.accepted_code.specs.Laws.{Leads}
 use Rattle.accepted_code.proofs.Placing.{placed, placed_src, size-is, operand-word}

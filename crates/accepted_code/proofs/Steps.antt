@@ -12,7 +12,8 @@ use Rattle.machine_law.specs.Places.{TakesAddress, AddsIndex, ComparesLow, Jumps
 use Rattle.machine_law.specs.Own.{OwnLaw}
 use Rattle.machine_law.specs.Guarded.{StoreLaw, PushLaw, CallLaw, PopLaw, SpLaw}
 use Rattle.accepted_code.specs.Given.{CheckerLaws}
-use Rattle.accepted_code.specs.Placed.{Domain, StandsIn, address}
+use Rattle.image_model.specs.Domains.{Domain}
+use Rattle.accepted_code.specs.Placed.{StandsIn, address}
 use Rattle.accepted_code.specs.Good.{guard_of, IsSomewhere, AtUnit, Within, Jumped, Called, bounds}
 use Rattle.accepted_code.specs.Laws.{Leads, GuardLaw, UnitLaw, InstructionLaw, FetchLaw, StepsAt}
 use Rattle.accepted_code.proofs.Placing.{placed}

@@ -24,7 +24,8 @@ use Rattle.machine_law.specs.Steady.{IsSteady, Limits}
 use Rattle.machine_law.specs.Places.{Stores}
 use Rattle.machine_law.specs.Guarded.{IsStore, StoreLaw}
 use Rattle.accepted_code.specs.Given.{CheckerLaws}
-use Rattle.accepted_code.specs.Placed.{Domain, CodeStands, StandsIn, address, bits}
+use Rattle.image_model.specs.Domains.{Domain}
+use Rattle.accepted_code.specs.Placed.{CodeStands, StandsIn, address, bits}
 use Rattle.accepted_code.specs.Good.{IsAtPlace, bounds}
 use Rattle.accepted_code.specs.Laws.{Leads}
 use Rattle.accepted_code.proofs.Placing.{placed, size-is, operand-word}

@@ -30,7 +30,8 @@ use Rattle.machine_law.specs.Places.{TakesAddress, ComparesLimit, ComparesTop, C
 use Rattle.machine_law.specs.Plain as plain
 use Rattle.machine_law.specs.Plain.{Plain, Tests, ToReg, ToData, SetsBits, ClearsBits, SetsConst, ClearsConst, ChangesReg, ChangesData, PlainLaw, BranchLaw, JumpLaw, SaveLaw, Saves, Goes}
 use Rattle.accepted_code.specs.Given.{CheckerLaws}
-use Rattle.accepted_code.specs.Placed.{Domain, StandsIn, address, bits}
+use Rattle.image_model.specs.Domains.{Domain}
+use Rattle.accepted_code.specs.Placed.{StandsIn, address, bits}
 use Rattle.accepted_code.specs.Good.{IsSomewhere, Within, Jumped, bounds}
 use Rattle.accepted_code.specs.Laws.{Inside, Leads, UnitLaw}
 use Rattle.accepted_code.proofs.Lines.{save}

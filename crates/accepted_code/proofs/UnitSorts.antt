@@ -28,7 +28,8 @@ use Rattle.machine_model.specs.Alu.{writes}
 use Rattle.machine_law.specs.Plain.{IsCalm, Plain, Tests, ToReg, ToData, SetsBits, ClearsBits, SetsConst, ClearsConst, IsMask}
 use Rattle.machine_law.proofs.Masks.{mask-by_and}
 use Rattle.accepted_code.specs.Given.{CheckerLaws}
-use Rattle.accepted_code.specs.Placed.{Domain, StandsIn, CodeStands}
+use Rattle.image_model.specs.Domains.{Domain}
+use Rattle.accepted_code.specs.Placed.{StandsIn, CodeStands}
 use Rattle.accepted_code.proofs.Lines.{save}
 use Rattle.accepted_code.proofs.Placing.{placed, placed_src, size-is, operand-word}
 use Rattle.accepted_code.proofs.Guarding.{stands-first, own-first}

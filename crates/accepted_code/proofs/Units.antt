@@ -25,7 +25,8 @@ use Rattle.code_model.specs.Guards.{Guarded, Own, UnitStart, Changes}
 use Rattle.code_model.specs.Rules.{IsBranchTarget, IsJumpTarget, InStatic, Breaks, BreaksAt}
 use Rattle.machine_model.specs.Memory.{word_at}
 use Rattle.machine_law.specs.Plain.{Plain, ChangesReg, ChangesData}
-use Rattle.accepted_code.specs.Placed.{Domain, StandsIn, address}
+use Rattle.image_model.specs.Domains.{Domain}
+use Rattle.accepted_code.specs.Placed.{StandsIn, address}
 use Rattle.accepted_code.proofs.Placing.{placed, size-is, operand-word}
 use Rattle.accepted_code.proofs.Guarding.{stands-first, guarded-interior}
 use Rattle.checker_laws.proofs.Deciding.{stable, static-or-not}

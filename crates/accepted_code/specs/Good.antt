@@ -7,7 +7,8 @@ use Rattle.code_model.specs.Guards.{Guarded, UnitStart}
 use Rattle.code_model.specs.Rules.{IsJumpEntry, IsCallEntry}
 use Rattle.machine_law.specs.Steady.{IsStatus, IsSteady, Bounds}
 use Rattle.machine_law.specs.Places.{GuardPlace, TakesAddress, AddsIndex, ComparesLow, JumpsIfLow, ComparesHigh, JumpsIfHigh, StoreFails, StoreRestores, Stores, ComparesLimit, JumpsIfRoom, GrowthFails, GrowthRestores, Grows, ComparesTop, JumpsIfFilled, PopFails, PopRestores, Pops, ComparesNewLow, JumpsIfNewLow, ComparesNewHigh, JumpsIfNewHigh, SpFails, SpRestores, SetsSp, place_offset, keeps_status, place_fact}
-use Rattle.accepted_code.specs.Placed.{Domain, bits, address}
+use Rattle.image_model.specs.Domains.{Domain}
+use Rattle.accepted_code.specs.Placed.{bits, address}
 
 -- the guard that a place is of
 abbrev pub guard_of : GuardPlace → GuardKind

@@ -7,7 +7,8 @@ use Rattle.machine_model.specs.Context.{IsContext}
 use Rattle.machine_model.specs.Does.{does, memory_after}
 use Rattle.machine_law.specs.Steady.{Limits}
 use Rattle.machine_law.specs.Writes.{SamePart}
-use Rattle.accepted_code.specs.Placed.{Domain, IsWellPlaced, CodeStands, StandsIn}
+use Rattle.image_model.specs.Domains.{Domain}
+use Rattle.accepted_code.specs.Placed.{IsWellPlaced, CodeStands, StandsIn}
 use Rattle.accepted_code.specs.Laws.{Inside}
 
 -- code stands as long as its bytes are the same

@@ -11,7 +11,8 @@ use Rattle.code_model.specs.Rules.{IsPushOrCall, ReadsStack}
 use Rattle.code_model.specs.declared.guards.GuardKind.{GuardKind}
 use Rattle.machine_law.specs.Steady.{IsSteady, Limits}
 use Rattle.machine_law.specs.Places.{GuardPlace}
-use Rattle.accepted_code.specs.Placed.{Domain, bits, StandsIn, address}
+use Rattle.image_model.specs.Domains.{Domain}
+use Rattle.accepted_code.specs.Placed.{bits, StandsIn, address}
 use Rattle.accepted_code.specs.Good.{IsGood, IsAtPlace, guard_of, bounds}
 
 -- in the region or in the stack

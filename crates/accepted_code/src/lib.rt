@@ -8,7 +8,6 @@
 #![tactic(auto)]
 
 ghost use Rattle.accepted_code.specs.Given.{CheckerLaws};
-ghost use Rattle.accepted_code.specs.Image.{ImageLaw};
 ghost use Rattle.accepted_code.specs.Kept.{
   CodeLaw,
   CodeLeftLaw,
@@ -122,11 +121,6 @@ pub fn region_stays()
 /// A safe context that isn't at an entry stands at a start, and an instruction is fetched there.
 pub fn good_fetches()
     ensures { FetchLaw }
-{}
-
-/// Code whose bytes are its image stands: unrelocated words as they are, relocated ones plus what their kind adds.
-pub fn image_stands()
-    ensures { ImageLaw }
 {}
 
 /// Code stands as long as its bytes are the same.
