@@ -4,6 +4,7 @@ use Rattle.std.specs.declared.option.Option.{Option}
 use Rattle.edge_io.specs.Known.{Files, FolderState, SinkState, appended, GotPrefix, held}
 use Rattle.edge_io.specs.Causes.{Rose}
 use Rattle.object_form.specs.declared.object.Object.{Object}
+use Rattle.solo_model.specs.Booted.{IsBootMemory}
 use Rattle.solo_model.specs.Running.{System, run, booted, count_faults}
 use Rattle.solo_model.specs.Trace.{placement_line, run_text, trace_text}
 use Rattle.solo_run.proofs.Pieces.{GotBefore, appended_twice, more_than_none, before_cut}
@@ -24,19 +25,19 @@ use Rattle.retos_cli.proofs.Gathering.{lines_of}
 use Rattle.retos_cli.proofs.Told.{told_map, told_all}
 use Rattle.std.proofs.lemmas.List.{append-nil}
 
-pub booted_fresh : (o : Object) (s : System) → s ≡ booted o → s.steps ≡ 0
+pub booted_fresh : (o : Object) (m : List ℕ) (s : System) → s ≡ booted o m → s.steps ≡ 0
 unfolding booted
-booted_fresh o s e = ap (λ (x : System). x.steps) e
+booted_fresh o m s e = ap (λ (x : System). x.steps) e
 
-pub traced_cut : (o : Object) (steps : ℕ) (o0 o1 : SinkState) → Rose o0.faults o1.faults → GotPrefix o0.bytes o1.bytes (placement_line o) → Traced o steps o0 o1 WriteFault
+pub traced_cut : (o : Object) (b : List ℕ) (steps : ℕ) (o0 o1 : SinkState) → Rose o0.faults o1.faults → GotPrefix o0.bytes o1.bytes (placement_line o) → Traced o b steps o0 o1 WriteFault
 unfolding Traced trace_text
-traced_cut o steps o0 o1 r g = (
+traced_cut o b steps o0 o1 r g = (
   r,
   record {
     part = g.part;
-    rest = g.rest ++ run_text (run steps (booted o));
-    whole_is = sym (append_assoc g.part g.rest (run_text (run steps (booted o)))) ∙ ap (λ (t : List ℕ). t ++ run_text (run steps (booted o))) g.whole_is;
-    short = more_than_none g.rest (run_text (run steps (booted o))) g.short;
+    rest = g.rest ++ run_text (run steps (booted o b));
+    whole_is = sym (append_assoc g.part g.rest (run_text (run steps (booted o b)))) ∙ ap (λ (t : List ℕ). t ++ run_text (run steps (booted o b))) g.whole_is;
+    short = more_than_none g.rest (run_text (run steps (booted o b))) g.short;
     got = g.got;
   },
 )
@@ -44,42 +45,42 @@ traced_cut o steps o0 o1 r g = (
 later-rose : (a b c : ℕ) → a ≤ b → Rose b c → Rose a c
 later-rose a b c h r = omega (arith, h, r)
 
-traced-by : (o : Object) (steps : ℕ) (o0 m o1 : SinkState) (r : Outcome) → m.bytes ≡ appended o0.bytes (placement_line o) → o0.faults ≤ m.faults → RanOn (booted o) steps m o1 r → Traced o steps o0 o1 r
+traced-by : (o : Object) (b : List ℕ) (steps : ℕ) (o0 m o1 : SinkState) (r : Outcome) → m.bytes ≡ appended o0.bytes (placement_line o) → o0.faults ≤ m.faults → RanOn (booted o b) steps m o1 r → Traced o b steps o0 o1 r
 unfolding Traced trace_text
-traced-by o steps o0 m o1 (Done f) p l h = (h.0 ∙ ap (λ (x : Option (List ℕ)). appended x (run_text (run steps (booted o)))) p ∙ appended_twice o0.bytes (placement_line o) (run_text (run steps (booted o))), h.1)
-traced-by o steps o0 m o1 WriteFault p l h =
-    let whole : List ℕ = placement_line o ++ run_text (run steps (booted o)) in
-    let b : GotBefore o0.bytes m.bytes whole (run_text (run steps (booted o)) ++ []) = record { part = placement_line o; whole_is = ap (λ (t : List ℕ). placement_line o ++ t) (append-nil (run_text (run steps (booted o)))); got = p } in
-    (later-rose o0.faults m.faults o1.faults l h.0, before_cut o0.bytes m.bytes o1.bytes whole (run_text (run steps (booted o))) [] b h.1)
-traced-by o steps o0 m o1 BadWords p l h = absurd h
-traced-by o steps o0 m o1 (Stopped s) p l h = absurd h
+traced-by o b steps o0 m o1 (Done f) p l h = (h.0 ∙ ap (λ (x : Option (List ℕ)). appended x (run_text (run steps (booted o b)))) p ∙ appended_twice o0.bytes (placement_line o) (run_text (run steps (booted o b))), h.1)
+traced-by o b steps o0 m o1 WriteFault p l h =
+    let whole : List ℕ = placement_line o ++ run_text (run steps (booted o b)) in
+    let got : GotBefore o0.bytes m.bytes whole (run_text (run steps (booted o b)) ++ []) = record { part = placement_line o; whole_is = ap (λ (t : List ℕ). placement_line o ++ t) (append-nil (run_text (run steps (booted o b)))); got = p } in
+    (later-rose o0.faults m.faults o1.faults l h.0, before_cut o0.bytes m.bytes o1.bytes whole (run_text (run steps (booted o b))) [] got h.1)
+traced-by o b steps o0 m o1 BadWords p l h = absurd h
+traced-by o b steps o0 m o1 (Stopped s) p l h = absurd h
 
-pub traced_run : (o : Object) (steps : ℕ) (s : System) (o0 m o1 : SinkState) (r : Outcome) → s ≡ booted o → m.bytes ≡ appended o0.bytes (placement_line o) → o0.faults ≤ m.faults → RanOn s steps m o1 r → Traced o steps o0 o1 r
-traced_run o steps s o0 m o1 r e p l h = let P : System → Type 0 = λ x. RanOn x steps m o1 r in traced-by o steps o0 m o1 r p l (subst P e h)
+pub traced_run : (o : Object) (b : List ℕ) (steps : ℕ) (s : System) (o0 m o1 : SinkState) (r : Outcome) → s ≡ booted o b → m.bytes ≡ appended o0.bytes (placement_line o) → o0.faults ≤ m.faults → RanOn s steps m o1 r → Traced o b steps o0 o1 r
+traced_run o b steps s o0 m o1 r e p l h = let P : System → Type 0 = λ x. RanOn x steps m o1 r in traced-by o b steps o0 m o1 r p l (subst P e h)
 
 -- ---- the command `solo`
 
-solo-output : (m : Files) (name : List ℕ) (steps : ℕ) (o : Object) (units : List ℕ) (faulted : Bool) → Taken Runnable (held m name) o units → faulted ≡ nat_lt 0 (count_faults (run steps (booted o)).records)
-    → IsOutput (Solo name steps) m (record { out = trace_text o steps; faulted = faulted })
+solo-output : (m : Files) (name : List ℕ) (steps : ℕ) (o : Object) (units b : List ℕ) (faulted : Bool) → IsBootMemory o units b → Taken Runnable (held m name) o units → faulted ≡ nat_lt 0 (count_faults (run steps (booted o b)).records)
+    → IsOutput (Solo name steps) m (record { out = trace_text o b steps; faulted = faulted })
 unfolding IsOutput
-solo-output m name steps o units faulted t f = record { object = o; units = units; taken = t; trace = refl; faulted_is = f }
+solo-output m name steps o units b faulted k t f = record { object = o; units = units; taken = t; memory = b; boots = k; trace = refl; faulted_is = f }
 
-pub solo_ended : (f0 f1 : FolderState) (o0 o1 : SinkState) (name : List ℕ) (steps : ℕ) (o : Object) (units : List ℕ) (r : Outcome)
-    → Told f0.files (λ m. Taken Runnable (held m name) o units) → OnlyRead f0 f1 → Traced o steps o0 o1 r → Ended (Solo name steps) f0 f1 o0 o1 r
+pub solo_ended : (f0 f1 : FolderState) (o0 o1 : SinkState) (name : List ℕ) (steps : ℕ) (o : Object) (units b : List ℕ) (r : Outcome)
+    → IsBootMemory o units b → Told f0.files (λ m. Taken Runnable (held m name) o units) → OnlyRead f0 f1 → Traced o b steps o0 o1 r → Ended (Solo name steps) f0 f1 o0 o1 r
 unfolding Traced
-solo_ended f0 f1 o0 o1 name steps o units (Done f) t l h = record {
+solo_ended f0 f1 o0 o1 name steps o units b (Done f) k t l h = record {
   files = l.files;
   told = told_map f0.files (λ m. Taken Runnable (held m name) o units) (λ m. (out : List ℕ) × IsOutput (Solo name steps) m (record { out = out; faulted = f }) × (o1.bytes ≡ appended o0.bytes out))
-      (λ m e x. (trace_text o steps, solo-output m name steps o units f x h.1, h.0)) t;
+      (λ m e x. (trace_text o b steps, solo-output m name steps o units b f k x h.1, h.0)) t;
 }
-solo_ended f0 f1 o0 o1 name steps o units WriteFault t l h = record {
+solo_ended f0 f1 o0 o1 name steps o units b WriteFault k t l h = record {
   cause = h.0;
   files = l.files;
   told = told_map f0.files (λ m. Taken Runnable (held m name) o units) (λ m. (x : Output) × IsOutput (Solo name steps) m x × GotPrefix o0.bytes o1.bytes x.out)
-      (λ m e x. (record { out = trace_text o steps; faulted = nat_lt 0 (count_faults (run steps (booted o)).records) }, solo-output m name steps o units (nat_lt 0 (count_faults (run steps (booted o)).records)) x refl, h.1)) t;
+      (λ m e x. (record { out = trace_text o b steps; faulted = nat_lt 0 (count_faults (run steps (booted o b)).records) }, solo-output m name steps o units b (nat_lt 0 (count_faults (run steps (booted o b)).records)) k x refl, h.1)) t;
 }
-solo_ended f0 f1 o0 o1 name steps o units BadWords t l h = absurd h
-solo_ended f0 f1 o0 o1 name steps o units (Stopped s) t l h = absurd h
+solo_ended f0 f1 o0 o1 name steps o units b BadWords k t l h = absurd h
+solo_ended f0 f1 o0 o1 name steps o units b (Stopped s) k t l h = absurd h
 
 first-here : (m : Files) (i : Input) (r : Refused) → RefusesInput m i r → IsFirstRefused m (i ∷ []) r
 unfolding IsFirstRefused

@@ -14,6 +14,7 @@ use Rattle.retos_cli.specs.Lines.{words_line, write_line, memory_line, read_line
 use Rattle.retos_cli.specs.Meaning.{Answer, IsAnswer, IsRefusal, Output, IsDone, status_by, inputs, IsReached, Taken}
 use Rattle.retos_cli.specs.Ends.{Told}
 use Rattle.solo_model.specs.Running.{booted}
+use Rattle.solo_model.specs.Booted.{IsBootMemory}
 use Rattle.solo_laws.specs.Sound.{AllConfined}
 
 -- a call of the top: the command that its words are, and the folder, out and err before and after
@@ -136,12 +137,12 @@ NoCommandClause call given = call.command ≡ None → (given ≡ BadWords) ⊎ 
 
 -- ---- confinement
 
--- where the words run an application that is taken, each system of the run from boot is sound, and each record is confined by
+-- where the words run an application that is taken, each system of the run from its memory at boot is sound, and each record is confined by
 -- the system before it
 abbrev pub RunsConfined : Option Command → Files → Type 0
 RunsConfined None m = Unit {0}
 RunsConfined (Some (Check names)) m = Unit {0}
-RunsConfined (Some (Solo name steps)) m = (o : Object) (units : List ℕ) → Taken Runnable (held m name) o units → AllConfined o units steps (booted o)
+RunsConfined (Some (Solo name steps)) m = (o : Object) (units : List ℕ) → Taken Runnable (held m name) o units → (memory : List ℕ) → IsBootMemory o units memory → AllConfined o units steps (booted o memory)
 
 abbrev pub ConfinedClause : Call → Type 0
 ConfinedClause call = Told call.f0.files (RunsConfined call.command)

@@ -1,6 +1,6 @@
 pub mod Commands
 pub mod Lines
-pub mod Thin
+pub mod Entries
 pub mod Meaning
 pub mod Ends
 pub mod Clauses

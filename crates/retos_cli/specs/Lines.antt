@@ -6,7 +6,9 @@ use Rattle.object_form.specs.declared.object.Object.{Object}
 use Rattle.object_form.specs.declared.fault.FormKind.{FormKind}
 use Rattle.object_form.specs.declared.fault.FormKind.TheVariants as kinds
 use Rattle.retos_cli.specs.declared.outcome.Why.{Why}
-use Rattle.retos_cli.specs.declared.outcome.Why.TheVariants.{Absent, TooLong, Form, NotApplication, Check, NotYet}
+use Rattle.retos_cli.specs.declared.outcome.Why.TheVariants.{Absent, TooLong, Form, NotApplication, Check, NotYet, Room}
+use Rattle.place_model.specs.declared.places.NoRoom.{NoRoom}
+use Rattle.place_model.specs.declared.places.NoRoom.TheVariants as rooms
 use Rattle.retos_cli.specs.declared.outcome.Refused.{Refused}
 
 unfoldable pub words_line : List ℕ
@@ -34,6 +36,12 @@ form_word kinds.Place = codes "place"
 form_word kinds.Short = codes "short"
 form_word kinds.Trailing = codes "trailing"
 
+abbrev pub room_text : NoRoom → List ℕ
+room_text rooms.Slots = codes ": no room, slots"
+room_text (rooms.Code need gap) = codes ": no room, code, need " ++ decimal need ++ codes ", gap " ++ decimal gap
+room_text (rooms.Region need gap) = codes ": no room, region, need " ++ decimal need ++ codes ", gap " ++ decimal gap
+room_text (rooms.Taken number) = codes ": function " ++ decimal number ++ codes " taken"
+
 abbrev pub why_text : Why → List ℕ
 why_text Absent = codes ": absent"
 why_text TooLong = codes ": too long"
@@ -41,6 +49,7 @@ why_text (Form kind at) = codes ": form " ++ form_word kind ++ codes " at " ++ d
 why_text NotApplication = codes ": not an application"
 why_text (Check rule place) = codes ": check rule " ++ decimal rule ++ codes " at " ++ hex_word place
 why_text NotYet = codes ": not yet"
+why_text (Room cause) = room_text cause
 
 unfoldable pub refused_line : Refused → List ℕ
 refused_line r = name_line r.name (why_text r.why)

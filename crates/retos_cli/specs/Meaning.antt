@@ -1,5 +1,5 @@
 -- What a command refuses and what it gives, by its words and the files.
-use Rattle.std.specs.Prelude.{◌≡◌, ℕ, ◌<◌, ◌≤◌, ◌⊎◌, Bool, true, false, nat_lt, List, [], ◌∷◌, ◌++◌, length, map, Some, None, if◌then◌else◌}
+use Rattle.std.specs.Prelude.{◌≡◌, ℕ, ◌<◌, ◌≤◌, ◌⊎◌, Bool, true, false, nat_lt, List, [], ◌∷◌, ◌++◌, length, map, Some, None, Ok, Err, if◌then◌else◌}
 use Rattle.std.specs.declared.option.Option.{Option}
 use Rattle.edge_io.specs.Known.{Files, held}
 use Rattle.object_form.specs.declared.object.Object.{Object}
@@ -20,7 +20,9 @@ use Rattle.retos_cli.specs.declared.outcome.Refused.{Refused}
 use Rattle.retos_cli.specs.declared.outcome.Status.{Status}
 use Rattle.retos_cli.specs.declared.outcome.Status.TheVariants as status
 use Rattle.retos_cli.specs.Lines.{words_line, refused_line, accepted_line}
-use Rattle.retos_cli.specs.Thin.{IsThin}
+use Rattle.retos_cli.specs.Entries.{IsRunnable}
+use Rattle.place_model.specs.declared.places.NoRoom.{NoRoom}
+use Rattle.solo_model.specs.Booted.{alone, placing_alone, IsBootMemory}
 
 -- ---- one input
 
@@ -39,14 +41,29 @@ Suits Runnable o = o.kind ≡ kind.App
 -- what is asked behind it
 abbrev pub Runs : Form → Object → Type 0
 Runs Checked o = Unit {0}
-Runs Runnable o = IsThin o
+Runs Runnable o = IsRunnable o
+
+-- there is room for it, alone
+abbrev pub HasRoom : Form → Object → Type 0
+HasRoom Checked o = Unit {0}
+HasRoom Runnable o = placing_alone o ≡ Ok (alone o)
+
+-- there is none, and why
+abbrev pub LacksRoom : Form → Object → NoRoom → Type 0
+LacksRoom Checked o cause = ⊥
+LacksRoom Runnable o cause = placing_alone o ≡ Err cause
+
+-- the object is one that the command takes
+pub record IsFit (form : Form) (o : Object) (units : List ℕ) : Type 0 where
+  pub suits : Suits form o
+  pub accepted : IsAccepted o units
+  pub runs : Runs form o
+  pub room : HasRoom form o
 
 -- the input is an accepted object that the command takes
 pub record Taken (form : Form) (held : Option (List ℕ)) (o : Object) (units : List ℕ) : Type 0 where
   pub text : IsTextOf held o
-  pub suits : Suits form o
-  pub accepted : IsAccepted o units
-  pub runs : Runs form o
+  pub fit : IsFit form o units
 
 -- the input is refused for this
 unfoldable pub Refuses : Form → Option (List ℕ) → Why → Type 0
@@ -56,6 +73,7 @@ Refuses form held (why.Form k at) = (bytes : List ℕ) × (held ≡ Some bytes) 
 Refuses form held why.NotApplication = (o : Object) × IsTextOf held o × (Suits form o → ⊥)
 Refuses form held (why.Check rule place) = (o : Object) × IsTextOf held o × Suits form o × IsVerdict o (verdict.Refused rule place)
 Refuses form held why.NotYet = (o : Object) × (units : List ℕ) × IsTextOf held o × Suits form o × IsAccepted o units × (Runs form o → ⊥)
+Refuses form held (why.Room cause) = (o : Object) × (units : List ℕ) × IsTextOf held o × Suits form o × IsAccepted o units × Runs form o × LacksRoom form o cause
 
 -- ---- the inputs of a command
 
@@ -93,13 +111,15 @@ pub record Output : Type 0 where
   pub out : List ℕ
   pub faulted : Bool
 
--- the trace of an accepted application
+-- the trace of an accepted application, from memory at boot
 pub record IsSoloOutput (m : Files) (name : List ℕ) (steps : ℕ) (x : Output) : Type 0 where
   pub object : Object
   pub units : List ℕ
   pub taken : Taken Runnable (held m name) object units
-  pub trace : x.out ≡ trace_text object steps
-  pub faulted_is : x.faulted ≡ nat_lt 0 (count_faults (run steps (booted object)).records)
+  pub memory : List ℕ
+  pub boots : IsBootMemory object units memory
+  pub trace : x.out ≡ trace_text object memory steps
+  pub faulted_is : x.faulted ≡ nat_lt 0 (count_faults (run steps (booted object memory)).records)
 
 -- the line of an accepted object, and the lines of the others
 pub record IsAcceptedLine (m : Files) (name line : List ℕ) : Type 0 where

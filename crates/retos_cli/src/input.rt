@@ -1,15 +1,15 @@
 //! Taking an input: reading it, and the object of its text, checked.
 
-ghost use Rattle.std.specs.Prelude.{◌≡◌, ◌≤◌, ◌↔◌, length, IsTrue};
+ghost use Rattle.std.specs.Prelude.{◌≡◌, ◌≤◌, ◌↔◌, length, IsTrue, IfOk, MatchOption};
 ghost use Rattle.code_model.specs.Verdicts.{AllSpelled};
 ghost use Rattle.object_form.specs.Spelling.{object_bytes};
-ghost use Rattle.retos_cli.specs.Meaning.{Suits, Runs};
+ghost use Rattle.retos_cli.specs.Meaning.{Suits, Runs, HasRoom, LacksRoom, IsFit};
 ghost use Rattle.retos_cli.specs.Judging.{IsJudged};
 ghost use Rattle.retos_cli.specs.Ends.{InputEnds, OnlyRead};
 
+use super::entries::is_runnable;
 use super::form::Form;
 use super::outcome::{Refused, Stop, Why};
-use super::thin::is_thin;
 use edge_io::folder::Folder;
 use edge_io::name::Name;
 use edge_io::whole::{InputFault, read_all};
@@ -18,8 +18,17 @@ use object_form::marks::Marks;
 use object_form::object::Object;
 use object_form::parts::Kind;
 use object_form::reading::read_object;
+use place_model::places::NoRoom;
+use solo_model::laws::alone_is_placed;
+use solo_run::boot::region_stop;
 use static_checker::{Verdict, check};
 use std::alloc::Global;
+
+/// The first address of the data pool.
+const DATA_POOL_START: u16 = 0x2000;
+
+/// The bytes of the data pool.
+const DATA_POOL_BYTES: u32 = 16_384;
 
 /// Why a text isn't taken.
 #[derive(Drop)]
@@ -36,6 +45,7 @@ pub fn take<F: Folder>(
     form: Form,
 ) -> Result<(Object, Marks), Stop>
     ensures ends { InputEnds (F.state files.old) (F.state files.new) (record { name = name.now; form = form }) result }
+    ensures fit { IfOk result (λ x. IsFit form x.0 x.1) }
     ensures read { OnlyRead (F.state files.old) (F.state files.new) }
 {
     match read_all(alloc, files, name) {
@@ -74,7 +84,7 @@ fn judge(alloc: Global, text: &[u8], form: Form) -> Result<(Object, Marks), Judg
 }
 
 /// The object with its marks where it is taken, or why not.
-#[tactic(auto, using(crate::proofs::Judgments::refuses_unsuited, crate::proofs::Judgments::refuses_check, crate::proofs::Judgments::refuses_yet))]
+#[tactic(auto, using(crate::proofs::Judgments::refuses_unsuited, crate::proofs::Judgments::refuses_check, crate::proofs::Judgments::refuses_yet, crate::proofs::Judgments::refuses_room))]
 fn judge_object(object: Object, form: Form) -> Result<(Object, Marks), Judged>
     requires { length (object_bytes object) ≤ 1048576 }
     ensures { IsJudged form (object_bytes object) result }
@@ -85,10 +95,12 @@ fn judge_object(object: Object, form: Form) -> Result<(Object, Marks), Judged>
     match check(&object) {
         Verdict::Refused { rule, place } => Err(Judged::Refused(Why::Check { rule, place })),
         Verdict::Accepted(marks) => {
-            if runs(form, &object) {
-                Ok((object, marks))
-            } else {
-                Err(Judged::Refused(Why::NotYet))
+            if !runs(form, &object) {
+                return Err(Judged::Refused(Why::NotYet));
+            }
+            match lacking(form, &object) {
+                None => Ok((object, marks)),
+                Some(cause) => Err(Judged::Refused(Why::Room(cause))),
             }
         }
     }
@@ -114,6 +126,27 @@ fn runs(form: Form, o: &Object) -> bool
 {
     match form {
         Form::Checked => true,
-        Form::Runnable => is_thin(o),
+        Form::Runnable => is_runnable(o),
+    }
+}
+
+/// Why there is no room for the object, where it is to run. None where there is.
+fn lacking(form: Form, o: &Object) -> Option<NoRoom>
+    ensures { MatchOption result (HasRoom form o.now) (λ cause. LacksRoom form o.now cause) }
+{
+    alone_is_placed();
+    match form {
+        Form::Checked => None,
+        Form::Runnable => {
+            let need = (region_stop(o) - DATA_POOL_START) as u32;
+            if need <= DATA_POOL_BYTES {
+                None
+            } else {
+                Some(NoRoom::Region {
+                    need,
+                    gap: DATA_POOL_BYTES,
+                })
+            }
+        }
     }
 }

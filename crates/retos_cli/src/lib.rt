@@ -7,6 +7,7 @@
 pub mod checking;
 pub mod command;
 pub mod counted;
+pub mod entries;
 pub mod form;
 pub mod input;
 pub mod lines;
@@ -17,8 +18,9 @@ pub mod report;
 mod rows;
 pub mod running;
 #[cfg(test)]
+mod solo_rows;
+#[cfg(test)]
 mod test_support;
 #[cfg(test)]
 mod tests;
-pub mod thin;
 pub mod top;

@@ -1,13 +1,14 @@
 //! The lines on the error stream, and the line of an accepted object.
 
 ghost use Rattle.std.specs.Prelude.{◌≡◌, ◌+◌, ◌≤◌, ◌++◌, length, codes, decimal};
-ghost use Rattle.retos_cli.specs.Lines.{words_line, write_line, memory_line, read_line, refused_line, why_text, form_word};
+ghost use Rattle.retos_cli.specs.Lines.{words_line, write_line, memory_line, read_line, refused_line, room_text, why_text, form_word};
 ghost use Rattle.line_text.specs.Hexadecimal.{hex_word};
 
 use super::outcome::{Refused, Why};
 use edge_io::name::Name;
 use line_text::line::Line;
 use object_form::fault::FormKind;
+use place_model::places::NoRoom;
 
 /// A line of fixed words.
 fn fixed(text: &[u8]) -> Line
@@ -87,7 +88,7 @@ fn form_word(kind: FormKind) -> &'static [u8]
 fn push_why(line: &mut Line, why: &Why)
     requires { length line.old ≤ 262 }
     ensures why { line.new ≡ line.old ++ why_text why.now }
-    ensures size { length line.new ≤ 300 }
+    ensures size { length line.new ≤ 340 }
 {
     match why {
         Why::Absent => line.push_text(b": absent"),
@@ -96,13 +97,45 @@ fn push_why(line: &mut Line, why: &Why)
         Why::NotApplication => line.push_text(b": not an application"),
         Why::Check { rule, place } => push_check(line, *rule as u32, *place),
         Why::NotYet => line.push_text(b": not yet"),
+        Why::Room(cause) => push_room(line, cause),
     }
+}
+
+/// Appends why there is no room.
+fn push_room(line: &mut Line, cause: &NoRoom)
+    requires { length line.old ≤ 262 }
+    ensures text { line.new ≡ line.old ++ room_text cause.now }
+    ensures size { length line.new ≤ 340 }
+{
+    match cause {
+        NoRoom::Slots => line.push_text(b": no room, slots"),
+        NoRoom::Code { need, gap } => push_gap(line, b": no room, code, need ", *need, *gap),
+        NoRoom::Region { need, gap } => push_gap(line, b": no room, region, need ", *need, *gap),
+        NoRoom::Taken { number } => {
+            line.push_text(b": function ");
+            line.push_decimal(*number as u32);
+            line.push_text(b" taken");
+        }
+    }
+}
+
+/// Appends what is needed, and the longest gap.
+fn push_gap(line: &mut Line, text: &[u8], need: u32, gap: u32)
+    requires before { length line.old ≤ 262 }
+    requires short { length text.now ≤ 24 }
+    ensures text { line.new ≡ line.old ++ (text.now ++ decimal need ++ codes ", gap " ++ decimal gap) }
+    ensures size { length line.new ≤ 340 }
+{
+    line.push_text(text);
+    line.push_decimal(need);
+    line.push_text(b", gap ");
+    line.push_decimal(gap);
 }
 
 fn push_form(line: &mut Line, kind: FormKind, at: u32)
     requires { length line.old ≤ 262 }
     ensures text { line.new ≡ line.old ++ (codes ": form " ++ form_word kind ++ codes " at " ++ decimal at) }
-    ensures size { length line.new ≤ 300 }
+    ensures size { length line.new ≤ 340 }
 {
     line.push_text(b": form ");
     line.push_text(form_word(kind));
@@ -113,7 +146,7 @@ fn push_form(line: &mut Line, kind: FormKind, at: u32)
 fn push_check(line: &mut Line, rule: u32, place: u16)
     requires { length line.old ≤ 262 }
     ensures text { line.new ≡ line.old ++ (codes ": check rule " ++ decimal rule ++ codes " at " ++ hex_word place) }
-    ensures size { length line.new ≤ 300 }
+    ensures size { length line.new ≤ 340 }
 {
     line.push_text(b": check rule ");
     line.push_decimal(rule);

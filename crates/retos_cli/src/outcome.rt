@@ -5,6 +5,7 @@ ghost use Rattle.retos_cli.specs.Statuses.{status_number};
 
 use edge_io::name::Name;
 use object_form::fault::FormKind;
+use place_model::places::NoRoom;
 
 /// The status that the program ends with.
 #[derive(Clone, Copy, PartialEq, Eq, Debug, Drop)]
@@ -57,6 +58,8 @@ pub enum Why {
     Check { rule: u8, place: u16 },
     /// An application of a form that isn't run yet.
     NotYet,
+    /// There is no room for it.
+    Room(NoRoom),
 }
 
 /// An input that is refused.

@@ -35,7 +35,7 @@ fn check_answers_by_the_rules(rt: HostRuntime) -> Result<(), Fail> {
         add(
             &mut files,
             b"x.o",
-            application(rt.alloc(), code)?.as_slice(),
+            application(rt.alloc(), code, &[])?.as_slice(),
         )?;
         let case = Case {
             line: "check x.o",

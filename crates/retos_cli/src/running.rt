@@ -13,6 +13,7 @@ use edge_io::folder::Folder;
 use edge_io::name::Name;
 use edge_io::sink::Sink;
 use object_form::object::Object;
+use solo_model::laws::alone_is_placed;
 use solo_run::run::{print_placement, run_to_end};
 use solo_run::solo::Solo as Node;
 use std::alloc::Global;
@@ -28,8 +29,9 @@ pub fn run_solo<F: Folder, O: Sink>(
     requires { steps ≤ 10000000 }
     ensures { Ended (Solo name.now steps) (F.state files.old) (F.state files.new) (O.state out.old) (O.state out.new) result }
 {
+    alone_is_placed();
     match take(alloc, files, name, Form::Runnable) {
-        Ok((object, _units)) => match Node::boot(alloc, &object) {
+        Ok((object, marks)) => match Node::boot(alloc, &object, &marks) {
             Ok(solo) => trace(solo, &object, steps, out),
             Err(_) => Outcome::Stopped(Stop::NoMemory),
         },
@@ -39,9 +41,9 @@ pub fn run_solo<F: Folder, O: Sink>(
 
 /// Prints the trace of a booted application.
 fn trace<O: Sink>(solo: Node, o: &Object, steps: u32, out: &mut O) -> Outcome
-    requires booted { solo ≡ booted o.now }
+    requires booted { solo ≡ booted o.now solo.memory }
     requires bound { steps ≤ 10000000 }
-    ensures { Traced o.now steps (O.state out.old) (O.state out.new) result }
+    ensures { Traced o.now solo.memory steps (O.state out.old) (O.state out.new) result }
 {
     match print_placement(o, out) {
         Ok(()) => run_on(solo, steps, out),

@@ -37,7 +37,7 @@ pub const UNGUARDED: [u8; 30] = [
     0x84, 0x46, 0, 0, 0xFF, 0x3F,
 ];
 
-/// A guarded push, which isn't run yet.
+/// A guarded push, over and over.
 pub const PUSHES: [u8; 38] = [
     0x52, 0x45, 0x54, 0x4F, 1, 1, 9, 0, 0, 0, 0, 0, 0x10, 0, 1, 0, 0, 0, 0, 0, 5, 0x42, 0x11, 0x92,
     0, 2, 2, 0x2C, 0x30, 0x40, 2, 0xF0, 2, 0x45, 6, 0x12, 0xF7, 0x3F,
@@ -108,6 +108,7 @@ pub struct Case<'a> {
     pub status: u8,
 }
 
+/// Does what a case's words say, and tells where it comes to something else.
 pub fn try_case(
     rt: &impl Abort,
     alloc: Global,
@@ -140,13 +141,21 @@ pub fn all_files(alloc: Global, fail: &[u32]) -> Result<MemFolder, Fail> {
     Ok(files)
 }
 
-/// The text of an application of one thread with a stack of 16 bytes, entry 0, no static part and no relocation.
-pub fn application(alloc: Global, code: &[u16]) -> Result<Bytes, AllocError> {
+/// A relocation in code: its kind's number, and its offset.
+pub type CodeReloc = (u8, u16);
+
+/// The text of an application of one thread with a stack of 16 bytes, entry 0 and no static part.
+pub fn application(alloc: Global, code: &[u16], relocs: &[CodeReloc]) -> Result<Bytes, AllocError> {
     let mut text = Bytes::from_slice(alloc, b"RETO\x01\x01")?;
     push_word(&mut text, code.len() as u16)?;
-    text.extend_from_slice(&[0, 0, 0, 0, 0x10, 0, 1, 0, 0, 0, 0, 0])?;
+    text.extend_from_slice(&[0, 0, 0, 0, 0x10, 0, 1, 0, 0, 0])?;
+    push_word(&mut text, relocs.len() as u16)?;
     for word in code {
         push_word(&mut text, *word)?;
+    }
+    for (kind, offset) in relocs {
+        text.extend_from_slice(&[0, *kind])?;
+        push_word(&mut text, *offset)?;
     }
     Ok(text)
 }

@@ -48,12 +48,6 @@ fn what_is_refused_is_named(rt: HostRuntime) -> Result<(), Fail> {
             status: 1,
         },
         Case {
-            line: "solo p.o 9",
-            out: "",
-            err: "retos: p.o: not yet\n",
-            status: 1,
-        },
-        Case {
             line: "solo u.o 9",
             out: "",
             err: "retos: u.o: check rule 6 at 0004\n",

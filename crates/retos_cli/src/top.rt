@@ -16,6 +16,7 @@ use edge_io::folder::Folder;
 use edge_io::sink::Sink;
 use edge_io::words::Words;
 use solo_laws::booted_is_confined;
+use solo_model::laws::alone_is_placed;
 use std::alloc::Global;
 
 /// Does what the words say: reads and writes `files`, prints to `out`, and says on `err` why it doesn't. The status is what the
@@ -37,6 +38,7 @@ pub fn retos<F: Folder, O: Sink, E: Sink>(
     ensures confined { ConfinedClause (call_of F.state O.state E.state words.now files.old files.new out.old out.new err.old err.new) }
 {
     booted_is_confined();
+    alone_is_placed();
     let outcome = run(alloc, words, files, out);
     report(&outcome, err)
 }

@@ -11,7 +11,8 @@ use Rattle.object_form.specs.declared.parts.Kind.TheVariants.{App, Module}
 use Rattle.code_model.specs.Rules.{IsJumpEntry, IsCallEntry}
 use Rattle.machine_model.specs.Memory.{word_at, IsMemory, even}
 use Rattle.machine_model.specs.Context.{reg}
-use Rattle.accepted_code.specs.Placed.{Domain, StandsIn}
+use Rattle.image_model.specs.Domains.{Domain}
+use Rattle.accepted_code.specs.Placed.{StandsIn}
 use Rattle.accepted_code.specs.Good.{IsGood, IsSomewhere, AtUnit, Within, Jumped, Called, bounds}
 use Rattle.accepted_code.proofs.Runs.{place-start}
 use Rattle.solo_laws.specs.Sound.{AreEntries}

@@ -1,4 +1,4 @@
 pub mod Entries
 pub mod Stepping
-pub mod Memories
+pub mod Kernels
 pub mod Booting

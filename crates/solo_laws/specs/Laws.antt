@@ -3,7 +3,7 @@ use Rattle.std.specs.Prelude.{◌≡◌, ℕ, ◌≤◌, List, true}
 use Rattle.object_form.specs.declared.object.Object.{Object}
 use Rattle.object_form.specs.declared.parts.Kind.TheVariants.{App}
 use Rattle.code_model.specs.Verdicts.{IsAccepted}
-use Rattle.solo_model.specs.Booted.{region_end}
+use Rattle.solo_model.specs.Booted.{region_end, IsBootMemory}
 use Rattle.solo_model.specs.Running.{System, Next, step, booted}
 use Rattle.solo_laws.specs.Sound.{IsSound, IsConfined, LeavesFaulted, AllConfined}
 
@@ -19,10 +19,10 @@ StepLaw = (o : Object) (units : List ℕ) (s : System) → IsSound o units s →
 abbrev pub RunLaw : Type 0
 RunLaw = (o : Object) (units : List ℕ) (n : ℕ) (s : System) → IsSound o units s → AllConfined o units n s
 
--- an accepted application of one thread, whose region fits in the data pool, is sound at boot
+-- an accepted application whose region fits in the data pool is sound at boot
 abbrev pub BootLaw : Type 0
-BootLaw = (o : Object) (units : List ℕ) → o.kind ≡ App → o.threads ≡ 1 → region_end o ≤ 0x6000 → IsAccepted o units → IsSound o units (booted o)
+BootLaw = (o : Object) (units m : List ℕ) → o.kind ≡ App → region_end o ≤ 0x6000 → IsAccepted o units → IsBootMemory o units m → IsSound o units (booted o m)
 
 -- so its whole run is confined
 abbrev pub SoloLaw : Type 0
-SoloLaw = (o : Object) (units : List ℕ) (n : ℕ) → o.kind ≡ App → o.threads ≡ 1 → region_end o ≤ 0x6000 → IsAccepted o units → AllConfined o units n (booted o)
+SoloLaw = (o : Object) (units m : List ℕ) (n : ℕ) → o.kind ≡ App → region_end o ≤ 0x6000 → IsAccepted o units → IsBootMemory o units m → AllConfined o units n (booted o m)

@@ -1,23 +1,29 @@
 -- A system of one accepted application, what each of its records may be, and a run of it.
-use Rattle.std.specs.Prelude.{◌≡◌, ℕ, ◌<◌, ◌≤◌, ◌⊎◌, List, [], ◌∷◌, true, false, slice_index}
+use Rattle.std.specs.Prelude.{◌≡◌, ℕ, ◌+◌, ◌*◌, ◌<◌, ◌≤◌, ◌⊎◌, List, [], ◌∷◌, true, false, slice_index}
 use Rattle.std.specs.List.{AllByRecursion}
 use Rattle.object_form.specs.declared.object.Object.{Object}
 use Rattle.code_model.specs.Rules.{IsJumpEntry, IsCallEntry}
+use Rattle.machine_model.specs.Memory.{word_at}
 use Rattle.machine_model.specs.Context.{reg}
+use Rattle.machine_model.specs.Does.{does}
+use Rattle.kernel_model.specs.Layout.{kernel_of}
 use Rattle.machine_law.specs.Steady.{Limits}
-use Rattle.accepted_code.specs.Placed.{Domain, StandsIn, CodeStands}
+use Rattle.accepted_code.specs.Placed.{StandsIn, CodeStands}
 use Rattle.accepted_code.specs.Good.{IsGood}
-use Rattle.accepted_code.specs.Laws.{StepsAt}
-use Rattle.solo_model.specs.Booted.{region_end, stack_low, stack_top, idle_context}
-use Rattle.solo_model.specs.Running.{System, Record, Ran, StoreFault, Nothing, Next, is_fault, step, run}
-
--- the application at its places: code from 6000 on, its region from 2000 on
-abbrev pub domain_of : Object → List ℕ → Domain
-domain_of o units = record { object = o; units = units; code_lo = 0x6000; lo = 0x2000; hi = region_end o }
+use Rattle.accepted_code.specs.Laws.{StepsAt, StaysInStack}
+use Rattle.solo_model.specs.declared.fault.Fault.{Fault}
+use Rattle.solo_model.specs.declared.fault.FaultKind.{FaultKind}
+use Rattle.solo_model.specs.declared.fault.FaultKind.TheVariants.{Store, Stack}
+use Rattle.solo_model.specs.Booted.{domain_of, one_running, region_end, stack_low, stack_top, idle_context}
+use Rattle.solo_model.specs.Running.{System, Record, Ran, Faults, Nothing, Next, is_fault, step, run}
 
 -- the entries [F000, F080) hold no instruction
 abbrev pub AreEntries : List ℕ → Type 0
 AreEntries m = (k : ℕ) → 0xF000 ≤ k → k < 0xF080 → slice_index m k ≡ 0
+
+-- line n's vector is the address of its routine
+abbrev pub HasVectors : List ℕ → Type 0
+HasVectors m = (n : ℕ) → n < 14 → word_at m (0xFFE0 + 2 * n) ≡ 0xF080 + 2 * n
 
 -- one thread runs on a stack in the region, until nothing runs
 pub record IsSound (o : Object) (units : List ℕ) (s : System) : Type 0 where
@@ -27,6 +33,9 @@ pub record IsSound (o : Object) (units : List ℕ) (s : System) : Type 0 where
   pub limits : Limits s.memory (stack_low o) (stack_top o)
   pub within : stack_top o ≤ region_end o
   pub entries : AreEntries s.memory
+  pub vectors : HasVectors s.memory
+  -- the application's row is that of its places, and the thread's row says that it runs
+  pub kernel : kernel_of s.memory ≡ one_running o
   pub running : s.live ≡ true → IsGood (domain_of o units) (stack_low o) (stack_top o) s.context
   pub idle : s.live ≡ false → s.context ≡ idle_context
 
@@ -35,18 +44,25 @@ pub record IsSound (o : Object) (units : List ℕ) (s : System) : Type 0 where
 abbrev pub InRegion : Object → ℕ × ℕ → Type 0
 InRegion o w = (0x2000 ≤ w.0) × (w.0 < region_end o)
 
--- an instruction of the object, at a start, as its words stand in memory, and all that it wrote lies in the region
+-- an instruction of the object, at a start, as its words stand in memory. All that it wrote lies in the region, and what it
+-- pushed or popped lies in the thread's stack
 pub record IsOwnStep (o : Object) (units : List ℕ) (s : System) (pc word : ℕ) (written : List (ℕ × ℕ)) : Type 0 where
   pub at_pc : pc ≡ reg s.context 0
   pub place : StepsAt (domain_of o units) s.memory s.context
   pub code : CodeStands (domain_of o units) s.memory
   pub first : word ≡ slice_index o.code place.at
   pub inside : AllByRecursion (InRegion o) written
+  pub stack : StaysInStack (stack_low o) (stack_top o) s.context place.instr (does s.memory s.context place.instr place.words)
+
+-- the fault of the entry at PC, with the register that it shows
+abbrev pub IsFaultAt : List ℕ → FaultKind → (value : ℕ) → Type 0
+IsFaultAt c Store v = (reg c 0 ≡ 0xF000) × (v ≡ reg c 4)
+IsFaultAt c Stack v = (reg c 0 ≡ 0xF002) × (v ≡ reg c 1)
 
 -- a record is confined by the system before it. No instruction is spelled at the other entries alone
 abbrev pub IsConfined : Object → List ℕ → System → Record → Type 0
 IsConfined o units s (Ran n pc word written) = IsOwnStep o units s pc word written
-IsConfined o units s (StoreFault n value) = (reg s.context 0 ≡ 0xF000) × (value ≡ reg s.context 4)
+IsConfined o units s (Faults n f) = IsFaultAt s.context f.kind f.value
 IsConfined o units s (Nothing n pc) = (pc ≡ reg s.context 0) × (IsJumpEntry o.kind pc ⊎ IsCallEntry o.kind pc)
 
 -- memory is the same, and nothing runs

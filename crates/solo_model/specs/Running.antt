@@ -1,5 +1,5 @@
--- The run of one application alone: a plain machine, and the entry of the store fault.
-use Rattle.std.specs.Prelude.{ℕ, zero, suc, ◌+◌, ◌==◌, Bool, true, false, not, List, [], ◌∷◌, length, Option, None, Some, if◌then◌else◌}
+-- The run of one application alone: a plain machine, and the entries of the two faults.
+use Rattle.std.specs.Prelude.{◌≡◌, ℕ, zero, suc, ◌+◌, ◌==◌, Bool, true, false, not, List, [], ◌∷◌, length, Option, None, Some, if◌then◌else◌}
 use Rattle.msp_encode.specs.declared.instr.Instr.{Instr}
 use Rattle.machine_model.specs.Memory.{word_at, put_all}
 use Rattle.machine_model.specs.Context.{reg}
@@ -7,7 +7,10 @@ use Rattle.machine_model.specs.Operands.{sum_of}
 use Rattle.machine_model.specs.Does.{does}
 use Rattle.msp_decode.specs.Function.{reading}
 use Rattle.object_form.specs.declared.object.Object.{Object}
-use Rattle.solo_model.specs.Booted.{boot_memory, boot_context, idle_context}
+use Rattle.solo_model.specs.declared.fault.Fault.{Fault}
+use Rattle.solo_model.specs.declared.fault.FaultKind.{FaultKind}
+use Rattle.solo_model.specs.declared.fault.FaultKind.TheVariants.{Store, Stack}
+use Rattle.solo_model.specs.Booted.{boot_context, idle_context, IsBootMemory}
 
 -- memory, registers, whether the application is live, and how many steps were made
 pub record System : Type 0 where
@@ -16,28 +19,37 @@ pub record System : Type 0 where
   pub live : Bool
   pub steps : ℕ
 
+-- what an application reads and writes: all of memory, with the kernel's tables and the marks in their places
+abbrev pub seen : System → List ℕ
+seen s = s.memory
+
 -- what a step is recorded as
 pub data Record : Type 0 where
   -- an instruction: the step's number, PC, the first word and the bytes that were written
   Ran : (step pc word : ℕ) (writes : List (ℕ × ℕ)) → Record
-  -- a store fault, with R4
-  StoreFault : (step value : ℕ) → Record
+  -- a fault, which ends the application
+  Faults : (step : ℕ) (fault : Fault) → Record
   -- no instruction is spelled at PC
   Nothing : (step pc : ℕ) → Record
 
+abbrev pub fault_of : Record → Option Fault
+fault_of (Ran n pc w ws) = None
+fault_of (Faults n f) = Some f
+fault_of (Nothing n pc) = None
+
 abbrev pub is_fault : Record → Bool
 is_fault (Ran n pc w ws) = false
-is_fault (StoreFault n v) = true
+is_fault (Faults n f) = true
 is_fault (Nothing n pc) = false
 
--- R4 at a store fault
-abbrev pub fault_value : Record → Option ℕ
-fault_value (Ran n pc w ws) = None
-fault_value (StoreFault n v) = Some v
-fault_value (Nothing n pc) = None
+-- the system at boot, in a memory of boot
+unfoldable pub booted : Object → List ℕ → System
+booted o m = record { memory = m; context = boot_context o; live = true; steps = 0 }
 
-unfoldable pub booted : Object → System
-booted o = record { memory = boot_memory o; context = boot_context o; live = true; steps = 0 }
+-- the application was placed alone, and its thread 0 runs
+pub record IsBooted (o : Object) (units : List ℕ) (s : System) : Type 0 where
+  pub memory : IsBootMemory o units s.memory
+  pub system : s ≡ booted o s.memory
 
 -- the system after a step, and its record
 pub record Next : Type 0 where
@@ -45,10 +57,10 @@ pub record Next : Type 0 where
   pub shown : Record
 
 -- the application ends as faulted, and nothing runs
-abbrev pub fault_step : System → Next
-fault_step s = record {
+abbrev pub fault_step : System → Fault → Next
+fault_step s f = record {
   system = record { memory = s.memory; context = idle_context; live = false; steps = s.steps + 1 };
-  shown = StoreFault (s.steps + 1) (reg s.context 4);
+  shown = Faults (s.steps + 1) f;
 }
 
 -- the instruction at an address, and its length in words
@@ -61,15 +73,25 @@ instruction_step s None = record {
   shown = Nothing (s.steps + 1) (reg s.context 0);
 }
 instruction_step s (Some x) =
-    let e = does s.memory s.context x.0 x.1 in
+    let e = does (seen s) s.context x.0 x.1 in
     record {
       system = record { memory = put_all s.memory e.written; context = e.context; live = s.live; steps = s.steps + 1 };
-      shown = Ran (s.steps + 1) (reg s.context 0) (word_at s.memory (reg s.context 0)) e.written;
+      shown = Ran (s.steps + 1) (reg s.context 0) (word_at (seen s) (reg s.context 0)) e.written;
     }
 
--- F000 is the entry of the store fault
+-- F000 is the entry of the store fault, whose value is R4, and F002 that of the stack fault, whose value is SP
+unfoldable pub entered : List ℕ → Option Fault
+entered c =
+    if reg c 0 == 0xF000 then Some (record { kind = Store; value = reg c 4 })
+    else (if reg c 0 == 0xF002 then Some (record { kind = Stack; value = reg c 1 }) else None)
+
+abbrev pub step_by : System → Option Fault → Next
+step_by s (Some f) = fault_step s f
+step_by s None = instruction_step s (fetched (seen s) (reg s.context 0))
+
+-- a fault at an entry, or else the instruction at PC
 unfoldable pub step : System → Next
-step s = if reg s.context 0 == 0xF000 then fault_step s else instruction_step s (fetched s.memory (reg s.context 0))
+step s = step_by s (entered s.context)
 
 -- nothing runs, and nothing will
 abbrev pub is_quiet : System → Bool

@@ -2,20 +2,27 @@
 use Rattle.std.specs.Prelude.{ℕ, List, [], ◌∷◌, ◌++◌, length, codes, decimal, if◌then◌else◌}
 use Rattle.line_text.specs.Hexadecimal.{hex_word}
 use Rattle.object_form.specs.declared.object.Object.{Object}
+use Rattle.solo_model.specs.declared.fault.Fault.{Fault}
+use Rattle.solo_model.specs.declared.fault.FaultKind.{FaultKind}
+use Rattle.solo_model.specs.declared.fault.FaultKind.TheVariants.{Store, Stack}
 use Rattle.solo_model.specs.Booted.{code_end, region_end}
-use Rattle.solo_model.specs.Running.{Record, Ran, StoreFault, Nothing, System, Run, is_quiet, count_faults, booted, run}
+use Rattle.solo_model.specs.Running.{Record, Ran, Faults, Nothing, System, Run, is_quiet, count_faults, booted, run}
 
 -- where the application was placed
 unfoldable pub placement_line : Object → List ℕ
 placement_line o = codes "a0 6000 " ++ hex_word (code_end o) ++ codes " 2000 " ++ hex_word (region_end o) ++ 10 ∷ []
 
-unfoldable pub fault_line : ℕ → ℕ → List ℕ
-fault_line step value = decimal step ++ codes " a0.t0 fault store " ++ hex_word value ++ 10 ∷ []
+abbrev pub kind_text : FaultKind → List ℕ
+kind_text Store = codes " a0.t0 fault store "
+kind_text Stack = codes " a0.t0 fault stack "
+
+unfoldable pub fault_line : ℕ → Fault → List ℕ
+fault_line step f = decimal step ++ kind_text f.kind ++ hex_word f.value ++ 10 ∷ []
 
 -- the line of a record, if it has one
 abbrev pub record_text : Record → List ℕ
 record_text (Ran n pc w ws) = []
-record_text (StoreFault n v) = fault_line n v
+record_text (Faults n f) = fault_line n f
 record_text (Nothing n pc) = []
 
 abbrev pub records_text : List Record → List ℕ
@@ -32,5 +39,6 @@ end_line r = end_word r.last ++ decimal (length r.records) ++ codes " emits 0 fa
 unfoldable pub run_text : Run → List ℕ
 run_text r = records_text r.records ++ end_line r
 
-unfoldable pub trace_text : Object → ℕ → List ℕ
-trace_text o limit = placement_line o ++ run_text (run limit (booted o))
+-- the trace of a run of at most so many steps from a memory of boot
+unfoldable pub trace_text : Object → List ℕ → (limit : ℕ) → List ℕ
+trace_text o m limit = placement_line o ++ run_text (run limit (booted o m))

@@ -1,41 +1,53 @@
-//! Memory at boot.
+//! Memory at boot: the application placed alone, and its thread 0 running.
 
-ghost use Rattle.std.specs.Prelude.{◌≡◌, ◌≤◌, ◌+◌, ◌*◌, ◌<◌, length, IfOk};
-ghost use Rattle.object_form.specs.declared.parts.Reloc.{Reloc};
-ghost use Rattle.solo_model.specs.Booted.{blank, boot_memory, with_vectors, with_limits, put_words, relocated, relocated_by, reloc_address, addend, region_end};
+ghost use Rattle.std.specs.Prelude.{◌≡◌, ◌≤◌, [], length, IfOk};
 ghost use Rattle.code_model.specs.Rules.{static_size};
+ghost use Rattle.code_model.specs.Verdicts.{IsAccepted};
+ghost use Rattle.object_form.specs.declared.parts.Kind.TheVariants.{App};
+ghost use Rattle.kernel_model.specs.Layout.{kernel_of, empty};
+ghost use Rattle.kernel_model.specs.Queues.{Leaves, QueuesHold};
+ghost use Rattle.kernel_tables.specs.Clearing.{Cleared};
+ghost use Rattle.place_model.specs.Settled.{IsSettled};
+ghost use Rattle.image_model.specs.Domains.{region_length};
+ghost use Rattle.solo_model.specs.Booted.{IsBootMemory, alone, boot_context, fresh, region_end, stack_top, thread_row};
+ghost use Rattle.reloc_loader.specs.Loading.{Loaded};
+ghost use Rattle.solo_run.specs.Starting.{blank, started};
 
 use flat_mem::FlatMem;
+use kernel_model::laws::{laid_out_bytes, outside_bytes};
+use kernel_tables::{SysWord, ThreadRow, clear, put, set_thread};
+use msp_machine::Regs;
+use msp_machine::regs::{PC, SP, SR};
+use object_form::marks::Marks;
 use object_form::object::Object;
-use object_form::parts::{RelKind, Reloc};
+use reloc_loader::laws::cleared_is_settled;
+use reloc_loader::load;
+use solo_model::laws::alone_is_placed;
 use std::alloc::{AllocError, Global};
 
 /// The first address of the code pool.
 pub const CODE_POOL_START: u16 = 0x6000;
 
 /// The first address of the data pool.
-pub const DATA_POOL_START: u16 = 0x2000;
-
-/// The first address of the vectors.
-const VECTORS_START: u16 = 0xFFE0;
-
-/// The routine of line 0.
-const FIRST_ROUTINE: u16 = 0xF080;
-
-/// Where the word for the current limit stands.
-const CURRENT_LIMIT: u16 = 0x0200;
-
-/// Where the word for the current top stands.
-const CURRENT_TOP: u16 = 0x0202;
+const DATA_POOL_START: u16 = 0x2000;
 
 /// How far the limit is above the stack's lowest address.
 const LIMIT_MARGIN: u16 = 6;
 
-/// How many lines there are.
-const LINES: u16 = 14;
+/// The identity of thread 0 of application 0.
+const FIRST_THREAD: u8 = 0;
+
+/// A running thread's state.
+const RUNNING: u16 = 2;
+
+/// The priority that thread 0 begins with.
+const FIRST_PRIORITY: u16 = 3;
+
+/// GIE alone.
+const INTERRUPTS_ON: u16 = 8;
 
 /// The bytes of the static part, rounded up to even: at most 16,384.
-pub fn static_bytes(o: &Object) -> u16
+fn static_bytes(o: &Object) -> u16
     ensures size { result ≡ static_size o.now }
     ensures most { result ≤ 16384 }
 {
@@ -49,85 +61,121 @@ pub fn region_stop(o: &Object) -> u16
     DATA_POOL_START + static_bytes(o) + o.threads as u16 * o.stack
 }
 
-/// Memory with the object placed alone.
-pub fn placed(alloc: Global, o: &Object) -> Result<FlatMem, AllocError>
-    ensures { IfOk result (λ m. m ≡ boot_memory o.now) }
+/// The address behind the stack of thread 0.
+fn stack_stop(o: &Object) -> u16
+    ensures { result ≡ stack_top o.now }
 {
-    let mut memory = blank_memory(alloc)?;
-    put_vectors(&mut memory);
-    put_limits(&mut memory, o);
-    put_code(&mut memory, o.code.as_slice());
-    memory.copy_in(DATA_POOL_START, o.init.as_slice());
-    relocate(&mut memory, o);
-    Ok(memory)
+    DATA_POOL_START + static_bytes(o) + o.stack
+}
+
+/// All registers 0 but PC, SP and SR.
+pub fn fresh(pc: u16, sp: u16, sr: u16) -> Regs
+    ensures { result ≡ fresh pc sp sr }
+{
+    let mut regs = Regs::new();
+    regs.set(PC, pc);
+    regs.set(SP, sp);
+    regs.set(SR, sr);
+    regs
+}
+
+/// The registers that thread 0 begins with.
+#[tactic(auto, unfolding(solo_model::specs::Booted::boot_context))]
+pub fn first_regs(o: &Object) -> Regs
+    ensures { result ≡ boot_context o.now }
+{
+    fresh(CODE_POOL_START + o.entry, stack_stop(o), INTERRUPTS_ON)
+}
+
+/// The same registers, as a thread's row keeps them.
+#[tactic(auto, unfolding(solo_model::specs::Booted::boot_context, machine_model::specs::Context::set_reg))]
+fn first_words(o: &Object) -> [u16; 16]
+    ensures { result ≡ boot_context o.now }
+{
+    let pc = (CODE_POOL_START + o.entry) / 2 * 2;
+    let sp = stack_stop(o) / 2 * 2;
+    [pc, sp, INTERRUPTS_ON, 0, 0, 0, 0, 0, 0, 0, 0, 0, 0, 0, 0, 0]
+}
+
+/// Memory with an accepted application placed alone, whose thread 0 runs.
+pub fn booted_memory(alloc: Global, o: &Object, marks: &Marks) -> Result<FlatMem, AllocError>
+    requires app { o.now.kind ≡ App }
+    requires accepted { IsAccepted o.now marks.now }
+    requires room { region_length o.now ≤ 16384 }
+    ensures { IfOk result (λ m. IsBootMemory o.now marks.now m) }
+{
+    outside_bytes();
+    laid_out_bytes();
+    let mut m = blank_memory(alloc)?;
+    clear_all(&mut m);
+    place_alone(&mut m, o, marks);
+    start(&mut m, o);
+    m.is_flat();
+    Ok(m)
+}
+
+/// Writes the empty kernel and the vectors, in which nothing is placed.
+fn clear_all(m: &mut FlatMem)
+    ensures cleared { Cleared m.old m.new }
+    ensures settled { IsSettled m.new }
+{
+    cleared_is_settled();
+    clear(m);
 }
 
 /// Memory with all bytes 0.
-#[tactic(auto, unfolding(solo_model::specs::Booted::blank))]
+#[tactic(auto, unfolding(crate::specs::Starting::blank))]
 fn blank_memory(alloc: Global) -> Result<FlatMem, AllocError>
     ensures { IfOk result (λ m. m ≡ blank) }
 {
     FlatMem::new(alloc)
 }
 
-/// Each vector is the address of its line's routine.
-fn put_vectors(memory: &mut FlatMem)
-    ensures { memory.new ≡ with_vectors 14 memory.old }
+/// Places an accepted application in a memory with no other one.
+fn place_alone(m: &mut FlatMem, o: &Object, marks: &Marks)
+    requires app { o.now.kind ≡ App }
+    requires accepted { IsAccepted o.now marks.now }
+    requires room { region_length o.now ≤ 16384 }
+    requires settled { IsSettled m.old }
+    requires cleared { kernel_of m.old ≡ empty }
+    ensures loaded { Loaded m.old m.new o.now marks.now (alone o.now) }
+    ensures size { length m.new ≡ 65536 }
 {
-    for line in 0..LINES {
-        memory.set_word(VECTORS_START + 2 * line, FIRST_ROUTINE + 2 * line);
+    alone_is_placed();
+    match load(m, o, marks) {
+        Ok(_) => m.is_flat(),
+        Err(_) => unreachable!(),
     }
 }
 
-/// The words for the current limit and the current top are those of thread 0's stack.
-fn put_limits(memory: &mut FlatMem, o: &Object)
-    ensures { memory.new ≡ with_limits o.now memory.old }
+/// Makes thread 0 the running one.
+#[tactic(auto, unfolding(crate::specs::Starting::started))]
+fn start(m: &mut FlatMem, o: &Object)
+    requires queues { QueuesHold m.old }
+    requires lists { ((kernel_of m.old).ready ≡ []) × ((kernel_of m.old).sleepers ≡ []) }
+    ensures { Leaves m.old m.new (started o.now (kernel_of m.old)) }
 {
-    let low = DATA_POOL_START + static_bytes(o);
-    memory.set_word(CURRENT_LIMIT, low + LIMIT_MARGIN);
-    memory.set_word(CURRENT_TOP, low + o.stack);
+    set_thread(m, FIRST_THREAD, &first_row(o));
+    put(m, SysWord::Running, FIRST_THREAD as u16);
+    put(
+        m,
+        SysWord::CurLim,
+        DATA_POOL_START + static_bytes(o) + LIMIT_MARGIN,
+    );
+    put(m, SysWord::CurTop, stack_stop(o));
 }
 
-/// The code words from the code pool's start on.
-fn put_code(memory: &mut FlatMem, words: &[u16])
-    requires { length words.now ≤ 8192 }
-    ensures { memory.new ≡ put_words memory.old 0x6000 words.now }
+/// Thread 0's row, while it runs.
+fn first_row(o: &Object) -> ThreadRow
+    ensures { result ≡ thread_row o.now }
 {
-    for (at, word) in words.iter().enumerate() {
-        memory.set_word(CODE_POOL_START + 2 * at as u16, *word);
-    }
-}
-
-/// Each relocation adds to its word.
-fn relocate(memory: &mut FlatMem, o: &Object)
-    ensures { memory.new ≡ relocated o.now memory.old o.now.relocs }
-{
-    for reloc in o.relocs.as_slice() {
-        relocate_one(memory, o, reloc);
-    }
-}
-
-fn relocate_one(memory: &mut FlatMem, o: &Object, reloc: &Reloc)
-    requires { (reloc.now).offset ≤ 16384 }
-    ensures { memory.new ≡ relocated_by o.now memory.old reloc.now }
-{
-    let at = if reloc.in_code {
-        CODE_POOL_START + reloc.offset
-    } else {
-        DATA_POOL_START + reloc.offset
-    };
-    let sum = memory.word(at) as u32 + addend_of(o, reloc.kind) as u32;
-    memory.set_word(at, (sum % 0x10000) as u16);
-}
-
-/// What a relocation of this kind adds.
-fn addend_of(o: &Object, kind: RelKind) -> u16
-    ensures { result ≡ addend o.now kind }
-{
-    match kind {
-        RelKind::Code => CODE_POOL_START,
-        RelKind::Data => DATA_POOL_START,
-        RelKind::Lo => DATA_POOL_START,
-        RelKind::Hi => region_stop(o),
+    ThreadRow {
+        regs: first_words(o),
+        state: RUNNING,
+        priority: FIRST_PRIORITY,
+        wake_low: 0,
+        wake_high: 0,
+        object: 0,
+        mutex: 0,
     }
 }

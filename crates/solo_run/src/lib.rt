@@ -4,7 +4,7 @@
 //! crate defines.
 #![tactic(auto)]
 
-mod boot;
+pub mod boot;
 mod fetched;
 mod lines;
 pub mod run;

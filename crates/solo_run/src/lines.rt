@@ -8,6 +8,7 @@ ghost use Rattle.solo_model.specs.Booted.{code_end, region_end};
 use super::boot::{CODE_POOL_START, region_stop};
 use line_text::line::Line;
 use object_form::object::Object;
+use solo_model::fault::{Fault, FaultKind};
 
 /// Where the object was placed.
 #[tactic(auto, unfolding(solo_model::specs::Trace::placement_line))]
@@ -23,15 +24,18 @@ pub fn of_placement(o: &Object) -> Line
     line
 }
 
-/// A store fault of this step, with R4.
+/// A fault of this step.
 #[tactic(auto, unfolding(solo_model::specs::Trace::fault_line))]
-pub fn of_fault(step: u32, value: u16) -> Line
-    ensures { result ≡ fault_line step value }
+pub fn of_fault(step: u32, fault: &Fault) -> Line
+    ensures { result ≡ fault_line step fault.now }
 {
     let mut line = Line::new();
     line.push_decimal(step);
-    line.push_text(b" a0.t0 fault store ");
-    line.push_word(value);
+    line.push_text(match fault.kind {
+        FaultKind::Store => b" a0.t0 fault store ",
+        FaultKind::Stack => b" a0.t0 fault stack ",
+    });
+    line.push_word(fault.value);
     line.push(b'\n');
     line
 }

@@ -80,7 +80,7 @@ fn turn<S: Sink>(solo: &mut Solo, out: &mut S) -> Result<u32, SinkFault>
     ensures cause { HasCause (S.state out.old).faults (S.state out.new).faults result }
 {
     match solo.step() {
-        Some(value) => match write_all(out, of_fault(solo.steps(), value).as_slice()) {
+        Some(fault) => match write_all(out, of_fault(solo.steps(), &fault).as_slice()) {
             Ok(()) => Ok(1),
             Err(fault) => Err(fault),
         },

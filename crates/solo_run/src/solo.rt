@@ -1,21 +1,28 @@
 //! The node of one application.
 
-ghost use Rattle.std.specs.Prelude.{◌≡◌, ◌<◌, ◌-◌, ◌^◌, IfOk};
-ghost use Rattle.solo_model.specs.Running.{booted, step, fault_value};
-ghost use Rattle.solo_model.specs.Booted.{fresh};
+ghost use Rattle.std.specs.Prelude.{◌≡◌, ◌<◌, ◌≤◌, ◌-◌, ◌^◌, IfOk};
+ghost use Rattle.code_model.specs.Verdicts.{IsAccepted};
+ghost use Rattle.object_form.specs.declared.parts.Kind.TheVariants.{App};
+ghost use Rattle.image_model.specs.Domains.{region_length};
+ghost use Rattle.solo_model.specs.Running.{IsBooted, step, fault_of, entered};
 
-use super::boot::{CODE_POOL_START, DATA_POOL_START, placed, static_bytes};
+use super::boot::{booted_memory, first_regs, fresh};
 use super::fetched::instruction_at;
 use flat_mem::FlatMem;
 use msp_machine::Regs;
 use msp_machine::exec::exec;
-use msp_machine::regs::{PC, SP, SR};
+use msp_machine::regs::{PC, SP};
+use object_form::marks::Marks;
 use object_form::object::Object;
+use solo_model::fault::{Fault, FaultKind};
 use std::alloc::{AllocError, Global};
 use std::marker::Model;
 
 /// The entry of the store fault.
 const STORE_ENTRY: u16 = 0xF000;
+
+/// The entry of the stack fault.
+const STACK_ENTRY: u16 = 0xF002;
 
 /// PC while nothing runs.
 const IDLE: u16 = 0xF07E;
@@ -26,7 +33,7 @@ const KERNEL_STACK_END: u16 = 0x1100;
 /// GIE alone.
 const INTERRUPTS_ON: u16 = 8;
 
-/// The register that a guard tests.
+/// The register that the store guard tests.
 const CHECKED: u8 = 4;
 
 /// Memory, registers, whether the application is live and how many steps were made.
@@ -47,16 +54,18 @@ impl Model for Solo {
 }
 
 impl Solo {
-    /// The object placed alone, with thread 0 running.
-    #[tactic(auto, unfolding(solo_model::specs::Running::booted, solo_model::specs::Booted::boot_context))]
-    pub fn boot(alloc: Global, o: &Object) -> Result<Solo, AllocError>
-        ensures { IfOk result (λ s. s ≡ booted o.now) }
+    /// An accepted application placed alone, with thread 0 running. Its region has at most 16,384 bytes.
+    #[tactic(auto, unfolding(solo_model::specs::Running::booted))]
+    pub fn boot(alloc: Global, o: &Object, marks: &Marks) -> Result<Solo, AllocError>
+        requires app { o.now.kind ≡ App }
+        requires accepted { IsAccepted o.now marks.now }
+        requires room { region_length o.now ≤ 16384 }
+        ensures { IfOk result (λ s. IsBooted o.now marks.now s) }
     {
-        let memory = placed(alloc, o)?;
-        let stack_end = DATA_POOL_START + static_bytes(o) + o.stack;
+        let memory = booted_memory(alloc, o, marks)?;
         Ok(Solo {
             memory,
-            regs: fresh(CODE_POOL_START + o.entry, stack_end, INTERRUPTS_ON),
+            regs: first_regs(o),
             live: true,
             steps: 0,
         })
@@ -76,35 +85,43 @@ impl Solo {
         self.steps
     }
 
-    /// One step. Gives R4 where it is a store fault.
+    /// One step. Gives the fault where it is one.
     #[tactic(auto, unfolding(solo_model::specs::Running::step, solo_model::specs::Booted::idle_context))]
-    pub fn step(&mut self) -> Option<u16>
+    pub fn step(&mut self) -> Option<Fault>
         requires { self.old.steps < 2 ^ 32 - 1 }
         ensures next { self.new ≡ (step self.old).system }
-        ensures shown { result ≡ fault_value (step self.old).shown }
+        ensures shown { result ≡ fault_of (step self.old).shown }
     {
         self.steps += 1;
-        let pc = self.regs.get(PC);
-        if pc == STORE_ENTRY {
-            let value = self.regs.get(CHECKED);
+        if let Some(fault) = entered(&self.regs) {
             self.live = false;
             self.regs = fresh(IDLE, KERNEL_STACK_END, INTERRUPTS_ON);
-            return Some(value);
+            return Some(fault);
         }
-        if let Some((instr, len)) = instruction_at(&self.memory, pc) {
+        if let Some((instr, len)) = instruction_at(&self.memory, self.regs.get(PC)) {
             let _writes = exec(&mut self.memory, &mut self.regs, &instr, len);
         }
         None
     }
 }
 
-/// All registers 0 but PC, SP and SR.
-fn fresh(pc: u16, sp: u16, sr: u16) -> Regs
-    ensures { result ≡ fresh pc sp sr }
+/// The fault whose entry PC is at.
+#[tactic(auto, unfolding(solo_model::specs::Running::entered))]
+fn entered(regs: &Regs) -> Option<Fault>
+    ensures { result ≡ entered regs.now }
 {
-    let mut regs = Regs::new();
-    regs.set(PC, pc);
-    regs.set(SP, sp);
-    regs.set(SR, sr);
-    regs
+    let pc = regs.get(PC);
+    if pc == STORE_ENTRY {
+        return Some(Fault {
+            kind: FaultKind::Store,
+            value: regs.get(CHECKED),
+        });
+    }
+    if pc == STACK_ENTRY {
+        return Some(Fault {
+            kind: FaultKind::Stack,
+            value: regs.get(SP),
+        });
+    }
+    None
 }

@@ -1,0 +1,321 @@
+//! Worked rows of `solo`: the four guards at work, what an application reads, and what isn't run.
+
+use crate::test_support::{Case, CodeReloc, add, application, folder, try_case};
+use edge_io::lists::Bytes;
+use std::alloc::Global;
+use std::process::Abort;
+use std::str;
+use std::test::Fail;
+
+/// Relocations add the region's address and the address behind it.
+const LO: u8 = 3;
+
+const HI: u8 = 4;
+
+/// Runs an application, and tells where it differs from what is to stand on out.
+fn try_solo(
+    rt: &impl Abort,
+    alloc: Global,
+    text: &Bytes,
+    line: &str,
+    out: &str,
+    status: u8,
+) -> Result<(), Fail> {
+    let mut files = folder(alloc, &[])?;
+    add(&mut files, b"x.o", text.as_slice())?;
+    let case = Case {
+        line,
+        out,
+        err: "",
+        status,
+    };
+    try_case(rt, alloc, &mut files, &[], &case)
+}
+
+#[test]
+fn stack_guards_end_what_leaves_the_stack(rt: HostRuntime) -> Result<(), Fail> {
+    let pushes: &[u16] = &[
+        0x4205, 0x9211, 0x0200, 0x2C02, 0x4030, 0xF002, 0x4502, 0x1206, 0x3FF7,
+    ];
+    let pops: &[u16] = &[
+        0x4205, 0x9182, 0x0202, 0x2002, 0x4030, 0xF002, 0x4502, 0x4136, 0x3FFF,
+    ];
+    let rows = [
+        (
+            pushes,
+            "a0 6000 6012 2000 2010\n41 a0.t0 fault stack 2004\nend quiet 41 emits 0 faults 1\n",
+        ),
+        (
+            pops,
+            "a0 6000 6012 2000 2010\n5 a0.t0 fault stack 2010\nend quiet 5 emits 0 faults 1\n",
+        ),
+    ];
+    for (code, out) in rows {
+        let text = application(rt.alloc(), code, &[])?;
+        try_solo(&rt, rt.alloc(), &text, "solo x.o 100", out, 6)?;
+    }
+    Ok(())
+}
+
+#[test]
+fn sp_guard_tests_both_bounds(rt: HostRuntime) -> Result<(), Fail> {
+    let rows = [
+        (
+            0x0004,
+            "solo x.o 100",
+            "a0 6000 601C 2000 2010\n6 a0.t0 fault stack 2010\nend quiet 6 emits 0 faults 1\n",
+            6,
+        ),
+        (
+            0x0012,
+            "solo x.o 100",
+            "a0 6000 601C 2000 2010\n8 a0.t0 fault stack 2010\nend quiet 8 emits 0 faults 1\n",
+            6,
+        ),
+        (
+            0x0006,
+            "solo x.o 9",
+            "a0 6000 601C 2000 2010\nend limit 9 emits 0 faults 0\n",
+            0,
+        ),
+    ];
+    for (word, line, out, status) in rows {
+        let code = [
+            0x4034, word, 0x4205, 0x9214, 0x0200, 0x2803, 0x9482, 0x0202, 0x2C02, 0x4030, 0xF002,
+            0x4502, 0x4401, 0x3FFF,
+        ];
+        let text = application(rt.alloc(), &code, &[(LO, 0x0002)])?;
+        try_solo(&rt, rt.alloc(), &text, line, out, status)?;
+    }
+    Ok(())
+}
+
+/// A store behind a guard, of a word or of a byte: the word that R6 gets, X, and how many steps the run has.
+fn store(alloc: Global, address: u16, x: u16, instruction: u16) -> Result<Bytes, Fail> {
+    let code = [
+        0x4036,
+        address,
+        0x4205,
+        0x4604,
+        0x5034,
+        x,
+        0x9034,
+        0,
+        0x2803,
+        0x9034,
+        0,
+        0x2802,
+        0x4030,
+        0xF000,
+        0x4502,
+        instruction,
+        0,
+        0x3FFF,
+    ];
+    let relocs: [CodeReloc; 2] = [(LO, 0x000E), (HI, 0x0014)];
+    Ok(application(alloc, &code, &relocs)?)
+}
+
+#[test]
+fn stores_pass_in_the_region_alone(rt: HostRuntime) -> Result<(), Fail> {
+    let word = 0x4384;
+    let byte = 0x43C4;
+    let passes = "a0 6000 6024 2000 2010\nend limit 12 emits 0 faults 0\n";
+    let rows = [
+        (0x2000, 0, word, passes, 0),
+        (0x2001, 0, word, passes, 0),
+        (0x2001, 0, byte, passes, 0),
+        (0x200E, 0, word, passes, 0),
+        (0x200F, 0, word, passes, 0),
+        (0x200F, 0, byte, passes, 0),
+        (0xF000, 0x3000, word, passes, 0),
+        (
+            0x1FFF,
+            0,
+            word,
+            "a0 6000 6024 2000 2010\n8 a0.t0 fault store 1FFF\nend quiet 8 emits 0 faults 1\n",
+            6,
+        ),
+        (
+            0x1FFF,
+            0,
+            byte,
+            "a0 6000 6024 2000 2010\n8 a0.t0 fault store 1FFF\nend quiet 8 emits 0 faults 1\n",
+            6,
+        ),
+        (
+            0x2010,
+            0,
+            byte,
+            "a0 6000 6024 2000 2010\n10 a0.t0 fault store 2010\nend quiet 10 emits 0 faults 1\n",
+            6,
+        ),
+        (
+            0x0000,
+            0,
+            word,
+            "a0 6000 6024 2000 2010\n8 a0.t0 fault store 0000\nend quiet 8 emits 0 faults 1\n",
+            6,
+        ),
+        (
+            0x0200,
+            0,
+            word,
+            "a0 6000 6024 2000 2010\n8 a0.t0 fault store 0200\nend quiet 8 emits 0 faults 1\n",
+            6,
+        ),
+        (
+            0x1100,
+            0,
+            word,
+            "a0 6000 6024 2000 2010\n8 a0.t0 fault store 1100\nend quiet 8 emits 0 faults 1\n",
+            6,
+        ),
+        (
+            0x6000,
+            0,
+            word,
+            "a0 6000 6024 2000 2010\n10 a0.t0 fault store 6000\nend quiet 10 emits 0 faults 1\n",
+            6,
+        ),
+        (
+            0xFFE0,
+            0,
+            word,
+            "a0 6000 6024 2000 2010\n10 a0.t0 fault store FFE0\nend quiet 10 emits 0 faults 1\n",
+            6,
+        ),
+        (
+            0xF000,
+            0x3010,
+            word,
+            "a0 6000 6024 2000 2010\n10 a0.t0 fault store 2010\nend quiet 10 emits 0 faults 1\n",
+            6,
+        ),
+    ];
+    for (address, x, instruction, out, status) in rows {
+        let text = store(rt.alloc(), address, x, instruction)?;
+        try_solo(&rt, rt.alloc(), &text, "solo x.o 12", out, status)?;
+    }
+    Ok(())
+}
+
+#[test]
+fn an_application_reads_the_tables_of_one_running_thread(rt: HostRuntime) -> Result<(), Fail> {
+    // the word at the address, plus 1000, is shown by a store fault
+    let rows = [
+        (
+            0x0200,
+            "10 a0.t0 fault store 3006\nend quiet 10 emits 0 faults 1\n",
+        ),
+        (
+            0x0202,
+            "10 a0.t0 fault store 3010\nend quiet 10 emits 0 faults 1\n",
+        ),
+        (
+            0x0204,
+            "8 a0.t0 fault store 1000\nend quiet 8 emits 0 faults 1\n",
+        ),
+        (
+            0x0206,
+            "8 a0.t0 fault store 0FFF\nend quiet 8 emits 0 faults 1\n",
+        ),
+        (
+            0x0260,
+            "8 a0.t0 fault store 1001\nend quiet 8 emits 0 faults 1\n",
+        ),
+        (
+            0x0262,
+            "10 a0.t0 fault store 7000\nend quiet 10 emits 0 faults 1\n",
+        ),
+        (
+            0x0264,
+            "10 a0.t0 fault store 7024\nend quiet 10 emits 0 faults 1\n",
+        ),
+        (
+            0x0266,
+            "10 a0.t0 fault store 3000\nend quiet 10 emits 0 faults 1\n",
+        ),
+        (
+            0x0268,
+            "10 a0.t0 fault store 3010\nend quiet 10 emits 0 faults 1\n",
+        ),
+        (
+            0x0420,
+            "10 a0.t0 fault store 7000\nend quiet 10 emits 0 faults 1\n",
+        ),
+        (
+            0x0422,
+            "10 a0.t0 fault store 3010\nend quiet 10 emits 0 faults 1\n",
+        ),
+        (
+            0x0440,
+            "8 a0.t0 fault store 1002\nend quiet 8 emits 0 faults 1\n",
+        ),
+        (
+            0x0442,
+            "8 a0.t0 fault store 1003\nend quiet 8 emits 0 faults 1\n",
+        ),
+        (
+            0x1100,
+            "8 a0.t0 fault store 1005\nend quiet 8 emits 0 faults 1\n",
+        ),
+        (
+            0x1102,
+            "8 a0.t0 fault store 1002\nend quiet 8 emits 0 faults 1\n",
+        ),
+        (
+            0xFFE0,
+            "8 a0.t0 fault store 0080\nend quiet 8 emits 0 faults 1\n",
+        ),
+    ];
+    for (address, lines) in rows {
+        let code = [
+            0x4216, address, 0x4205, 0x4604, 0x5034, 0x1000, 0x9034, 0, 0x2803, 0x9034, 0, 0x2802,
+            0x4030, 0xF000, 0x4502, 0x4384, 0, 0x3FFF,
+        ];
+        let text = application(rt.alloc(), &code, &[(LO, 0x000E), (HI, 0x0014)])?;
+        let mut out = Bytes::from_slice(rt.alloc(), b"a0 6000 6024 2000 2010\n")?;
+        out.extend_from_slice(lines.as_bytes())?;
+        let out = str::from_utf8(out.as_slice()).ok().ok_or("a text")?;
+        try_solo(&rt, rt.alloc(), &text, "solo x.o 100", out, 6)?;
+    }
+    Ok(())
+}
+
+/// Initialised data holds the address of a guard's second word, and the code jumps there.
+const JUMPS_THROUGH_MEMORY: [u8; 56] = [
+    0x52, 0x45, 0x54, 0x4F, 1, 1, 0x0D, 0, 2, 0, 0, 0, 0x10, 0, 1, 0, 0, 0, 2, 0, // the head
+    0x14, 0x42, 0, 0, 0x30, 0x40, 4, 0xF0, 5, 0x42, 0x11, 0x92, 0, 2, 2, 0x2C, 0x30, 0x40, 2, 0xF0,
+    2, 0x45, 6, 0x12, 0xFF, 0x3F, // the code
+    0x0A, 0, // the initialised bytes
+    0, 2, 2, 0, 1, 1, 0, 0, // the relocations
+];
+
+/// A jump to itself with a static part of 16,384 bytes, which leaves no room for a stack.
+const NO_ROOM: [u8; 22] = [
+    0x52, 0x45, 0x54, 0x4F, 1, 1, 1, 0, 0, 0, 0, 0x40, 0x10, 0, 1, 0, 0, 0, 0, 0, 0xFF, 0x3F,
+];
+
+#[test]
+fn what_cannot_run_is_refused(rt: HostRuntime) -> Result<(), Fail> {
+    let rows: [(&[u8], &str); 2] = [
+        (&JUMPS_THROUGH_MEMORY, "retos: x.o: not yet\n"),
+        (
+            &NO_ROOM,
+            "retos: x.o: no room, region, need 16400, gap 16384\n",
+        ),
+    ];
+    for (text, err) in rows {
+        let mut files = folder(rt.alloc(), &[])?;
+        add(&mut files, b"x.o", text)?;
+        let case = Case {
+            line: "solo x.o 9",
+            out: "",
+            err,
+            status: 1,
+        };
+        try_case(&rt, rt.alloc(), &mut files, &[], &case)?;
+    }
+    Ok(())
+}
