@@ -1,0 +1,16 @@
+pub mod Lines
+pub mod Words
+pub mod Numbers
+pub mod Names
+pub mod Expressions
+pub mod Operands
+pub mod Mnemonics
+pub mod Instructions
+pub mod Drafts
+pub mod Directives
+pub mod FirstPass
+pub mod Spelled
+pub mod SecondPass
+pub mod Assembled
+pub mod Sound
+pub mod Laws
