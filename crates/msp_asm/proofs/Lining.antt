@@ -1,0 +1,16 @@
+-- Lines one by one.
+use Rattle.std.proofs.Common.{◌≡◌, ℕ, List, [], ◌∷◌, Option, Some, None, Bor, refl}
+use Rattle.std.specs.List.{slice_split}
+use Rattle.asm_text.specs.Lines.{is_line_feed, without_return, ended, lines_of}
+use Rattle.msp_asm.proofs.Listing.{first_part}
+
+-- a line that isn't the last was ended by LF
+pub ended_more : (line rest : List ℕ) → ended (line ∷ slice_split is_line_feed rest) ≡ without_return line ∷ ended (slice_split is_line_feed rest)
+ended_more line rest =
+    let f = first_part is_line_feed rest in
+    rw f.same refl
+
+-- the lines of what is left
+abbrev pub lines_left : Option (Bor (List ℕ)) → List (List ℕ)
+lines_left None = []
+lines_left (Some text) = lines_of text.now

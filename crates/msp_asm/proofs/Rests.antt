@@ -1,0 +1,14 @@
+-- What is left of a text that is cut part by part.
+use Rattle.std.proofs.Common.{ℕ, ◌+◌, List, [], length, map, Option, Some, None, Bor}
+use Rattle.std.specs.List.{slice_split}
+use Rattle.asm_text.specs.Words.{is_comma, trimmed}
+
+-- the parts of what is left
+abbrev pub parts_left : Option (Bor (List ℕ)) → List (List ℕ)
+parts_left None = []
+parts_left (Some text) = map trimmed (slice_split is_comma text.now)
+
+-- more than the length of what is left
+abbrev pub size_left : Option (Bor (List ℕ)) → ℕ
+size_left None = 0
+size_left (Some text) = length text.now + 1

@@ -1,0 +1,12 @@
+use Rattle.std.proofs.Common.{◌≡◌}
+use Rattle.std.specs.List.{list_all}
+use Rattle.asm_text.specs.Directives.{datum_of, datum_fits}
+use Rattle.msp_asm.specs.Parts.{parts_of}
+use Rattle.msp_asm.proofs.Rests.{parts_left, size_left}
+use Rattle.msp_asm.proofs.static_data.each_fits.Given as goal
+
+abbrev pub invariant-parts : goal.invariant-parts
+invariant-parts l = list_all (λ o. datum_fits (datum_of l.unit l.names o)) (parts_of l.rest) ≡ list_all (λ o. datum_fits (datum_of l.unit l.names o)) (parts_left l.next)
+
+abbrev pub decreases-parts : goal.decreases-parts
+decreases-parts l = size_left l.next

@@ -1,0 +1,9 @@
+-- What tests say of a source.
+use Rattle.std.specs.Prelude.{◌≡◌, ℕ, List, Result, Ok, Err}
+use Rattle.object_form.specs.Spelling.{Fields}
+use Rattle.asm_text.specs.FirstPass.{Fault}
+
+-- these are the code words
+abbrev pub HasCode : List ℕ → Result Fields Fault → Type 0
+HasCode words (Ok f) = f.code ≡ words
+HasCode words (Err f) = ⊥

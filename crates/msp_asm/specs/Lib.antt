@@ -1,0 +1,4 @@
+pub mod Classes
+pub mod Given
+pub mod Parts
+pub mod Answers

@@ -1,0 +1,255 @@
+//! What each directive does.
+
+ghost use Rattle.std.specs.Prelude.{◌≡◌, true, false, is_some, IfOk};
+ghost use Rattle.asm_text.specs.Drafts.{by_progress};
+ghost use Rattle.msp_asm.specs.Given.{HasSmallNumber};
+ghost use Rattle.asm_text.specs.Names.{is_taken, name_of, value_of};
+ghost use Rattle.asm_text.specs.Directives.{application, application_of, module_of, with_header, headed, only_header, number_named, named_by, equate, is_application, is_module, entry_by, entry_of, export_by, export_of, told, section_from, is_code, is_data, is_zero, space_by, space_of};
+
+use crate::bytes::is_empty;
+use crate::drafts::grow;
+use crate::instructions::label;
+use crate::names::{Names, has_form, name, taken};
+use crate::numbers::{between, fits, numeral, word as numeral_word};
+use crate::text::{rest as behind_word, word as first_word};
+use asm_text::expression::Numeral;
+use asm_text::fault::AsmKind;
+use asm_text::name::{Name, Value};
+use asm_text::piece::Piece;
+use asm_text::progress::{Header, Progress, Section};
+
+/// An application's header.
+fn application(stack: Option<Numeral>, threads: Option<Numeral>) -> Result<Header, AsmKind>
+    ensures { result ≡ application stack threads }
+{
+    let (Some(stack), Some(threads)) = (stack, threads) else {
+        return Err(AsmKind::BadDirective);
+    };
+    if between(16, 1024, stack) && stack.size % 2 == 0 && between(1, 4, threads) {
+        Ok(Header::App {
+            stack: stack.size as u16,
+            threads: threads.size as u8,
+        })
+    } else {
+        Err(AsmKind::NumberRange)
+    }
+}
+
+/// The header of `.app`.
+#[tactic(auto, unfolding(asm_text::specs::Directives::application_of))]
+pub(crate) fn app_header(rest: &[u8]) -> Result<Header, AsmKind>
+    ensures { result ≡ application_of rest.now }
+{
+    application(numeral(first_word(rest)), numeral(behind_word(rest)))
+}
+
+/// The header of `.module`.
+#[tactic(auto, unfolding(asm_text::specs::Directives::module_of))]
+pub(crate) fn module_header(rest: &[u8]) -> Result<Header, AsmKind>
+    ensures { result ≡ module_of rest.now }
+{
+    if is_empty(rest) {
+        Ok(Header::Module)
+    } else {
+        Err(AsmKind::BadDirective)
+    }
+}
+
+/// With a header, where there is none yet.
+pub(crate) fn head(p: Progress, header: Result<Header, AsmKind>) -> Result<Progress, AsmKind>
+    ensures { result ≡ only_header p p.header header }
+{
+    if p.header.is_some() {
+        return Err(AsmKind::BadDirective);
+    }
+    match header {
+        Err(kind) => Err(kind),
+        Ok(header) => Ok(Progress {
+            header: Some(header),
+            begun: p.begun,
+            section: p.section,
+            entered: p.entered,
+            least_export: p.least_export,
+            code: p.code,
+            initialised: p.initialised,
+            zeroed: p.zeroed,
+        }),
+    }
+}
+
+/// The number of a name.
+fn named_number(n: Option<Numeral>) -> Result<Value, AsmKind>
+    ensures { result ≡ number_named n }
+{
+    match n {
+        None => Err(AsmKind::BadDirective),
+        Some(n) if fits(n) => Ok(Value::Number(numeral_word(n))),
+        Some(_) => Err(AsmKind::NumberRange),
+    }
+}
+
+/// The name and the number of `.equ`, where it may stand.
+#[tactic(auto, unfolding(asm_text::specs::Directives::equate, asm_text::specs::Names::is_taken))]
+pub(crate) fn equated(names: &Names, allowed: bool, rest: &[u8]) -> Result<(Name, Value), AsmKind>
+    ensures value { result ≡ equate names.now allowed rest.now }
+    ensures new { IfOk result (λ entry. is_some (value_of names.now entry.0) ≡ false) }
+{
+    let word = first_word(rest);
+    if taken(names, word) {
+        return Err(AsmKind::DoubleLabel);
+    }
+    if !allowed || !has_form(word) {
+        return Err(AsmKind::BadDirective);
+    }
+    match named_number(numeral(behind_word(rest))) {
+        Err(kind) => Err(kind),
+        Ok(value) => Ok((name(word), value)),
+    }
+}
+
+/// Whether a header is an application's.
+fn of_application(header: Option<Header>) -> bool
+    ensures { result ≡ is_application header }
+{
+    matches!(header, Some(Header::App { .. }))
+}
+
+/// Whether a header is a module's.
+fn of_module(header: Option<Header>) -> bool
+    ensures { result ≡ is_module header }
+{
+    matches!(header, Some(Header::Module))
+}
+
+/// The entry of an application.
+#[tactic(auto, unfolding(asm_text::specs::Directives::entry_of))]
+pub(crate) fn entry(names: &Names, p: Progress, rest: &[u8]) -> Result<Piece, AsmKind>
+    ensures value { result ≡ entry_of names.now p rest.now }
+    ensures small { IfOk result HasSmallNumber }
+{
+    if !of_application(p.header) || p.entered {
+        return Err(AsmKind::BadDirective);
+    }
+    match label(names, rest) {
+        None => Err(AsmKind::BadDirective),
+        Some(label) => Ok(Piece::Entry(label)),
+    }
+}
+
+/// An export's number and label.
+fn exported(least: u8, number: Option<Numeral>, label: Option<Name>) -> Result<Piece, AsmKind>
+    ensures value { result ≡ export_by least number label }
+    ensures small { IfOk result HasSmallNumber }
+{
+    let (Some(number), Some(label)) = (number, label) else {
+        return Err(AsmKind::BadDirective);
+    };
+    if between(least as u32, 63, number) {
+        Ok(Piece::Export {
+            number: number.size as u8,
+            label,
+        })
+    } else {
+        Err(AsmKind::NumberRange)
+    }
+}
+
+/// An export of a module.
+#[tactic(auto, unfolding(asm_text::specs::Directives::export_of))]
+pub(crate) fn export(names: &Names, p: Progress, rest: &[u8]) -> Result<Piece, AsmKind>
+    ensures value { result ≡ export_of names.now p rest.now }
+    ensures small { IfOk result HasSmallNumber }
+{
+    if !of_module(p.header) {
+        return Err(AsmKind::BadDirective);
+    }
+    exported(
+        p.least_export,
+        numeral(first_word(rest)),
+        label(names, behind_word(rest)),
+    )
+}
+
+/// With so much told beside the header and the sizes.
+fn tell_by(p: Progress, section: Section, entered: bool, least_export: u8) -> Progress
+    ensures { result ≡ by_progress p true section entered least_export p.code p.initialised p.zeroed }
+{
+    Progress {
+        header: p.header,
+        begun: true,
+        section,
+        entered,
+        least_export,
+        code: p.code,
+        initialised: p.initialised,
+        zeroed: p.zeroed,
+    }
+}
+
+/// With the entry or an export told.
+pub(crate) fn tell(p: Progress, piece: &Piece) -> Progress
+    requires { HasSmallNumber piece.now }
+    ensures { result ≡ told p piece.now }
+{
+    match piece {
+        Piece::Entry(_) => tell_by(p, p.section, true, p.least_export),
+        Piece::Export { number, .. } => tell_by(p, p.section, p.entered, *number + 1),
+        _ => p,
+    }
+}
+
+/// In a section from here on.
+#[tactic(auto, unfolding(asm_text::specs::Directives::section_from))]
+pub(crate) fn enter(p: Progress, section: Section, rest: &[u8]) -> Result<Progress, AsmKind>
+    ensures { result ≡ section_from p section rest.now }
+{
+    if p.header.is_some() && is_empty(rest) {
+        Ok(tell_by(p, section, p.entered, p.least_export))
+    } else {
+        Err(AsmKind::BadDirective)
+    }
+}
+
+/// Whether a section is the code's.
+pub(crate) fn in_code(section: Section) -> bool
+    ensures { result ≡ is_code section }
+{
+    matches!(section, Section::Code)
+}
+
+/// Whether a section is that of initialised bytes.
+pub(crate) fn in_data(section: Section) -> bool
+    ensures { result ≡ is_data section }
+{
+    matches!(section, Section::Data)
+}
+
+/// Whether a section is that of zeroed bytes.
+fn in_zero(section: Section) -> bool
+    ensures { result ≡ is_zero section }
+{
+    matches!(section, Section::Zero)
+}
+
+/// With so many zeroed bytes.
+fn spaced(p: Progress, n: Option<Numeral>) -> Result<Progress, AsmKind>
+    ensures { result ≡ space_by p n }
+{
+    match n {
+        None => Err(AsmKind::BadDirective),
+        Some(n) if between(0, 16384, n) => grow(p, 0, 0, n.size),
+        Some(_) => Err(AsmKind::NumberRange),
+    }
+}
+
+/// With zeroed bytes, where they may stand.
+#[tactic(auto, unfolding(asm_text::specs::Directives::space_of))]
+pub(crate) fn space(p: Progress, rest: &[u8]) -> Result<Progress, AsmKind>
+    ensures { result ≡ space_of p rest.now }
+{
+    if in_zero(p.section) {
+        spaced(p, numeral(rest))
+    } else {
+        Err(AsmKind::BadDirective)
+    }
+}

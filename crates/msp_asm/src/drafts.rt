@@ -1,0 +1,183 @@
+//! What the first pass collects.
+
+ghost use Rattle.std.specs.Prelude.{◌≡◌, ◌+◌, ◌<◌, ◌≤◌, ◌++◌, [], ◌∷◌, length, ◌*◌, OnOk};
+ghost use Rattle.msp_encode.specs.Spelling.{words_after, src_words, dst_words};
+ghost use Rattle.asm_text.specs.Drafts.{first_progress, placed, place_in, code_words, grown};
+ghost use Rattle.msp_asm.specs.declared.drafts.Stop.TheVariants.{Memory};
+
+use asm_text::fault::AsmKind;
+use asm_text::name::Value;
+use asm_text::piece::{Piece, Placed};
+use asm_text::progress::{Progress, Section};
+use msp_encode::instr::{Dst, Instr, Src};
+use std::alloc::{AllocError, Global};
+use std::marker::Model;
+
+/// The largest number of code words.
+const CODE_WORDS_MAX: u32 = 8192;
+
+/// The largest static part, initialised and zeroed bytes together.
+const STATIC_BYTES_MAX: u32 = 16384;
+
+/// Why the assembler stops at a line.
+#[derive(Clone, Copy, Drop)]
+pub(crate) enum Stop {
+    /// The line has this fault.
+    Kind(AsmKind),
+    /// There was no memory.
+    Memory,
+}
+
+impl From<AllocError> for Stop {
+    ghost from_gives = { λ _ e. e ≡ Memory };
+
+    fn from(_e: AllocError) -> Stop {
+        Stop::Memory
+    }
+}
+
+/// The pieces so far with their lines.
+#[derive(Drop)]
+pub(crate) struct Pieces {
+    items: Vec<Placed>,
+}
+
+impl Model for Pieces {
+    ghost use Rattle.std.specs.Prelude.{List};
+    ghost use Rattle.asm_text.specs.declared.piece.Placed.{Placed};
+
+    ghost Value = { List Placed };
+
+    ghost view = { λ pieces. pieces.items.items };
+}
+
+impl Pieces {
+    /// No pieces.
+    pub(crate) fn new(alloc: Global) -> Pieces
+        ensures { result ≡ [] }
+    {
+        Pieces {
+            items: Vec::new(alloc),
+        }
+    }
+
+    /// Appends a piece of a line.
+    pub(crate) fn push(&mut self, line: u32, piece: Piece) -> Result<(), AllocError>
+        ensures { OnOk result (self.new ≡ self.old ++ placed line piece ∷ []) }
+    {
+        self.items.push(Placed { line, piece })?;
+        Ok(())
+    }
+
+    /// The pieces.
+    pub(crate) fn as_slice(&self) -> &[Placed]
+        ensures { result.now ≡ self.now }
+    {
+        self.items.as_slice()
+    }
+}
+
+/// Before the first line.
+#[tactic(auto, unfolding(asm_text::specs::Drafts::first_progress))]
+pub(crate) fn start() -> Progress
+    ensures { result ≡ first_progress }
+{
+    Progress {
+        header: None,
+        begun: false,
+        section: Section::Code,
+        entered: false,
+        least_export: 0,
+        code: 0,
+        initialised: 0,
+        zeroed: 0,
+    }
+}
+
+/// What a label at the section's end stands for.
+pub(crate) fn place(section: Section, p: Progress) -> Value
+    ensures { result ≡ place_in section p }
+{
+    match section {
+        Section::Code => Value::Code(p.code),
+        Section::Data => Value::Initialised(p.initialised),
+        Section::Zero => Value::Zeroed(p.zeroed),
+    }
+}
+
+/// How many words a source has behind the instruction word.
+pub(crate) fn source_words(src: &Src) -> u16
+    ensures value { result ≡ length (src_words src.now) }
+    ensures small { result ≤ 1 }
+{
+    match src {
+        Src::Indexed(_, _) | Src::Symbolic(_) | Src::Absolute(_) | Src::Immediate(_) => 1,
+        Src::Reg(_) | Src::Indirect(_) | Src::AutoInc(_) | Src::Const(_) => 0,
+    }
+}
+
+/// How many words a destination has behind the instruction word.
+fn destination_words(dst: &Dst) -> u16
+    ensures value { result ≡ length (dst_words dst.now) }
+    ensures small { result ≤ 1 }
+{
+    match dst {
+        Dst::Reg(_) => 0,
+        Dst::Indexed(_, _) | Dst::Symbolic(_) | Dst::Absolute(_) => 1,
+    }
+}
+
+/// How many words an instruction has, 1 to 3.
+fn instruction_words(i: &Instr) -> u16
+    ensures value { result ≡ 1 + length (words_after i.now) }
+    ensures small { result ≤ 3 }
+{
+    match i {
+        Instr::Two { src, dst, .. } => 1 + source_words(src) + destination_words(dst),
+        Instr::One { src, .. } => 1 + source_words(src),
+        Instr::Reti | Instr::Jump { .. } => 1,
+    }
+}
+
+/// How many words a piece adds to the code.
+pub(crate) fn words(piece: &Piece) -> u32
+    ensures value { result ≡ code_words piece.now }
+    ensures small { result ≤ 3 }
+{
+    match piece {
+        Piece::Operation { instr, .. } => instruction_words(instr) as u32,
+        Piece::Jump { .. } => 1,
+        Piece::Word { .. } | Piece::Byte(_) | Piece::Entry(_) | Piece::Export { .. } => 0,
+    }
+}
+
+/// With so many more code words, initialised bytes and zeroed bytes, unless that passes the limits.
+#[tactic(auto, unfolding(asm_text::specs::Drafts::grown))]
+pub(crate) fn grow(
+    p: Progress,
+    code: u32,
+    initialised: u32,
+    zeroed: u32,
+) -> Result<Progress, AsmKind>
+    requires code { code < 65536 }
+    requires initialised { initialised < 65536 * 2 }
+    requires zeroed { zeroed < 65536 * 2 }
+    ensures { result ≡ grown p code initialised zeroed }
+{
+    let code = p.code as u32 + code;
+    let initialised = p.initialised as u32 + initialised;
+    let zeroed = p.zeroed as u32 + zeroed;
+    if code > CODE_WORDS_MAX || initialised + zeroed > STATIC_BYTES_MAX {
+        return Err(AsmKind::TooLarge);
+    }
+    Ok(Progress {
+        header: p.header,
+        begun: true,
+        section: p.section,
+        entered: p.entered,
+        least_export: p.least_export,
+        code: code as u16,
+        initialised: initialised as u16,
+        zeroed: zeroed as u16,
+    })
+}
