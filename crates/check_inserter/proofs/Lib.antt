@@ -1,0 +1,14 @@
+pub mod Anys
+pub mod Firsts
+pub mod Reading
+pub mod LaidUnits
+pub mod WordKinds
+pub mod Spelled
+pub mod Growing
+pub mod Startings
+pub mod Faulty
+pub mod Placing
+pub mod Joins
+pub mod Answering
+pub mod UnitSizes
+pub mod Forming

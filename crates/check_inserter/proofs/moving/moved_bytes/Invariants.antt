@@ -1,0 +1,7 @@
+use Rattle.std.proofs.Common.{◌≡◌, take, fold}
+use Rattle.object_form.specs.Spelling.{fields}
+use Rattle.insert_model.specs.Inserted.{place_map, moved_data}
+use Rattle.check_inserter.proofs.moving.moved_bytes.Given as goal
+
+abbrev pub invariant-loop-reloc : goal.invariant-loop-reloc
+invariant-loop-reloc l = l.bytes.items ≡ fold (moved_data (place_map (fields l.o))) l.o.init (take l.reloc-index l.o.relocs)

@@ -1,0 +1,4 @@
+pub mod Read
+pub mod Found
+pub mod Fitting
+pub mod Places

@@ -1,0 +1,277 @@
+//! Instructions that have no unit.
+
+ghost use Rattle.std.specs.Prelude.{◌≡◌, ℕ, ◌<◌, ◌+◌, ◌⊎◌, ◌↔◌, IsTrue, None};
+ghost use Rattle.code_model.specs.Rules.{IsBisOrBic, IsFlags, const_value, WritesReg, IsData, SrcCarries, DstCarries, Carries};
+ghost use Rattle.insert_model.specs.Words.{count};
+ghost use Rattle.insert_model.specs.Faults.{IsCheck, SrcUsesCheck, DstUsesCheck, UsesCheck, NamesFlags, ChangesFlags, SetsPc, ReadsPc, HasSymbolic, IsSpecial, HasBadOperand, IsNoPopTarget, PopsAmiss, StepsBase, StoresAmiss, IsWrongWord, IsWrongWithin, HasWrongWord, WritesAmiss, ReadsAmiss, IsForbidden};
+
+use crate::forms::{
+    changes, dst_is, is_auto_inc, is_memory, is_mov, is_reti, is_symbolic_dst, is_symbolic_src,
+    is_wide, pops, sets_pc, src_is, stacks, writes, writes_reg,
+};
+use crate::size::{source_size, word_count};
+use insert_model::line::Line;
+use msp_encode::instr::{Cg, Dst, Instr, Op2, Src};
+use object_form::parts::RelKind;
+
+/// Tells whether an operand names R4 or R5.
+pub(crate) fn uses_check(i: Instr) -> bool
+    ensures { IsTrue result ↔ UsesCheck i }
+{
+    match i {
+        Instr::Two { src, dst, .. } => src_uses_check(src) || dst_uses_check(dst),
+        Instr::One { src, .. } => src_uses_check(src),
+        _ => false,
+    }
+}
+
+fn src_uses_check(src: Src) -> bool
+    ensures { IsTrue result ↔ SrcUsesCheck src }
+{
+    match src {
+        Src::Reg(n) | Src::Indexed(n, _) | Src::Indirect(n) | Src::AutoInc(n) => is_check(n),
+        _ => false,
+    }
+}
+
+fn dst_uses_check(dst: Dst) -> bool
+    ensures { IsTrue result ↔ DstUsesCheck dst }
+{
+    match dst {
+        Dst::Reg(n) | Dst::Indexed(n, _) => is_check(n),
+        _ => false,
+    }
+}
+
+fn is_check(register: u8) -> bool
+    ensures { IsTrue result ↔ IsCheck register }
+{
+    register == 4 || register == 5
+}
+
+/// Tells whether a line has no unit.
+pub(crate) fn is_forbidden(line: &Line) -> bool
+    ensures { IsTrue result ↔ IsForbidden line.now }
+{
+    writes_amiss(line)
+        || reads_amiss(line)
+        || pops_amiss(line.instr)
+        || stores_amiss(line.instr)
+        || has_wrong_word(line)
+}
+
+/// Tells whether a line is RETI, or writes SR or PC as no unit does.
+fn writes_amiss(line: &Line) -> bool
+    ensures { IsTrue result ↔ WritesAmiss line.now }
+{
+    is_reti(line.instr) || writes_status_amiss(line) || writes_pc_amiss(line.instr)
+}
+
+fn writes_status_amiss(line: &Line) -> bool
+    ensures { IsTrue result ↔ (WritesReg line.now.instr 2 × (ChangesFlags line.now.instr line.now.second → ⊥)) }
+{
+    writes_reg(line.instr, 2) && !changes_flags(line.instr, line.second)
+}
+
+fn writes_pc_amiss(i: Instr) -> bool
+    ensures { IsTrue result ↔ (WritesReg i 0 × (SetsPc i → ⊥)) }
+{
+    writes_reg(i, 0) && !sets_pc(i)
+}
+
+/// Tells whether an instruction is BIS or BIC of a word, of flags alone.
+fn changes_flags(i: Instr, kind: Option<RelKind>) -> bool
+    ensures { IsTrue result ↔ ChangesFlags i kind }
+{
+    match i {
+        Instr::Two { op, width, src, .. } => {
+            is_bis_or_bic(op) && is_wide(width) && names_flags(src, kind)
+        }
+        _ => false,
+    }
+}
+
+fn is_bis_or_bic(op: Op2) -> bool
+    ensures { IsTrue result ↔ IsBisOrBic op }
+{
+    matches!(op, Op2::Bic | Op2::Bis)
+}
+
+/// Tells whether a source is a constant or an unrelocated immediate with flags alone.
+fn names_flags(src: Src, kind: Option<RelKind>) -> bool
+    ensures { IsTrue result ↔ NamesFlags src kind }
+{
+    match src {
+        Src::Const(constant) => is_flags(value_of(constant)),
+        Src::Immediate(x) => kind.is_none() && is_flags(x),
+        _ => false,
+    }
+}
+
+/// Tells whether a word has no bit but the flags V, N, Z and C.
+fn is_flags(word: u16) -> bool
+    ensures { IsTrue result ↔ IsFlags word }
+{
+    word & 0xFEF8 == 0
+}
+
+fn value_of(constant: Cg) -> u16
+    ensures { result ≡ const_value constant }
+{
+    match constant {
+        Cg::Zero => 0,
+        Cg::One => 1,
+        Cg::Two => 2,
+        Cg::Four => 4,
+        Cg::Eight => 8,
+        Cg::AllOnes => 0xFFFF,
+    }
+}
+
+/// Tells whether a line has an operand that no unit has.
+fn reads_amiss(line: &Line) -> bool
+    ensures { IsTrue result ↔ ReadsAmiss line.now }
+{
+    reads_pc(line.instr) || has_symbolic(line.instr) || has_bad_operand(line.instr)
+}
+
+/// Tells whether PC is read in register mode.
+fn reads_pc(i: Instr) -> bool
+    ensures { IsTrue result ↔ ReadsPc i }
+{
+    match i {
+        Instr::Two { op, src, dst, .. } => src_is(src, 0) || dst_is(dst, 0) && !is_mov(op),
+        Instr::One { src, .. } => src_is(src, 0),
+        _ => false,
+    }
+}
+
+fn has_symbolic(i: Instr) -> bool
+    ensures { IsTrue result ↔ HasSymbolic i }
+{
+    match i {
+        Instr::Two { src, dst, .. } => is_symbolic_src(src) || is_symbolic_dst(dst),
+        Instr::One { src, .. } => is_symbolic_src(src),
+        _ => false,
+    }
+}
+
+/// Tells whether an operation writes PC, SP or SR as its one operand, or memory through autoincrement.
+fn has_bad_operand(i: Instr) -> bool
+    ensures { IsTrue result ↔ HasBadOperand i }
+{
+    match i {
+        Instr::One { op, src, .. } => changes(op) && (is_special(src) || is_auto_inc(src)),
+        _ => false,
+    }
+}
+
+fn is_special(src: Src) -> bool
+    ensures { IsTrue result ↔ IsSpecial src }
+{
+    src_is(src, 0) || src_is(src, 1) || src_is(src, 2)
+}
+
+/// Tells whether @SP+ is the source of PUSH, of CALL, or of an operation that writes SP, SR or memory.
+fn pops_amiss(i: Instr) -> bool
+    ensures { IsTrue result ↔ PopsAmiss i }
+{
+    match i {
+        Instr::Two { op, src, dst, .. } => pops(src, 1) && writes(op) && is_no_pop_target(dst),
+        Instr::One { op, src, .. } => stacks(op) && pops(src, 1),
+        _ => false,
+    }
+}
+
+fn is_no_pop_target(dst: Dst) -> bool
+    ensures { IsTrue result ↔ IsNoPopTarget dst }
+{
+    dst_is(dst, 1) || dst_is(dst, 2) || is_memory(dst)
+}
+
+/// Tells whether a store's source steps the base of its destination.
+fn stores_amiss(i: Instr) -> bool
+    ensures { IsTrue result ↔ StoresAmiss i }
+{
+    match i {
+        Instr::Two { op, src, dst, .. } => writes(op) && steps_base(src, dst),
+        _ => false,
+    }
+}
+
+fn steps_base(src: Src, dst: Dst) -> bool
+    ensures { IsTrue result ↔ StepsBase src dst }
+{
+    match (src, dst) {
+        (Src::AutoInc(n), Dst::Indexed(m, _)) => n == m,
+        _ => false,
+    }
+}
+
+/// Tells whether a word of a line has a relocation that it may not have.
+fn has_wrong_word(line: &Line) -> bool
+    ensures { IsTrue result ↔ HasWrongWord line.now }
+{
+    is_wrong_within(line, 0) || is_wrong_within(line, 1) || is_wrong_within(line, 2)
+}
+
+/// Tells whether a line has this word, counted from 0, with a relocation that it may not have.
+fn is_wrong_within(line: &Line, word: usize) -> bool
+    requires { word < 3 }
+    ensures { IsTrue result ↔ IsWrongWithin line.now word }
+{
+    word < word_count(line.instr) && is_wrong_word(line, word)
+}
+
+/// Tells whether this word of a line, counted from 0, has a relocation that it may not have.
+fn is_wrong_word(line: &Line, word: usize) -> bool
+    requires { word < 3 }
+    ensures { IsTrue result ↔ IsWrongWord line.now word }
+{
+    let kind = match word {
+        0 => line.first,
+        1 => line.second,
+        _ => line.third,
+    };
+    match kind {
+        Some(kind) => !carries(line.instr, word, kind),
+        None => false,
+    }
+}
+
+/// Tells whether an instruction may have a relocation of this kind on this of its words, counted from 0.
+fn carries(i: Instr, word: usize, kind: RelKind) -> bool
+    ensures { IsTrue result ↔ Carries i word kind }
+{
+    match i {
+        Instr::Two { src, dst, .. } => (word == 1 && src_carries(src, kind))
+            || (word == 1 + source_size(src) && dst_carries(dst, kind)),
+        Instr::One { src, .. } => word == 1 && src_carries(src, kind),
+        _ => false,
+    }
+}
+
+fn src_carries(src: Src, kind: RelKind) -> bool
+    ensures { IsTrue result ↔ SrcCarries src kind }
+{
+    match src {
+        Src::Immediate(_) => true,
+        Src::Absolute(_) | Src::Indexed(_, _) => is_data(kind),
+        _ => false,
+    }
+}
+
+fn dst_carries(dst: Dst, kind: RelKind) -> bool
+    ensures { IsTrue result ↔ DstCarries dst kind }
+{
+    match dst {
+        Dst::Absolute(_) | Dst::Indexed(_, _) => is_data(kind),
+        _ => false,
+    }
+}
+
+fn is_data(kind: RelKind) -> bool
+    ensures { IsTrue result ↔ IsData kind }
+{
+    matches!(kind, RelKind::Data)
+}

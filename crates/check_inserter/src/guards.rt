@@ -1,0 +1,207 @@
+//! The guards, as pieces.
+
+ghost use Rattle.std.specs.Prelude.{◌≡◌, ◌<◌, ℕ};
+ghost use Rattle.msp_encode.specs.Spelling.{SrcFits, DstFits};
+ghost use Rattle.insert_model.specs.Guards.{plain, mov, cmp, jump, on_r4, branch, save, restore, take_sp, pop_r4, give_sp, base, store_guard, growth_guard, pop_guard, sp_guard};
+ghost use Rattle.check_inserter.specs.Fitting.{AllFit};
+
+use insert_model::piece::Piece;
+use msp_encode::instr::{Cg, Cond, Dst, Instr, Op2, Src, Width};
+use object_form::parts::RelKind;
+
+/// The entry that faults for a store out of the region.
+const STORE_FAULT: u16 = 0xF000;
+
+/// The entry that faults for a stack pointer out of the stack.
+const STACK_FAULT: u16 = 0xF002;
+
+/// The kernel's word with the least stack pointer that leaves room for a push.
+const STACK_LIMIT: u16 = 0x0200;
+
+/// The kernel's word with the stack's top.
+const STACK_TOP: u16 = 0x0202;
+
+/// An instruction without relocations.
+pub(crate) fn plain(instr: Instr) -> Piece
+    ensures { result ≡ plain instr }
+{
+    Piece {
+        instr,
+        source: None,
+        destination: None,
+    }
+}
+
+/// A move of a word.
+fn mov(src: Src, dst: Dst) -> Piece
+    ensures { result ≡ mov src dst }
+{
+    plain(Instr::Two {
+        op: Op2::Mov,
+        width: Width::Wide,
+        src,
+        dst,
+    })
+}
+
+/// A comparison of words.
+fn cmp(src: Src, dst: Dst) -> Piece
+    ensures { result ≡ cmp src dst }
+{
+    plain(Instr::Two {
+        op: Op2::Cmp,
+        width: Width::Wide,
+        src,
+        dst,
+    })
+}
+
+/// A jump over so many words.
+pub(crate) fn jump(cond: Cond, offset: i16) -> Piece
+    ensures { result ≡ jump cond offset }
+{
+    plain(Instr::Jump { cond, offset })
+}
+
+/// An operation of an immediate word on R4.
+fn on_r4(op: Op2, word: u16, kind: Option<RelKind>) -> Piece
+    ensures { result ≡ on_r4 op word kind }
+{
+    Piece {
+        instr: Instr::Two {
+            op,
+            width: Width::Wide,
+            src: Src::Immediate(word),
+            dst: Dst::Reg(4),
+        },
+        source: kind,
+        destination: None,
+    }
+}
+
+/// A move of an immediate word to PC.
+pub(crate) fn branch(word: u16, kind: Option<RelKind>) -> Piece
+    ensures { result ≡ branch word kind }
+{
+    Piece {
+        instr: Instr::Two {
+            op: Op2::Mov,
+            width: Width::Wide,
+            src: Src::Immediate(word),
+            dst: Dst::Reg(0),
+        },
+        source: kind,
+        destination: None,
+    }
+}
+
+/// Keeps the flags in R5.
+fn save() -> Piece
+    ensures { result ≡ save }
+{
+    mov(Src::Reg(2), Dst::Reg(5))
+}
+
+/// Gives the flags back from R5.
+fn restore() -> Piece
+    ensures { result ≡ restore }
+{
+    mov(Src::Reg(5), Dst::Reg(2))
+}
+
+/// Takes SP into R4.
+pub(crate) fn take_sp() -> Piece
+    ensures { result ≡ take_sp }
+{
+    mov(Src::Reg(1), Dst::Reg(4))
+}
+
+/// Pops a word into R4.
+pub(crate) fn pop_r4() -> Piece
+    ensures { result ≡ pop_r4 }
+{
+    mov(Src::AutoInc(1), Dst::Reg(4))
+}
+
+/// Makes R4 the stack pointer.
+pub(crate) fn give_sp() -> Piece
+    ensures { result ≡ give_sp }
+{
+    mov(Src::Reg(4), Dst::Reg(1))
+}
+
+/// A base register, or 0 for R3.
+fn base(register: u8) -> Src
+    requires { register < 16 }
+    ensures is { result ≡ base register }
+    ensures fits { SrcFits result }
+{
+    if register == 3 {
+        Src::Const(Cg::Zero)
+    } else {
+        Src::Reg(register)
+    }
+}
+
+/// Keeps a store at an index from a base in the region.
+pub(crate) fn store_guard(register: u8, index: u16, kind: Option<RelKind>) -> [Piece; 9]
+    requires { register < 16 }
+    ensures is { result ≡ store_guard register index kind }
+    ensures fit { AllFit result }
+{
+    [
+        save(),
+        mov(base(register), Dst::Reg(4)),
+        on_r4(Op2::Add, index, kind),
+        on_r4(Op2::Cmp, 0, Some(RelKind::Lo)),
+        jump(Cond::Nc, 3),
+        on_r4(Op2::Cmp, 0, Some(RelKind::Hi)),
+        jump(Cond::Nc, 2),
+        branch(STORE_FAULT, None),
+        restore(),
+    ]
+}
+
+/// Keeps a push in the stack.
+pub(crate) fn growth_guard() -> [Piece; 5]
+    ensures is { result ≡ growth_guard }
+    ensures fit { AllFit result }
+{
+    [
+        save(),
+        cmp(Src::Absolute(STACK_LIMIT), Dst::Reg(1)),
+        jump(Cond::C, 2),
+        branch(STACK_FAULT, None),
+        restore(),
+    ]
+}
+
+/// Keeps a pop in the stack.
+pub(crate) fn pop_guard() -> [Piece; 5]
+    ensures is { result ≡ pop_guard }
+    ensures fit { AllFit result }
+{
+    [
+        save(),
+        cmp(Src::Reg(1), Dst::Absolute(STACK_TOP)),
+        jump(Cond::Ne, 2),
+        branch(STACK_FAULT, None),
+        restore(),
+    ]
+}
+
+/// Keeps a new stack pointer, which is in R4, in the stack.
+pub(crate) fn sp_guard() -> [Piece; 7]
+    ensures is { result ≡ sp_guard }
+    ensures fit { AllFit result }
+{
+    [
+        save(),
+        cmp(Src::Absolute(STACK_LIMIT), Dst::Reg(4)),
+        jump(Cond::Nc, 3),
+        cmp(Src::Reg(4), Dst::Absolute(STACK_TOP)),
+        jump(Cond::C, 2),
+        branch(STACK_FAULT, None),
+        restore(),
+    ]
+}

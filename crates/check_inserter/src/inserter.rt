@@ -1,0 +1,89 @@
+//! The object with its guards.
+
+ghost use Rattle.std.specs.Prelude.{Result, MatchResult};
+ghost use Rattle.object_form.specs.declared.object.Object.{Object};
+ghost use Rattle.insert_model.specs.declared.fault.InsertFault.{InsertFault};
+ghost use Rattle.insert_model.specs.Faults.{NoHit, IsAnswer, SameAnswer};
+ghost use Rattle.object_form.specs.Spelling.{fields};
+ghost use Rattle.insert_model.specs.Source.{lines};
+ghost use Rattle.check_inserter.specs.Read.{IsSource};
+ghost use Rattle.check_inserter.specs.Places.{IsLaid};
+
+use crate::faults::first_fault;
+use crate::laying::{Laid, lay};
+use crate::moving::{all_relocs, moved_bytes, moved_exports, moved_words, place_of};
+use crate::source::read_lines;
+use crate::starts::starts;
+use checker_laws::one_verdict;
+use insert_model::fault::InsertFault;
+use insert_model::line::Line;
+use object_form::laws::one_object_has_a_text;
+use object_form::object::Object;
+use std::alloc::Global;
+
+/// The object with guards for an object without, or the first fault of the source object: where an instruction isn't spelled
+/// that alone, else the least offset and there the least kind, and only where nothing else is wrong that it would be too
+/// large. `Memory` may come at any time.
+pub fn insert(alloc: Global, o: &Object) -> Result<Object, InsertFault>
+    ensures right { IsAnswer o.now result }
+    ensures only { (answer : Result Object InsertFault) → IsAnswer o.now answer → SameAnswer result answer }
+{
+    one_verdict();
+    one_object_has_a_text();
+    inserted(alloc, o)
+}
+
+/// The answer.
+fn inserted(alloc: Global, o: &Object) -> Result<Object, InsertFault>
+    ensures { IsAnswer o.now result }
+{
+    let lines = match read_lines(alloc, o) {
+        Ok(lines) => lines,
+        Err(e) => return Err(e),
+    };
+    let starts = starts(o, &lines);
+    match first_fault(o, &lines, &starts) {
+        Some(fault) => Err(InsertFault::At {
+            kind: fault.kind,
+            offset: fault.offset,
+        }),
+        None => guarded(alloc, o, &lines),
+    }
+}
+
+/// The answer where nothing is wrong with the lines.
+fn guarded(alloc: Global, o: &Object, lines: &[Line]) -> Result<Object, InsertFault>
+    requires source { IsSource o.now lines.now }
+    requires clean { NoHit o.now }
+    ensures { IsAnswer o.now result }
+{
+    match lay(alloc, o, lines) {
+        Ok(laid) => assembled(alloc, o, &laid),
+        Err(e) => Err(e),
+    }
+}
+
+/// The object of the units that were laid.
+fn assembled(alloc: Global, o: &Object, laid: &Laid) -> Result<Object, InsertFault>
+    requires laid { IsLaid o.now laid.now }
+    requires source { IsSource o.now (lines (fields o.now)) }
+    requires clean { NoHit o.now }
+    ensures { IsAnswer o.now result }
+{
+    let code = moved_words(alloc, o, laid)?;
+    let init = moved_bytes(alloc, o, laid)?;
+    let relocs = all_relocs(alloc, o, laid)?;
+    let exports = moved_exports(alloc, o, laid)?;
+    Ok(Object {
+        kind: o.kind,
+        version: o.version,
+        code,
+        init,
+        zeroed: o.zeroed,
+        stack: o.stack,
+        threads: o.threads,
+        entry: place_of(o, laid, o.entry),
+        relocs,
+        exports,
+    })
+}

@@ -1,0 +1,31 @@
+//! The inserter: an object whose instructions have the guards that the checker asks for, made from one that has none.
+//!
+//! It stands on the decoder and the encoder, on objects (`object_form`) and on the definitions of `insert_model`, which say
+//! what the unit of each source instruction is, what object the units make, and what is wrong with a source object. The
+//! layers above call `insert`: its answer is that object or the first fault with its offset, and no other answer is.
+//!
+//! The inserter reads the instructions once as lines (`source`), looks for the first fault (`faults`), lays the units of the
+//! lines one after another and keeps where each source word's unit stands (`laying`), and then gives the words, the
+//! relocations, the initialised bytes, the entry and the exports their new places (`moving`). It looks at each word a
+//! bounded number of times.
+#![tactic(auto)]
+
+mod faults;
+mod forbidden;
+mod forms;
+mod guards;
+mod inserter;
+mod laying;
+mod moving;
+mod size;
+mod source;
+mod starts;
+mod targets;
+mod units;
+mod words;
+
+pub use insert_model::fault::{InsertFault, InsertKind};
+pub use inserter::insert;
+
+#[cfg(test)]
+mod tests;

@@ -1,0 +1,114 @@
+//! Reading the source instructions.
+
+ghost use Rattle.std.specs.Prelude.{◌≡◌, ◌<◌, ◌≤◌, ◌*◌, ◌+◌, ◌%◌, ◌^◌, ℕ, [], ◌∷◌, ◌++◌, true, nat_lt, if◌then◌else◌, length, slice_index_or, None, IfOk, OnOk, MatchResult};
+ghost use Rattle.object_form.specs.declared.parts.Reloc.{Reloc};
+ghost use Rattle.object_form.specs.Form.{RelocFits};
+ghost use Rattle.insert_model.specs.declared.line.Line.{Line};
+ghost use Rattle.insert_model.specs.Words.{count};
+ghost use Rattle.insert_model.specs.Source.{on_word, line_at};
+ghost use Rattle.check_inserter.specs.Read.{AreKinds, IsSource, IsUnread};
+ghost use Rattle.static_checker.specs.Spots.{IsSpot};
+
+use checker_laws::starts_apart;
+use insert_model::fault::{InsertFault, InsertKind};
+use insert_model::laws::{instruction_size, line_stands};
+use insert_model::line::Line;
+use msp_encode::laws::legal_by_cases;
+use object_form::object::Object;
+use object_form::parts::{RelKind, Reloc};
+use static_checker::spot::{Spot, spot_at};
+use std::alloc::{AllocError, Global};
+
+/// The source instructions of an object, in order, or the place where none is spelled.
+pub(crate) fn read_lines(alloc: Global, o: &Object) -> Result<Vec<Line>, InsertFault>
+    ensures { MatchResult result (λ v. IsSource o.now v.items) (λ e. IsUnread o.now e) }
+{
+    legal_by_cases();
+    starts_apart();
+    line_stands();
+    let kinds = kinds(alloc, o)?;
+    let mut lines = Vec::new(alloc);
+    let mut at = 0;
+    while at < o.code.len() {
+        match spot_at(&o.code, at) {
+            None => return Err(undecoded(at)),
+            Some(spot) => {
+                instruction_size();
+                push_line(&mut lines, line_of(o, &kinds, &spot))?;
+                at += spot.words;
+            }
+        }
+    }
+    Ok(lines)
+}
+
+/// Appends a line.
+fn push_line(lines: &mut Vec<Line>, line: Line) -> Result<(), AllocError>
+    ensures { OnOk result (lines.new.items ≡ lines.old.items ++ line ∷ []) }
+{
+    lines.push(line)?;
+    Ok(())
+}
+
+/// The fault of a place where no instruction is spelled.
+fn undecoded(at: usize) -> InsertFault
+    requires { at < 8192 }
+    ensures { result ≡ InsertFault.At InsertKind.NotDecoded (2 * at) }
+{
+    InsertFault::At {
+        kind: InsertKind::NotDecoded,
+        offset: 2 * at as u32,
+    }
+}
+
+/// The line of what stands at a place.
+fn line_of(o: &Object, kinds: &[Option<RelKind>], spot: &Spot) -> Line
+    requires kinds { AreKinds o.now kinds.now }
+    requires spot { IsSpot o.now.code spot.now.at spot.now }
+    requires words { spot.now.words ≡ count spot.now.instr }
+    ensures { result ≡ line_at o.now.relocs spot.now.at spot.now.instr }
+{
+    Line {
+        at: spot.at,
+        instr: spot.instr,
+        first: kinds[spot.at],
+        second: kind_within(kinds, spot, 1),
+        third: kind_within(kinds, spot, 2),
+    }
+}
+
+/// The relocation of one of the words at a place, counted from 0, if there are so many.
+fn kind_within(kinds: &[Option<RelKind>], spot: &Spot, word: usize) -> Option<RelKind>
+    requires within { spot.now.at + spot.now.words ≤ length kinds.now }
+    requires small { length kinds.now ≤ 8192 }
+    requires one { word < 3 }
+    ensures { result ≡ (if nat_lt word spot.now.words then slice_index_or kinds.now (spot.now.at + word) None else None) }
+{
+    if word < spot.words {
+        kinds[spot.at + word]
+    } else {
+        None
+    }
+}
+
+/// The relocation of each code word.
+fn kinds(alloc: Global, o: &Object) -> Result<Vec<Option<RelKind>>, AllocError>
+    ensures { IfOk result (λ v. AreKinds o.now v.items) }
+{
+    let mut kinds = vec![in alloc; None; o.code.len()]?;
+    for reloc in o.relocs.as_slice() {
+        note(&mut kinds, reloc);
+    }
+    Ok(kinds)
+}
+
+/// Notes a relocation at its word, if that is a code word.
+fn note(kinds: &mut [Option<RelKind>], reloc: &Reloc)
+    requires even { reloc.now.offset % 2 ≡ 0 }
+    requires within { reloc.now.in_code ≡ true → reloc.now.offset < 2 * length kinds.old }
+    ensures { (k : ℕ) → k < length kinds.old → slice_index_or kinds.new k None ≡ on_word k (slice_index_or kinds.old k None) reloc.now }
+{
+    if reloc.in_code {
+        kinds[usize::from(reloc.offset / 2)] = Some(reloc.kind);
+    }
+}

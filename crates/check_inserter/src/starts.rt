@@ -1,0 +1,72 @@
+//! The places where source instructions start.
+
+ghost use Rattle.std.specs.Prelude.{◌≡◌, ◌≢◌, ℕ, ◌/◌, ◌<◌, ◌↔◌, IsTrue, MatchOption, pos, ◌+◌, ◌+ℤ◌, length};
+ghost use Rattle.object_form.specs.Bitmap.{Has};
+ghost use Rattle.code_model.specs.Starts.{AreStarts};
+ghost use Rattle.insert_model.specs.Faults.{IsStartOffset, IsJumpStart};
+ghost use Rattle.check_inserter.specs.Read.{StartsIn, AreWhole, IsSource};
+
+use insert_model::line::Line;
+use object_form::marks::Marks;
+use object_form::object::Object;
+
+/// The places where lines start, as marks.
+pub(crate) fn starts(o: &Object, lines: &[Line]) -> Marks
+    requires { IsSource o.now lines.now }
+    ensures { AreStarts o.now.code result }
+{
+    let mut marks = Marks::new();
+    for line in lines {
+        mark(&mut marks, line.at);
+    }
+    marks
+}
+
+/// Marks a place.
+fn mark(marks: &mut Marks, at: usize)
+    requires { at < 8192 }
+    ensures marked { Has marks.new at }
+    ensures others { (k : ℕ) → k ≢ at → Has marks.new k ↔ Has marks.old k }
+{
+    marks.set((2 * at) as u16);
+}
+
+/// Tells whether a word is the offset of a start.
+pub(crate) fn is_start_offset(o: &Object, starts: &Marks, word: u16) -> bool
+    requires { AreStarts o.now.code starts.now }
+    ensures { IsTrue result ↔ IsStartOffset o.now.code word }
+{
+    if word % 2 == 1 {
+        return false;
+    }
+    if 16384 <= word {
+        return false;
+    }
+    starts.has(word)
+}
+
+/// Tells whether a jump at a place, with an offset in words from the place behind it, goes to a start.
+pub(crate) fn is_jump_start(o: &Object, starts: &Marks, at: usize, offset: i16) -> bool
+    requires starts { AreStarts o.now.code starts.now }
+    requires within { at < 8192 }
+    ensures { IsTrue result ↔ IsJumpStart o.now.code at offset }
+{
+    match jump_place(at, offset) {
+        Some(target) => starts.has((2 * target) as u16),
+        None => false,
+    }
+}
+
+/// Where a jump at a place goes. None exactly where that is no place below 8,192.
+fn jump_place(at: usize, offset: i16) -> Option<usize>
+    requires { at < 8192 }
+    ensures { MatchOption result ((t : ℕ) → t < 8192 → pos t ≡ (pos (at + 1) +ℤ offset) → ⊥)
+        (λ t. (t < 8192) × (pos t ≡ (pos (at + 1) +ℤ offset))) }
+{
+    let target = at as i32 + 1 + i32::from(offset);
+    if 0 <= target && target < 8192 {
+        Some(target as usize)
+    } else {
+        None
+    }
+}

@@ -1,0 +1,431 @@
+//! The unit of each source instruction.
+
+ghost use Rattle.std.specs.Prelude.{◌≡◌, ℕ, ◌+◌, ◌*◌, ◌/◌, ◌<◌, ◌++◌, ◌&&◌, ◌<ℤ◌, pos, OnOk, length};
+ghost use Rattle.msp_encode.specs.Spelling.{SrcFits, DstFits, InstrFits, TakesWidth};
+ghost use Rattle.insert_model.specs.Words.{unit_words};
+ghost use Rattle.insert_model.specs.Source.{own};
+ghost use Rattle.insert_model.specs.Units.{is_static, absolute_aim, aim, aim_one, writes, is_popped, is_immediate, is_pc, is_wide_move, is_free, is_plain_pop, into_r4, through_r4, from_r4, popping, setting_sp, writing, two_unit, changing, calling_value, calling, one_unit, target_offset, jump_unit, unit_of, unit};
+ghost use Rattle.check_inserter.specs.Fitting.{AllFit, AimFits};
+
+use crate::guards::{
+    branch, give_sp, growth_guard, jump, plain, pop_guard, pop_r4, sp_guard, store_guard, take_sp,
+};
+use crate::targets::own;
+use crate::words::{put_both, put_pieces};
+use insert_model::aim::Aim;
+use insert_model::line::Line;
+use insert_model::piece::{Piece, Word};
+use msp_encode::instr::{Cond, Dst, Instr, Op1, Op2, Src, Width};
+use object_form::parts::RelKind;
+use std::alloc::AllocError;
+
+/// The entry that jumps to R4.
+const JUMP_ENTRY: u16 = 0xF004;
+
+/// The entry that calls R4.
+const CALL_ENTRY: u16 = 0xF006;
+
+/// Appends the words of a line's unit, beside a static part of `size` bytes.
+#[tactic(auto, unfolding(insert_model::specs::Units::unit))]
+pub(crate) fn put_unit(out: &mut Vec<Word>, size: usize, line: &Line) -> Result<(), AllocError>
+    requires fits { InstrFits line.now.instr }
+    requires within { line.now.at < 8192 }
+    ensures { OnOk result (out.new.items ≡ out.old.items ++ unit_words (unit size line.now)) }
+{
+    let piece = own(line);
+    match line.instr {
+        Instr::Two {
+            op,
+            width,
+            src,
+            dst,
+        } => put_two(out, size, op, width, src, dst, piece),
+        Instr::One { op, width, src } => put_one(out, size, op, width, src, piece),
+        Instr::Reti => put_pieces(out, &[piece]),
+        Instr::Jump { cond, offset } => put_jump(out, target_offset(line.at, offset), cond),
+    }
+}
+
+/// Appends the unit of an operation of two operands.
+fn put_two(
+    out: &mut Vec<Word>,
+    size: usize,
+    op: Op2,
+    width: Width,
+    src: Src,
+    dst: Dst,
+    piece: Piece,
+) -> Result<(), AllocError>
+    requires src { SrcFits src }
+    requires dst { DstFits dst }
+    requires piece { InstrFits piece.instr }
+    ensures { OnOk result (out.new.items ≡ out.old.items ++ unit_words (two_unit size op width src dst piece)) }
+{
+    if is_popped(src) {
+        put_popping(out, op, width, dst, piece)
+    } else if writes(op) {
+        put_writing(
+            out,
+            op,
+            width,
+            src,
+            piece,
+            aim(size, dst, piece.destination),
+        )
+    } else {
+        put_pieces(out, &[piece])
+    }
+}
+
+/// Appends the unit of an operation whose source is @SP+.
+fn put_popping(
+    out: &mut Vec<Word>,
+    op: Op2,
+    width: Width,
+    dst: Dst,
+    piece: Piece,
+) -> Result<(), AllocError>
+    requires dst { DstFits dst }
+    requires piece { InstrFits piece.instr }
+    ensures { OnOk result (out.new.items ≡ out.old.items ++ unit_words (popping op width dst piece)) }
+{
+    if is_pc(dst) {
+        put_both(out, &pop_guard(), &[pop_r4(), branch(JUMP_ENTRY, None)])
+    } else if is_plain_pop(op, width, dst) {
+        put_both(out, &pop_guard(), &[piece])
+    } else {
+        put_both(
+            out,
+            &pop_guard(),
+            &[pop_r4(), from_r4(op, width, dst, piece.destination)],
+        )
+    }
+}
+
+/// Appends the unit of an operation that writes where `aim` tells.
+fn put_writing(
+    out: &mut Vec<Word>,
+    op: Op2,
+    width: Width,
+    src: Src,
+    piece: Piece,
+    aim: Aim,
+) -> Result<(), AllocError>
+    requires src { SrcFits src }
+    requires piece { InstrFits piece.instr }
+    requires aim { AimFits aim }
+    ensures { OnOk result (out.new.items ≡ out.old.items ++ unit_words (writing op width src piece aim)) }
+{
+    match aim {
+        Aim::ToPc => {
+            if is_immediate(src) {
+                put_pieces(out, &[piece])
+            } else {
+                put_pieces(
+                    out,
+                    &[
+                        into_r4(Op2::Mov, Width::Wide, src, piece.source),
+                        branch(JUMP_ENTRY, None),
+                    ],
+                )
+            }
+        }
+        Aim::ToSp => put_setting_sp(out, op, width, src, piece.source),
+        Aim::ToMemory { base, index, kind } => put_both(
+            out,
+            &store_guard(base, index, kind),
+            &[through_r4(op, width, src, piece.source)],
+        ),
+        Aim::Elsewhere => put_pieces(out, &[piece]),
+    }
+}
+
+/// Appends the unit of an operation that writes SP.
+fn put_setting_sp(
+    out: &mut Vec<Word>,
+    op: Op2,
+    width: Width,
+    src: Src,
+    kind: Option<RelKind>,
+) -> Result<(), AllocError>
+    requires { SrcFits src }
+    ensures { OnOk result (out.new.items ≡ out.old.items ++ unit_words (setting_sp op width src kind)) }
+{
+    put_both(
+        out,
+        &[take_sp(), into_r4(op, width, src, kind)],
+        &sp_guard(),
+    )?;
+    put_pieces(out, &[give_sp()])?;
+    Ok(())
+}
+
+/// Appends the unit of an operation of one operand.
+fn put_one(
+    out: &mut Vec<Word>,
+    size: usize,
+    op: Op1,
+    width: Width,
+    src: Src,
+    piece: Piece,
+) -> Result<(), AllocError>
+    requires src { SrcFits src }
+    requires width { TakesWidth op width }
+    requires piece { InstrFits piece.instr }
+    ensures { OnOk result (out.new.items ≡ out.old.items ++ unit_words (one_unit size op width src piece)) }
+{
+    match op {
+        Op1::Push => put_both(out, &growth_guard(), &[piece]),
+        Op1::Call => put_call(out, src, piece),
+        Op1::Rrc | Op1::Swpb | Op1::Rra | Op1::Sxt => {
+            put_changing(out, op, width, piece, aim_one(size, src, piece.source))
+        }
+    }
+}
+
+/// Appends the unit of RRC, RRA, SWPB or SXT.
+fn put_changing(
+    out: &mut Vec<Word>,
+    op: Op1,
+    width: Width,
+    piece: Piece,
+    aim: Aim,
+) -> Result<(), AllocError>
+    requires width { TakesWidth op width }
+    requires piece { InstrFits piece.instr }
+    requires aim { AimFits aim }
+    ensures { OnOk result (out.new.items ≡ out.old.items ++ unit_words (changing op width piece aim)) }
+{
+    match aim {
+        Aim::ToMemory { base, index, kind } => put_both(
+            out,
+            &store_guard(base, index, kind),
+            &[plain(Instr::One {
+                op,
+                width,
+                src: Src::Indirect(4),
+            })],
+        ),
+        Aim::ToPc | Aim::ToSp | Aim::Elsewhere => put_pieces(out, &[piece]),
+    }
+}
+
+/// Appends the unit of a call.
+fn put_call(out: &mut Vec<Word>, src: Src, piece: Piece) -> Result<(), AllocError>
+    requires src { SrcFits src }
+    requires piece { InstrFits piece.instr }
+    ensures { OnOk result (out.new.items ≡ out.old.items ++ unit_words (calling src piece)) }
+{
+    if is_immediate(src) {
+        put_both(out, &growth_guard(), &[piece])
+    } else {
+        put_call_of_value(out, src, piece.source)
+    }
+}
+
+/// Appends the unit of a call of a value.
+fn put_call_of_value(out: &mut Vec<Word>, src: Src, kind: Option<RelKind>) -> Result<(), AllocError>
+    requires { SrcFits src }
+    ensures { OnOk result (out.new.items ≡ out.old.items ++ unit_words (calling_value src kind)) }
+{
+    put_both(
+        out,
+        &[into_r4(Op2::Mov, Width::Wide, src, kind)],
+        &growth_guard(),
+    )?;
+    put_pieces(
+        out,
+        &[plain(Instr::One {
+            op: Op1::Call,
+            width: Width::Wide,
+            src: Src::Immediate(CALL_ENTRY),
+        })],
+    )?;
+    Ok(())
+}
+
+/// Appends the unit of a jump to an offset: a branch, with a jump over it where it isn't always taken.
+fn put_jump(out: &mut Vec<Word>, offset: u16, cond: Cond) -> Result<(), AllocError>
+    ensures { OnOk result (out.new.items ≡ out.old.items ++ unit_words (jump_unit offset cond)) }
+{
+    let branch = branch(offset, Some(RelKind::Code));
+    match cond {
+        Cond::Always => put_pieces(out, &[branch]),
+        _ => put_pieces(out, &[jump(cond, 1), jump(Cond::Always, 2), branch]),
+    }
+}
+
+/// The offset that a jump at a place names, or 0 for one before the code.
+fn target_offset(at: usize, offset: i16) -> u16
+    requires place { at < 8192 }
+    requires range { offset <ℤ pos 512 }
+    ensures { result ≡ target_offset at offset }
+{
+    let target = at as i32 + 1 + i32::from(offset);
+    if target < 0 { 0 } else { 2 * target as u16 }
+}
+
+/// An operation on R4.
+fn into_r4(op: Op2, width: Width, src: Src, kind: Option<RelKind>) -> Piece
+    ensures { result ≡ into_r4 op width src kind }
+{
+    Piece {
+        instr: Instr::Two {
+            op,
+            width,
+            src,
+            dst: Dst::Reg(4),
+        },
+        source: kind,
+        destination: None,
+    }
+}
+
+/// An operation on what R4 points to.
+fn through_r4(op: Op2, width: Width, src: Src, kind: Option<RelKind>) -> Piece
+    ensures { result ≡ through_r4 op width src kind }
+{
+    Piece {
+        instr: Instr::Two {
+            op,
+            width,
+            src,
+            dst: Dst::Indexed(4, 0),
+        },
+        source: kind,
+        destination: None,
+    }
+}
+
+/// An operation with R4 as its source.
+fn from_r4(op: Op2, width: Width, dst: Dst, kind: Option<RelKind>) -> Piece
+    ensures { result ≡ from_r4 op width dst kind }
+{
+    Piece {
+        instr: Instr::Two {
+            op,
+            width,
+            src: Src::Reg(4),
+            dst,
+        },
+        source: None,
+        destination: kind,
+    }
+}
+
+/// What a destination asks for.
+fn aim(size: usize, dst: Dst, kind: Option<RelKind>) -> Aim
+    requires { DstFits dst }
+    ensures is { result ≡ aim size dst kind }
+    ensures fits { AimFits result }
+{
+    match dst {
+        Dst::Reg(0) => Aim::ToPc,
+        Dst::Reg(1) => Aim::ToSp,
+        Dst::Reg(_) | Dst::Symbolic(_) => Aim::Elsewhere,
+        Dst::Indexed(base, index) => Aim::ToMemory { base, index, kind },
+        Dst::Absolute(index) => absolute_aim(size, index, kind),
+    }
+}
+
+/// What the operand of RRC, RRA, SWPB or SXT asks for.
+fn aim_one(size: usize, src: Src, kind: Option<RelKind>) -> Aim
+    requires { SrcFits src }
+    ensures is { result ≡ aim_one size src kind }
+    ensures fits { AimFits result }
+{
+    match src {
+        Src::Indexed(base, index) => Aim::ToMemory { base, index, kind },
+        Src::Indirect(base) => Aim::ToMemory {
+            base,
+            index: 0,
+            kind: None,
+        },
+        Src::Absolute(index) => absolute_aim(size, index, kind),
+        Src::Reg(_) | Src::Symbolic(_) | Src::AutoInc(_) | Src::Immediate(_) | Src::Const(_) => {
+            Aim::Elsewhere
+        }
+    }
+}
+
+/// What an absolute operand asks for.
+fn absolute_aim(size: usize, index: u16, kind: Option<RelKind>) -> Aim
+    ensures is { result ≡ absolute_aim size index kind }
+    ensures fits { AimFits result }
+{
+    if is_static(size, index, kind) {
+        Aim::Elsewhere
+    } else {
+        Aim::ToMemory {
+            base: 3,
+            index,
+            kind,
+        }
+    }
+}
+
+/// Tells whether an absolute operand lies in a static part of so many bytes.
+fn is_static(size: usize, index: u16, kind: Option<RelKind>) -> bool
+    ensures { result ≡ is_static size index kind }
+{
+    match kind {
+        Some(RelKind::Data) => usize::from(index) < size,
+        None | Some(RelKind::Code | RelKind::Lo | RelKind::Hi) => false,
+    }
+}
+
+/// Tells whether an operation writes its destination.
+fn writes(op: Op2) -> bool
+    ensures { result ≡ writes op }
+{
+    !matches!(op, Op2::Cmp | Op2::Bit)
+}
+
+/// Tells whether a source is @SP+.
+fn is_popped(src: Src) -> bool
+    ensures { result ≡ is_popped src }
+{
+    match src {
+        Src::AutoInc(register) => register == 1,
+        _ => false,
+    }
+}
+
+/// Tells whether a source is an immediate.
+fn is_immediate(src: Src) -> bool
+    ensures { result ≡ is_immediate src }
+{
+    matches!(src, Src::Immediate(_))
+}
+
+/// Tells whether a destination is PC.
+fn is_pc(dst: Dst) -> bool
+    ensures { result ≡ is_pc dst }
+{
+    match dst {
+        Dst::Reg(register) => register == 0,
+        _ => false,
+    }
+}
+
+/// Tells whether a pop is of a whole word into one of R6 to R15.
+fn is_plain_pop(op: Op2, width: Width, dst: Dst) -> bool
+    ensures { result ≡ is_plain_pop op width dst }
+{
+    is_wide_move(op, width) && is_free(dst)
+}
+
+fn is_wide_move(op: Op2, width: Width) -> bool
+    ensures { result ≡ is_wide_move op width }
+{
+    matches!((op, width), (Op2::Mov, Width::Wide))
+}
+
+fn is_free(dst: Dst) -> bool
+    ensures { result ≡ is_free dst }
+{
+    match dst {
+        Dst::Reg(register) => 6 <= register,
+        _ => false,
+    }
+}
