@@ -1,5 +1,5 @@
 -- The clauses of the top call, from what a command came to and from what was printed.
-use Rattle.std.proofs.Common.{◌≡◌, ℕ, ◌+◌, ◌-◌, ◌^◌, ◌≤◌, ◌<◌, ◌⊎◌, min, Bool, true, false, List, [], Some, None, refl, ap, sym, subst, ◌∙◌, inl, inr, arith}
+use Rattle.std.proofs.Common.{◌≡◌, ℕ, ◌⊎◌, Bool, true, false, List, Some, None, refl, ap, sym, subst, ◌∙◌, inl, inr, arith}
 use Rattle.std.specs.declared.option.Option.{Option}
 use Rattle.edge_io.specs.Known.{Files, FolderState, SinkState, appended, GotPrefix}
 use Rattle.edge_io.specs.Causes.{Rose, Still}
@@ -12,9 +12,9 @@ use Rattle.retos_cli.specs.declared.outcome.Status.{Status}
 use Rattle.retos_cli.specs.declared.outcome.Status.TheVariants as status
 use Rattle.retos_cli.specs.declared.outcome.Refused.{Refused as Refusing}
 use Rattle.retos_cli.specs.Lines.{words_line, write_line, memory_line, read_line, refused_line}
-use Rattle.retos_cli.specs.Meaning.{Answer, IsAnswer, IsRefused, IsPrinted, IsRefusal, IsFirstRefused, IsDone, IsOutput, Output, inputs, status_by, refused_answer, done_answer}
-use Rattle.retos_cli.specs.Ends.{Told, EndedBy, Ended, Finished, CutShort, StoppedFor, Printed, line_of, status_of}
-use Rattle.retos_cli.specs.Clauses.{Call, IsOutputOf, OutputClause, RefusedClause, ReadFaultClause, NoMemoryClause, WriteFaultClause, CompleteClause, NoCommandClause, LineFor, IsUnwritten, IsReadLine, IsWriteFault, IsCutLine, OfWrites, OfStatus, IsCalm, HasStatus, ReachedBy}
+use Rattle.retos_cli.specs.Meaning.{IsRefused, IsPrinted, IsRefusal, IsFirstRefused, IsDone, IsOutput, Output, inputs, written, status_by, refused_answer, done_answer}
+use Rattle.retos_cli.specs.Ends.{Told, EndedBy, Finished, CutShort, CutAt, StoppedFor, Printed, line_of, status_of}
+use Rattle.retos_cli.specs.Clauses.{Call, IsOutputOf, OutputClause, RefusedClause, ReadFaultClause, NoMemoryClause, WriteFaultClause, CompleteClause, NoCommandClause, LineFor, IsUnwritten, IsReadLine, IsWriteFault, IsCut, Nothing, OfOutput, OfWrites, OfStatus, HasStatus}
 use Rattle.retos_cli.proofs.Told.{told_map, told_all}
 
 injected : (a b : Command) → Some a ≡ Some b → a ≡ b
@@ -49,19 +49,22 @@ module _ (f0 f1 : FolderState) (o0 o1 e0 e1 : SinkState) where
   Whole (Some line) = e1.bytes ≡ appended e0.bytes line
 
   abbrev Written : Command → Bool → Files → Type 0
-  Written c faulted m = (out : List ℕ) × IsOutput c m (record { out = out; faulted = faulted }) × (o1.bytes ≡ appended o0.bytes out)
+  Written c faulted m = (x : Output) × IsOutput c m x × (x.faulted ≡ faulted) × (o1.bytes ≡ appended o0.bytes x.out) × (f1.files ≡ Some (written m x.file))
+
+  same-status : (a b : Bool) → a ≡ b → status_by b ≡ status_by a
+  same-status a b e = ap (λ (f : Bool). status_by f) (sym e)
 
   -- ---- the output
 
   output-of : (c : Command) (faulted : Bool) → Finished c f0 f1 o0 o1 faulted → e1 ≡ e0 → Told f0.files (IsOutputOf (call-with (Some c)) (status_by faulted))
   output-of c faulted h e = told_map f0.files (Written c faulted) (IsOutputOf (call-with (Some c)) (status_by faulted))
       (λ m s t. record {
-        x = record { out = t.0; faulted = faulted };
-        done = done-is c m (record { out = t.0; faulted = faulted }) t.1;
-        out = t.2;
+        x = t.0;
+        done = done-is c m t.0 t.1;
+        out = t.3;
         err = ap (λ (s : SinkState). s.bytes) e;
-        files = h.files ∙ s;
-        status = refl;
+        files = t.4;
+        status = same-status t.0.faulted faulted t.2;
       }) h.told
 
   output-whole : (c : Option Command) (o : Outcome) → Came c o → Whole (line_of o) → OutputClause (call-with c) (status_of o)
@@ -148,17 +151,18 @@ module _ (f0 f1 : FolderState) (o0 o1 e0 e1 : SinkState) where
 
   -- ---- write faults
 
-  abbrev OutPart : Option Command → Files → Type 0
-  OutPart c m = (o1.bytes ≡ o0.bytes) ⊎ ((x : Output) × IsDone c m x × GotPrefix o0.bytes o1.bytes x.out)
-
   abbrev ErrPart : List ℕ → Type 0
   ErrPart line = (e1.bytes ≡ appended e0.bytes line) ⊎ (Rose e0.faults e1.faults × GotPrefix e0.bytes e1.bytes line)
 
-  cut-out : (c : Command) → CutShort c f0 f1 o0 o1 → Told f0.files (OutPart (Some c))
-  cut-out c h = told_map f0.files (λ m. (x : Output) × IsOutput c m x × GotPrefix o0.bytes o1.bytes x.out) (OutPart (Some c)) (λ m s t. inr (t.0, done-is c m t.0 t.1, t.2)) h.told
+  cut-told : (c : Command) → CutShort c f0 f1 o0 o1 → Told f0.files (IsCut (call-with (Some c)))
+  cut-told c h = told_map f0.files (λ m. (x : Output) × IsOutput c m x × CutAt x.file x.out m f1.files o0.bytes o1.bytes) (IsCut (call-with (Some c))) (λ m s t. OfOutput t.0 (done-is c m t.0 t.1) t.2) h.told
+
+  cause-of : Rose o0.faults o1.faults ⊎ Rose f0.write_faults f1.write_faults → Rose o0.faults o1.faults ⊎ (Rose e0.faults e1.faults ⊎ Rose f0.write_faults f1.write_faults)
+  cause-of (inl r) = inl r
+  cause-of (inr r) = inr (inr r)
 
   cut-by : (c : Command) → CutShort c f0 f1 o0 o1 → ErrPart write_line → IsWriteFault (call-with (Some c))
-  cut-by c h w = record { cause = inl h.cause; out = cut-out c h; files = h.files; line = write_line; which = OfWrites refl (inl h.cause); err = w }
+  cut-by c h w = record { cause = cause-of h.cause; told = cut-told c h; line = write_line; which = OfWrites refl h.cause; err = w }
 
   write-whole : (c : Option Command) (o : Outcome) → Came c o → Whole (line_of o) → WriteFaultClause (call-with c) (status_of o)
   write-whole (Some c) (outcome.Done true) h w = tt
@@ -178,8 +182,7 @@ module _ (f0 f1 : FolderState) (o0 o1 e0 e1 : SinkState) where
   unwritten : (c : Option Command) (given : Status) (line : List ℕ) → o1.bytes ≡ o0.bytes → f1.files ≡ f0.files → LineFor (call-with c) given line → Rose e0.faults e1.faults → GotPrefix e0.bytes e1.bytes line → IsWriteFault (call-with c)
   unwritten c given line o f l r g = record {
     cause = inr (inl r);
-    out = told_all f0.files (OutPart c) (λ m s. inl o);
-    files = f;
+    told = told_all f0.files (IsCut (call-with c)) (λ m s. Nothing (f ∙ s) o);
     line = line;
     which = OfStatus given l r;
     err = inr (r, g);
@@ -210,11 +213,15 @@ module _ (f0 f1 : FolderState) (o0 o1 e0 e1 : SinkState) where
 
   complete-done : (c : Command) (faulted : Bool) → Finished c f0 f1 o0 o1 faulted → Told f0.files (Ending (Some c) (status_by faulted))
   complete-done c faulted h = told_map f0.files (Written c faulted) (Ending (Some c) (status_by faulted))
-      (λ m s t. let x : Output = record { out = t.0; faulted = faulted } in inl (record { answer = done_answer x; is = IsPrinted x (done-is c m x t.1) refl; status = refl })) h.told
+      (λ m s t. inl (record { answer = done_answer t.0; is = IsPrinted t.0 (done-is c m t.0 t.1) refl; status = same-status t.0.faulted faulted t.2 })) h.told
 
   complete-refused : (c : Command) (r : Refusing) → StoppedFor c f0 f1 o0 o1 (stop.Refuse r) → Told f0.files (Ending (Some c) status.Refused)
   complete-refused c r h = told_map f0.files (λ m. IsFirstRefused m (inputs c) r) (Ending (Some c) status.Refused)
       (λ m s t. inl (record { answer = refused_answer status.Refused (refused_line r); is = IsRefused status.Refused (refused_line r) (refusal-is c m r t) refl; status = refl })) h.cause
+
+  none-moved : Rose o0.faults o1.faults ⊎ Rose f0.write_faults f1.write_faults → Still o0.faults o1.faults → Still f0.write_faults f1.write_faults → ⊥
+  none-moved (inl r) s t = moved o0.faults o1.faults r s
+  none-moved (inr r) s t = moved f0.write_faults f1.write_faults r t
 
   complete-whole : (c : Option Command) (o : Outcome) → Came c o → Whole (line_of o) → CompleteClause (call-with c) (status_of o)
   complete-whole (Some c) (outcome.Done b) h w q = complete-done c b h
@@ -222,7 +229,7 @@ module _ (f0 f1 : FolderState) (o0 o1 e0 e1 : SinkState) where
   complete-whole (Some c) (outcome.Stopped (stop.Refuse r)) h w q = complete-refused c r h
   complete-whole (Some c) (outcome.Stopped (stop.ReadFault n)) h w q = absurd (moved f0.read_faults f1.read_faults h.cause.rose q.reads)
   complete-whole (Some c) (outcome.Stopped stop.NoMemory) h w q = told_all f0.files (Ending (Some c) status.NoMemory) (λ m s. inr refl)
-  complete-whole (Some c) outcome.WriteFault h w q = absurd (moved o0.faults o1.faults h.cause q.out)
+  complete-whole (Some c) outcome.WriteFault h w q = absurd (none-moved h.cause q.out q.writes)
   complete-whole None (outcome.Done b) h w q = absurd h
   complete-whole None outcome.BadWords h w q = told_all f0.files (Ending None status.BadWords) (λ m s. inl (record { answer = refused_answer status.BadWords words_line; is = IsRefused status.BadWords words_line (bad-words-is m) refl; status = refl }))
   complete-whole None (outcome.Stopped (stop.Refuse r)) h w q = absurd h

@@ -1,20 +1,15 @@
 -- The run of an application that is taken is confined.
-use Rattle.std.proofs.Common.{◌≡◌, ℕ, ◌+◌, ◌*◌, ◌≤◌, ◌<◌, List, length, Some, None, Ok, Err, inl, inr, arith}
+use Rattle.std.proofs.Common.{◌≡◌, ◌≤◌, ◌<◌, Some, None, Ok, Err, inl, inr, arith}
 use Rattle.std.proofs.lemmas.Bool.{cases_lt}
 use Rattle.std.specs.declared.option.Option.{Option}
-use Rattle.edge_io.specs.Known.{Files, held}
+use Rattle.edge_io.specs.Known.{Files}
 use Rattle.object_form.specs.declared.object.Object.{Object}
-use Rattle.object_form.specs.declared.parts.Kind.TheVariants.{App}
 use Rattle.image_model.specs.Domains.{code_length, region_length}
 use Rattle.place_model.specs.declared.places.NoRoom.TheVariants.{Region}
 use Rattle.solo_model.specs.Booted.{alone, placing_alone, region_end}
-use Rattle.solo_model.specs.Running.{booted}
 use Rattle.solo_laws.specs.Laws.{SoloLaw}
-use Rattle.solo_laws.specs.Sound.{AllConfined}
 use Rattle.retos_cli.specs.declared.command.Command.{Command}
-use Rattle.retos_cli.specs.declared.command.Command.TheVariants.{Solo, Check}
-use Rattle.retos_cli.specs.declared.form.Form.TheVariants.{Runnable}
-use Rattle.retos_cli.specs.Meaning.{Taken}
+use Rattle.retos_cli.specs.declared.command.Command.TheVariants.{Solo, Check, Asm}
 use Rattle.retos_cli.specs.Ends.{Told}
 use Rattle.retos_cli.specs.Clauses.{RunsConfined}
 use Rattle.retos_cli.proofs.Told.{told_all}
@@ -35,6 +30,7 @@ fits law o room = omega (arith, room_is law o room)
 runs-confined : SoloLaw → PlacedLaw → (m : Files) (c : Option Command) → RunsConfined c m
 runs-confined law placed m None = tt
 runs-confined law placed m (Some (Check names)) = tt
+runs-confined law placed m (Some (Asm from to)) = tt
 runs-confined law placed m (Some (Solo name steps)) = λ o units taken memory boots. law o units memory steps taken.fit.suits (fits placed o taken.fit.room) taken.fit.accepted boots
 
 pub confined_clause : SoloLaw → PlacedLaw → (files : Option Files) (c : Option Command) → Told files (RunsConfined c)

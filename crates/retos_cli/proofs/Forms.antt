@@ -1,5 +1,5 @@
 -- The walk over the instructions of an object.
-use Rattle.std.proofs.Common.{◌≡◌, ℕ, ◌+◌, ◌≤◌, ◌<◌, List, ◌⊎◌, inl, inr, length, drop, suc, sym, subst, refl, arith}
+use Rattle.std.proofs.Common.{◌≡◌, ℕ, ◌+◌, ◌≤◌, ◌<◌, List, inl, inr, length, drop, suc, sym, subst, refl, arith}
 use Rattle.std.proofs.lemmas.Bool.{cases_order}
 use Rattle.msp_encode.specs.declared.instr.Instr.{Instr}
 use Rattle.object_form.specs.declared.parts.Reloc.{Reloc}

@@ -1,24 +1,21 @@
 -- Inputs that are taken one by one.
-use Rattle.std.proofs.Common.{◌≡◌, ℕ, ◌<◌, ◌≤◌, ◌+◌, suc, List, [], ◌∷◌, ◌++◌, length, drop, slice_get, unwrap_or, get_or, codes, decimal, Some, None, Ok, Err, refl, ap, sym, subst, ◌∙◌, inl, inr, append_assoc, arith}
+use Rattle.std.proofs.Common.{◌≡◌, ℕ, ◌<◌, ◌≤◌, ◌+◌, List, [], ◌∷◌, ◌++◌, length, drop, codes, decimal, Some, None, Ok, Err, refl, ap, sym, subst, ◌∙◌, inl, inr, append_assoc, arith}
 use Rattle.std.specs.declared.option.Option.{Option}
-use Rattle.std.specs.declared.result.Result.{Result}
 use Rattle.std.proofs.Math.Seq.{drop-cons}
 use Rattle.std.proofs.lemmas.Option.{unwrap_or-slice_get}
 use Rattle.std.proofs.lemmas.List.{append-nil, drop_all}
 use Rattle.edge_io.specs.Known.{appended, GotPrefix}
 use Rattle.solo_run.proofs.Pieces.{GotBefore, before_start, before_more, before_cut}
-use Rattle.edge_io.specs.Known.{Files, FolderState, held}
-use Rattle.edge_io.specs.Causes.{Rose}
+use Rattle.edge_io.specs.Known.{Files, FolderState}
 use Rattle.retos_cli.specs.declared.counted.Counted.{Counted}
 use Rattle.retos_cli.specs.declared.outcome.Refused.{Refused}
 use Rattle.retos_cli.specs.declared.outcome.Stop.{Stop}
 use Rattle.retos_cli.specs.declared.outcome.Stop.TheVariants.{Refuse, ReadFault, NoMemory}
-use Rattle.retos_cli.specs.declared.form.Form.TheVariants.{Checked}
 use Rattle.retos_cli.specs.Commands.{word}
 use Rattle.retos_cli.specs.Meaning.{Input, IsTaken, IsFirstRefused, IsReached, IsAcceptedLine, AreAcceptedLines, checked_inputs}
 use Rattle.retos_cli.specs.Lines.{accepted_line}
 use Rattle.retos_cli.specs.Judging.{IsCounted, AreCounted, CountEnds, checked, count_of, counted_line, counted_lines}
-use Rattle.retos_cli.specs.Ends.{Told, RefusesInput, FailedAt, FailedRead, StopCause, OnlyRead}
+use Rattle.retos_cli.specs.Ends.{Told, RefusesInput, StopCause, OnlyRead}
 use Rattle.retos_cli.proofs.Told.{told_map, told_same, told_all, rose_before, read_none, read_more}
 
 -- of the inputs so far each is counted, and what ends those that are left ends all

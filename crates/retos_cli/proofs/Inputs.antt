@@ -1,18 +1,25 @@
 -- One input: what its read answers, and its text.
-use Rattle.std.proofs.Common.{◌≡◌, ℕ, ◌≤◌, ◌<◌, List, length, Some, None, Ok, Err, refl, ap, sym, subst, ◌∙◌, Bool}
+use Rattle.std.proofs.Common.{◌≡◌, ℕ, ◌≤◌, List, length, Some, None, Ok, Err, refl, ap, sym, subst, ◌∙◌, Bool}
 use Rattle.std.specs.declared.option.Option.{Option}
 use Rattle.edge_io.specs.Known.{Files, FolderState, Answers, AnswersOf, held}
-use Rattle.edge_io.specs.Causes.{ReadLeaves, Rose}
+use Rattle.edge_io.specs.Causes.{ReadLeaves, input_failed}
 use Rattle.edge_io.specs.declared.whole.InputFault.{InputFault}
 use Rattle.edge_io.specs.declared.whole.InputFault.TheVariants as fault
 use Rattle.object_form.specs.declared.object.Object.{Object}
-use Rattle.object_form.specs.Spelling.{object_bytes}
+use Rattle.object_form.specs.Spelling.{fields}
+use Rattle.asm_text.specs.declared.fault.AsmKind.{AsmKind}
+use Rattle.asm_text.specs.declared.fault.AsmFault.{AsmFault}
+use Rattle.asm_text.specs.declared.fault.AsmFault.TheVariants.{At}
+use Rattle.asm_text.specs.Assembled.{assembled, GivesObject}
+use Rattle.retos_cli.specs.declared.form.Form.TheVariants.{Source}
+use Rattle.retos_cli.proofs.Judgments.{refuses_line}
 use Rattle.retos_cli.specs.declared.form.Form.{Form}
 use Rattle.retos_cli.specs.declared.outcome.Why.{Why}
 use Rattle.retos_cli.specs.declared.outcome.Why.TheVariants as why
-use Rattle.retos_cli.specs.declared.outcome.Refused.{Refused}
-use Rattle.retos_cli.specs.Meaning.{Input, Taken, Refuses}
-use Rattle.retos_cli.specs.Ends.{Told, RefusesInput, OnlyRead, FailedAt}
+use Rattle.retos_cli.specs.Meaning.{Taken, Assembles, Refuses}
+use Rattle.retos_cli.specs.declared.outcome.Stop.{Stop}
+use Rattle.retos_cli.specs.Judging.{stop_of}
+use Rattle.retos_cli.specs.Ends.{Told, RefusesInput, OnlyRead, InputStops}
 
 holds : (h : Option (List ℕ)) (bytes : List ℕ) → Answers h (Ok bytes) → Some bytes ≡ h
 holds None bytes a = absurd a
@@ -55,19 +62,34 @@ long-by : (files : Option Files) (name : List ℕ) (form : Form) → AnswersOf f
 long-by None name form a = tt
 long-by (Some m) name form a = record { name_is = refl; refuses = too-long form (held m name) a }
 
-pub absent_told : (files : Option Files) (name named : List ℕ) (form : Form) (e : InputFault) → e ≡ fault.Absent → AnswersOf files name (Err e) → named ≡ name
-    → Told files (λ m. RefusesInput m (record { name = name; form = form }) (record { name = named; why = why.Absent }))
-absent_told files name named form e x a n =
-    let P : InputFault → Type 0 = λ f. AnswersOf files name (Err f) in
-    let Q : List ℕ → Type 0 = λ k. Told files (λ m. RefusesInput m (record { name = name; form = form }) (record { name = k; why = why.Absent })) in
-    subst Q (sym n) (absent-by files name form (subst P x a))
+pub unread_stops : (f0 f1 : FolderState) (name : List ℕ) (form : Form) (e : InputFault) (s : Stop) → AnswersOf f0.files name (Err e) → ReadLeaves f0 f1 name (input_failed {T = List ℕ} (Err e)) → s ≡ stop_of name e
+    → InputStops f0 f1 (record { name = name; form = form }) s
+unread_stops f0 f1 name form e s a r w = let P : Stop → Type 0 = λ t. InputStops f0 f1 (record { name = name; form = form }) t in subst P (sym w) (unread-by f0 f1 name form e a r)
+  where
+    unread-by : (f0 f1 : FolderState) (name : List ℕ) (form : Form) (e : InputFault) → AnswersOf f0.files name (Err e) → ReadLeaves f0 f1 name (input_failed {T = List ℕ} (Err e)) → InputStops f0 f1 (record { name = name; form = form }) (stop_of name e)
+    unread-by f0 f1 name form fault.Absent a r = absent-by f0.files name form a
+    unread-by f0 f1 name form fault.TooLong a r = long-by f0.files name form a
+    unread-by f0 f1 name form fault.Failed a r = record { name_is = refl; rose = r.rose refl; last = r.last }
+    unread-by f0 f1 name form fault.Memory a r = tt
 
-pub long_told : (files : Option Files) (name named : List ℕ) (form : Form) (e : InputFault) → e ≡ fault.TooLong → AnswersOf files name (Err e) → named ≡ name
-    → Told files (λ m. RefusesInput m (record { name = name; form = form }) (record { name = named; why = why.TooLong }))
-long_told files name named form e x a n =
-    let P : InputFault → Type 0 = λ f. AnswersOf files name (Err f) in
-    let Q : List ℕ → Type 0 = λ k. Told files (λ m. RefusesInput m (record { name = name; form = form }) (record { name = k; why = why.TooLong })) in
-    subst Q (sym n) (long-by files name form (subst P x a))
+pub assembled_told : (files : Option Files) (name bytes text : List ℕ) (o : Object) → AnswersOf files name (Ok bytes) → text ≡ bytes → length bytes ≤ 1048576 → assembled text ≡ Ok (fields o) → Told files (λ m. Assembles (held m name) o)
+assembled_told None name bytes text o a e l g = tt
+assembled_told (Some m) name bytes text o a e l g =
+    let P : List ℕ → Type 0 = λ t. assembled t ≡ Ok (fields o) in
+    record { source = bytes; held_is = sym (holds (held m name) bytes a); short = l; gives = subst P e g }
+
+line-refused : (files : Option Files) (name bytes text : List ℕ) (line : ℕ) (k : AsmKind) → AnswersOf files name (Ok bytes) → text ≡ bytes → length bytes ≤ 1048576 → GivesObject text (Err (At line k))
+    → Told files (λ m. RefusesInput m (record { name = name; form = Source }) (record { name = name; why = why.Line line k }))
+line-refused files name bytes text line k a e l g =
+    let P : List ℕ → Type 0 = λ t. length t ≤ 1048576 in
+    refused_told files name bytes text Source (why.Line line k) a e (refuses_line text line k (subst P (sym e) l) g)
+
+pub line_told : (files : Option Files) (name named bytes text : List ℕ) (line : ℕ) (k : AsmKind) (f : AsmFault) → AnswersOf files name (Ok bytes) → text ≡ bytes → length bytes ≤ 1048576 → GivesObject text (Err f) → f ≡ At line k → named ≡ name
+    → Told files (λ m. RefusesInput m (record { name = name; form = Source }) (record { name = named; why = why.Line line k }))
+line_told files name named bytes text line k f a e l g w n =
+    let P : AsmFault → Type 0 = λ x. GivesObject text (Err x) in
+    let Q : List ℕ → Type 0 = λ x. Told files (λ m. RefusesInput m (record { name = name; form = Source }) (record { name = x; why = why.Line line k })) in
+    subst Q (sym n) (line-refused files name bytes text line k a e l (subst P w g))
 
 pub only_read : (f g : FolderState) (name : List ℕ) (b : Bool) → ReadLeaves f g name b → OnlyRead f g
 only_read f g name b r = record { later = r.later; files = r.files; writes = r.writes; created = r.created }

@@ -6,6 +6,7 @@ pub mod Gathering
 pub mod Inputs
 pub mod Joined
 pub mod Judgments
+pub mod Sources
 pub mod Told
 pub mod Traces
 pub mod Confining

@@ -1,5 +1,5 @@
 -- Facts about files where they are told.
-use Rattle.std.proofs.Common.{◌≡◌, ℕ, ◌+◌, ◌-◌, ◌^◌, ◌≤◌, List, Some, None, refl, ap, sym, subst, ◌∙◌, min, arith}
+use Rattle.std.proofs.Common.{◌≡◌, ℕ, ◌≤◌, Some, None, refl, subst, ◌∙◌, arith}
 use Rattle.std.specs.declared.option.Option.{Option}
 use Rattle.edge_io.specs.Known.{Files, FolderState}
 use Rattle.edge_io.specs.Causes.{Rose}
@@ -24,3 +24,7 @@ read_none f = record { later = omega arith; files = refl; writes = refl; created
 
 pub read_more : (f g h : FolderState) → OnlyRead f g → OnlyRead g h → OnlyRead f h
 read_more f g h a b = record { later = omega (arith, a.later, b.later); files = b.files ∙ a.files; writes = b.writes ∙ a.writes; created = b.created ∙ a.created }
+
+pub told_both : (o : Option Files) (P Q R : Files → Type 0) → ((m : Files) → o ≡ Some m → P m → Q m → R m) → Told o P → Told o Q → Told o R
+told_both None P Q R f p q = tt
+told_both (Some m) P Q R f p q = f m refl p q

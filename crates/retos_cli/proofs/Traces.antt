@@ -1,5 +1,5 @@
 -- Traces that are printed, and what the commands come to.
-use Rattle.std.proofs.Common.{◌≡◌, ℕ, ◌≤◌, ◌<◌, Bool, false, List, [], ◌++◌, length, nat_lt, Some, None, Ok, Err, refl, ap, sym, subst, ◌∙◌, append_assoc, arith, inl, ◌∷◌}
+use Rattle.std.proofs.Common.{◌≡◌, ℕ, ◌≤◌, Bool, false, List, [], ◌++◌, length, nat_lt, Some, None, Err, refl, ap, sym, subst, ◌∙◌, append_assoc, arith, inl, ◌∷◌}
 use Rattle.std.specs.declared.option.Option.{Option}
 use Rattle.edge_io.specs.Known.{Files, FolderState, SinkState, appended, GotPrefix, held}
 use Rattle.edge_io.specs.Causes.{Rose}
@@ -17,10 +17,10 @@ use Rattle.retos_cli.specs.declared.outcome.Stop.{Stop}
 use Rattle.retos_cli.specs.declared.outcome.Stop.TheVariants.{Refuse, ReadFault, NoMemory}
 use Rattle.retos_cli.specs.declared.outcome.Refused.{Refused}
 use Rattle.retos_cli.specs.Lines.{marked_below}
-use Rattle.retos_cli.specs.Meaning.{Input, Output, Taken, IsOutput, IsSoloOutput, IsFirstRefused, IsReached, inputs}
+use Rattle.retos_cli.specs.Meaning.{Input, Output, Taken, IsOutput, IsFirstRefused, IsReached, written}
 use Rattle.retos_cli.specs.Judging.{IsCounted, AreCounted, CountEnds, checked, counted_lines}
 use Rattle.retos_cli.specs.Tracing.{Traced, RanOn}
-use Rattle.retos_cli.specs.Ends.{Told, Ended, Finished, CutShort, StoppedFor, StopCause, InputEnds, RefusesInput, OnlyRead, FailedAt, FailedRead}
+use Rattle.retos_cli.specs.Ends.{Told, Ended, StopCause, InputEnds, InputStops, RefusesInput, OnlyRead, CutAt}
 use Rattle.retos_cli.proofs.Gathering.{lines_of}
 use Rattle.retos_cli.proofs.Told.{told_map, told_all}
 use Rattle.std.proofs.lemmas.List.{append-nil}
@@ -61,23 +61,21 @@ traced_run o b steps s o0 m o1 r e p l h = let P : System → Type 0 = λ x. Ran
 -- ---- the command `solo`
 
 solo-output : (m : Files) (name : List ℕ) (steps : ℕ) (o : Object) (units b : List ℕ) (faulted : Bool) → IsBootMemory o units b → Taken Runnable (held m name) o units → faulted ≡ nat_lt 0 (count_faults (run steps (booted o b)).records)
-    → IsOutput (Solo name steps) m (record { out = trace_text o b steps; faulted = faulted })
+    → IsOutput (Solo name steps) m (record { out = trace_text o b steps; file = None; faulted = faulted })
 unfolding IsOutput
-solo-output m name steps o units b faulted k t f = record { object = o; units = units; taken = t; memory = b; boots = k; trace = refl; faulted_is = f }
+solo-output m name steps o units b faulted k t f = record { object = o; units = units; taken = t; memory = b; boots = k; trace = refl; file_is = refl; faulted_is = f }
 
 pub solo_ended : (f0 f1 : FolderState) (o0 o1 : SinkState) (name : List ℕ) (steps : ℕ) (o : Object) (units b : List ℕ) (r : Outcome)
     → IsBootMemory o units b → Told f0.files (λ m. Taken Runnable (held m name) o units) → OnlyRead f0 f1 → Traced o b steps o0 o1 r → Ended (Solo name steps) f0 f1 o0 o1 r
 unfolding Traced
 solo_ended f0 f1 o0 o1 name steps o units b (Done f) k t l h = record {
-  files = l.files;
-  told = told_map f0.files (λ m. Taken Runnable (held m name) o units) (λ m. (out : List ℕ) × IsOutput (Solo name steps) m (record { out = out; faulted = f }) × (o1.bytes ≡ appended o0.bytes out))
-      (λ m e x. (trace_text o b steps, solo-output m name steps o units b f k x h.1, h.0)) t;
+  told = told_map f0.files (λ m. Taken Runnable (held m name) o units) (λ m. (x : Output) × IsOutput (Solo name steps) m x × (x.faulted ≡ f) × (o1.bytes ≡ appended o0.bytes x.out) × (f1.files ≡ Some (written m x.file)))
+      (λ m e x. (record { out = trace_text o b steps; file = None; faulted = f }, solo-output m name steps o units b f k x h.1, refl, h.0, l.files ∙ e)) t;
 }
 solo_ended f0 f1 o0 o1 name steps o units b WriteFault k t l h = record {
-  cause = h.0;
-  files = l.files;
-  told = told_map f0.files (λ m. Taken Runnable (held m name) o units) (λ m. (x : Output) × IsOutput (Solo name steps) m x × GotPrefix o0.bytes o1.bytes x.out)
-      (λ m e x. (record { out = trace_text o b steps; faulted = nat_lt 0 (count_faults (run steps (booted o b)).records) }, solo-output m name steps o units b (nat_lt 0 (count_faults (run steps (booted o b)).records)) k x refl, h.1)) t;
+  cause = inl h.0;
+  told = told_map f0.files (λ m. Taken Runnable (held m name) o units) (λ m. (x : Output) × IsOutput (Solo name steps) m x × CutAt x.file x.out m f1.files o0.bytes o1.bytes)
+      (λ m e x. (record { out = trace_text o b steps; file = None; faulted = nat_lt 0 (count_faults (run steps (booted o b)).records) }, solo-output m name steps o units b (nat_lt 0 (count_faults (run steps (booted o b)).records)) k x refl, (l.files ∙ e, h.1))) t;
 }
 solo_ended f0 f1 o0 o1 name steps o units b BadWords k t l h = absurd h
 solo_ended f0 f1 o0 o1 name steps o units b (Stopped s) k t l h = absurd h
@@ -93,13 +91,14 @@ reached-here m i n e = inl e
 abbrev ran : List ℕ → Input
 ran name = record { name = name; form = Runnable }
 
-solo-cause : (f0 f1 : FolderState) (name : List ℕ) (s : Stop) → InputEnds f0 f1 (ran name) (Err s) → StopCause (ran name ∷ []) f0 f1 s
-solo-cause f0 f1 name (Refuse r) h = told_map f0.files (λ m. RefusesInput m (ran name) r) (λ m. IsFirstRefused m (ran name ∷ []) r) (λ m e x. first-here m (ran name) r x) h
-solo-cause f0 f1 name (ReadFault n) h = record { rose = h.rose; last = h.last; reached = told_all f0.files (λ m. IsReached m (ran name ∷ []) n) (λ m e. reached-here m (ran name) n h.name_is) }
-solo-cause f0 f1 name NoMemory h = tt
+-- why the one input of a command ends it
+pub one_cause : (f0 f1 : FolderState) (i : Input) (s : Stop) → InputStops f0 f1 i s → StopCause (i ∷ []) f0 f1 s
+one_cause f0 f1 i (Refuse r) h = told_map f0.files (λ m. RefusesInput m i r) (λ m. IsFirstRefused m (i ∷ []) r) (λ m e x. first-here m i r x) h
+one_cause f0 f1 i (ReadFault n) h = record { rose = h.rose; last = h.last; reached = told_all f0.files (λ m. IsReached m (i ∷ []) n) (λ m e. reached-here m i n h.name_is) }
+one_cause f0 f1 i NoMemory h = tt
 
 pub solo_stopped : (f0 f1 : FolderState) (o0 o1 : SinkState) (name : List ℕ) (steps : ℕ) (s : Stop) → InputEnds f0 f1 (ran name) (Err s) → OnlyRead f0 f1 → o1 ≡ o0 → Ended (Solo name steps) f0 f1 o0 o1 (Stopped s)
-solo_stopped f0 f1 o0 o1 name steps s h l e = record { read = l; cause = solo-cause f0 f1 name s h; out = e }
+solo_stopped f0 f1 o0 o1 name steps s h l e = record { read = l; cause = one_cause f0 f1 (ran name) s h; out = e }
 
 pub solo_unserved : (f0 f1 : FolderState) (o0 o1 : SinkState) (name : List ℕ) (steps : ℕ) → OnlyRead f0 f1 → o1 ≡ o0 → Ended (Solo name steps) f0 f1 o0 o1 (Stopped NoMemory)
 solo_unserved f0 f1 o0 o1 name steps l e = record { read = l; cause = tt; out = e }
@@ -120,16 +119,15 @@ count-ends f0 f1 name NoMemory h = tt
 pub count_stopped : (f0 f1 : FolderState) (name named : List ℕ) (s : Stop) → InputEnds f0 f1 (checked named) (Err s) → named ≡ name → CountEnds f0 f1 name (Err s)
 count_stopped f0 f1 name named s h e = let P : List ℕ → Type 0 = λ n. CountEnds f0 f1 n (Err s) in subst P e (count-ends f0 f1 named s h)
 
-check-output : (m : Files) (names : List (List ℕ)) (counts : List Counted) → AreCounted m names counts → IsOutput (Check names) m (record { out = counted_lines names counts; faulted = false })
+check-output : (m : Files) (names : List (List ℕ)) (counts : List Counted) → AreCounted m names counts → IsOutput (Check names) m (record { out = counted_lines names counts; file = None; faulted = false })
 unfolding IsOutput
-check-output m names counts h = (lines_of m names counts h, refl)
+check-output m names counts h = (lines_of m names counts h, refl, refl)
 
 pub check_done : (f0 f1 : FolderState) (o0 o1 : SinkState) (names : List (List ℕ)) (counts given : List Counted) → Told f0.files (λ m. AreCounted m names counts) → OnlyRead f0 f1 → given ≡ counts
     → o1.bytes ≡ appended o0.bytes (counted_lines names given) → Ended (Check names) f0 f1 o0 o1 (Done false)
 check_done f0 f1 o0 o1 names counts given t l g w = record {
-  files = l.files;
-  told = told_map f0.files (λ m. AreCounted m names counts) (λ m. (out : List ℕ) × IsOutput (Check names) m (record { out = out; faulted = false }) × (o1.bytes ≡ appended o0.bytes out))
-      (λ m e x. (counted_lines names counts, check-output m names counts x, w ∙ ap (λ (cs : List Counted). appended o0.bytes (counted_lines names cs)) g)) t;
+  told = told_map f0.files (λ m. AreCounted m names counts) (λ m. (x : Output) × IsOutput (Check names) m x × (x.faulted ≡ false) × (o1.bytes ≡ appended o0.bytes x.out) × (f1.files ≡ Some (written m x.file)))
+      (λ m e x. (record { out = counted_lines names counts; file = None; faulted = false }, check-output m names counts x, refl, w ∙ ap (λ (cs : List Counted). appended o0.bytes (counted_lines names cs)) g, l.files ∙ e)) t;
 }
 
 pub check_cut : (f0 f1 : FolderState) (o0 o1 : SinkState) (names : List (List ℕ)) (counts given : List Counted) → Told f0.files (λ m. AreCounted m names counts) → OnlyRead f0 f1 → given ≡ counts
@@ -137,8 +135,7 @@ pub check_cut : (f0 f1 : FolderState) (o0 o1 : SinkState) (names : List (List �
 check_cut f0 f1 o0 o1 names counts given t l g r w =
     let P : List Counted → Type 0 = λ cs. GotPrefix o0.bytes o1.bytes (counted_lines names cs) in
     record {
-      cause = r;
-      files = l.files;
-      told = told_map f0.files (λ m. AreCounted m names counts) (λ m. (x : Output) × IsOutput (Check names) m x × GotPrefix o0.bytes o1.bytes x.out)
-          (λ m e x. (record { out = counted_lines names counts; faulted = false }, check-output m names counts x, subst P g w)) t;
+      cause = inl r;
+      told = told_map f0.files (λ m. AreCounted m names counts) (λ m. (x : Output) × IsOutput (Check names) m x × CutAt x.file x.out m f1.files o0.bytes o1.bytes)
+          (λ m e x. (record { out = counted_lines names counts; file = None; faulted = false }, check-output m names counts x, (l.files ∙ e, subst P g w))) t;
     }

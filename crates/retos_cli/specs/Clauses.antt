@@ -1,18 +1,18 @@
 -- The clauses of the top call: what each status says of the folder and the two sinks.
-use Rattle.std.specs.Prelude.{◌≡◌, ℕ, ◌⊎◌, List, [], Some, None}
+use Rattle.std.specs.Prelude.{◌≡◌, ℕ, ◌⊎◌, List, Some, None}
 use Rattle.std.specs.declared.option.Option.{Option}
 use Rattle.edge_io.specs.Known.{Files, FolderState, SinkState, appended, held, GotPrefix}
 use Rattle.edge_io.specs.Causes.{Rose, Still}
 use Rattle.object_form.specs.declared.object.Object.{Object}
 use Rattle.retos_cli.specs.declared.command.Command.{Command}
-use Rattle.retos_cli.specs.declared.command.Command.TheVariants.{Solo, Check}
+use Rattle.retos_cli.specs.declared.command.Command.TheVariants.{Solo, Check, Asm}
 use Rattle.retos_cli.specs.declared.form.Form.TheVariants.{Runnable}
 use Rattle.retos_cli.specs.declared.outcome.Status.{Status}
 use Rattle.retos_cli.specs.declared.outcome.Status.TheVariants.{Done, Refused, BadWords, ReadFault, WriteFault, NoMemory, Faulted}
 use Rattle.retos_cli.specs.Commands.{command_of}
 use Rattle.retos_cli.specs.Lines.{words_line, write_line, memory_line, read_line}
-use Rattle.retos_cli.specs.Meaning.{Answer, IsAnswer, IsRefusal, Output, IsDone, status_by, inputs, IsReached, Taken}
-use Rattle.retos_cli.specs.Ends.{Told}
+use Rattle.retos_cli.specs.Meaning.{Answer, IsAnswer, IsRefusal, Output, IsDone, status_by, inputs, written, IsReached, Taken}
+use Rattle.retos_cli.specs.Ends.{Told, CutAt}
 use Rattle.solo_model.specs.Running.{booted}
 use Rattle.solo_model.specs.Booted.{IsBootMemory}
 use Rattle.solo_laws.specs.Sound.{AllConfined}
@@ -37,7 +37,7 @@ pub record IsOutputOf (call : Call) (given : Status) (m : Files) : Type 0 where
   pub done : IsDone call.command m x
   pub out : call.o1.bytes ≡ appended call.o0.bytes x.out
   pub err : call.e1.bytes ≡ call.e0.bytes
-  pub files : call.f1.files ≡ Some m
+  pub files : call.f1.files ≡ Some (written m x.file)
   pub status : given ≡ status_by x.faulted
 
 abbrev pub OutputClause : Call → Status → Type 0
@@ -99,11 +99,14 @@ pub data IsCutLine (call : Call) (line : List ℕ) : Type 0 where
   OfWrites : line ≡ write_line → Rose call.o0.faults call.o1.faults ⊎ Rose call.f0.write_faults call.f1.write_faults → IsCutLine call line
   OfStatus : (given : Status) → LineFor call given line → Rose call.e0.faults call.e1.faults → IsCutLine call line
 
+-- the files are as before and nothing is on out, or the output was cut short
+pub data IsCut (call : Call) (m : Files) : Type 0 where
+  Nothing : call.f1.files ≡ Some m → call.o1.bytes ≡ call.o0.bytes → IsCut call m
+  OfOutput : (x : Output) → IsDone call.command m x → CutAt x.file x.out m call.f1.files call.o0.bytes call.o1.bytes → IsCut call m
+
 pub record IsWriteFault (call : Call) : Type 0 where
   pub cause : Rose call.o0.faults call.o1.faults ⊎ (Rose call.e0.faults call.e1.faults ⊎ Rose call.f0.write_faults call.f1.write_faults)
-  -- out got a prefix of the output's bytes, where it got anything
-  pub out : Told call.f0.files (λ m. (call.o1.bytes ≡ call.o0.bytes) ⊎ ((x : Output) × IsDone call.command m x × GotPrefix call.o0.bytes call.o1.bytes x.out))
-  pub files : call.f1.files ≡ call.f0.files
+  pub told : Told call.f0.files (IsCut call)
   pub line : List ℕ
   pub which : IsCutLine call line
   pub err : (call.e1.bytes ≡ appended call.e0.bytes line) ⊎ (Rose call.e0.faults call.e1.faults × GotPrefix call.e0.bytes call.e1.bytes line)
@@ -142,6 +145,7 @@ NoCommandClause call given = call.command ≡ None → (given ≡ BadWords) ⊎ 
 abbrev pub RunsConfined : Option Command → Files → Type 0
 RunsConfined None m = Unit {0}
 RunsConfined (Some (Check names)) m = Unit {0}
+RunsConfined (Some (Asm from to)) m = Unit {0}
 RunsConfined (Some (Solo name steps)) m = (o : Object) (units : List ℕ) → Taken Runnable (held m name) o units → (memory : List ℕ) → IsBootMemory o units memory → AllConfined o units steps (booted o memory)
 
 abbrev pub ConfinedClause : Call → Type 0

@@ -1,12 +1,14 @@
 -- What a command came to, and what stands then.
-use Rattle.std.specs.Prelude.{◌≡◌, ℕ, ◌≤◌, ◌⊎◌, Bool, List, ◌∷◌, Some, None}
+use Rattle.std.specs.Prelude.{◌≡◌, ℕ, ◌<◌, ◌≤◌, ◌⊎◌, Bool, List, ◌++◌, length, Some, None}
+use Rattle.std.specs.FinMap.{insert}
 use Rattle.std.specs.declared.option.Option.{Option}
 use Rattle.std.specs.declared.result.Result.{Result}
 use Rattle.std.specs.declared.result.Result.TheVariants.{Ok, Err}
-use Rattle.edge_io.specs.Known.{Files, FolderState, SinkState, appended, held, GotPrefix}
+use Rattle.edge_io.specs.Known.{Files, FolderState, SinkState, appended, held, GotPrefix, MayCreate}
 use Rattle.edge_io.specs.Causes.{Rose}
 use Rattle.object_form.specs.declared.object.Object.{Object}
 use Rattle.retos_cli.specs.declared.command.Command.{Command}
+use Rattle.retos_cli.specs.declared.command.Command.TheVariants.{Solo, Check, Asm}
 use Rattle.retos_cli.specs.declared.outcome.Stop.{Stop}
 use Rattle.retos_cli.specs.declared.outcome.Stop.TheVariants.{Refuse, ReadFault, NoMemory}
 use Rattle.retos_cli.specs.declared.outcome.Outcome.{Outcome}
@@ -14,8 +16,9 @@ use Rattle.retos_cli.specs.declared.outcome.Outcome.TheVariants.{Done, BadWords,
 use Rattle.retos_cli.specs.declared.outcome.Refused.{Refused}
 use Rattle.retos_cli.specs.declared.outcome.Status.{Status}
 use Rattle.retos_cli.specs.declared.outcome.Status.TheVariants as status
+use Rattle.retos_cli.specs.declared.form.Form.TheVariants.{Source}
 use Rattle.retos_cli.specs.Lines.{words_line, write_line, memory_line, read_line, refused_line}
-use Rattle.retos_cli.specs.Meaning.{Input, Output, Refuses, Taken, IsTaken, IsFirstRefused, IsReached, IsOutput, inputs, status_by}
+use Rattle.retos_cli.specs.Meaning.{Input, Output, Refuses, Taken, Assembles, IsFirstRefused, IsReached, IsOutput, inputs, written, status_by}
 
 -- a fact about the files, where they are told
 abbrev pub Told : Option Files → (Files → Type 0) → Type 0
@@ -40,12 +43,21 @@ pub record FailedAt (f0 f1 : FolderState) (input : Input) (failed : List ℕ) : 
   pub rose : Rose f0.read_faults f1.read_faults
   pub last : f1.last_failed ≡ Some failed
 
+-- why one input ends a command
+abbrev pub InputStops : FolderState → FolderState → Input → Stop → Type 0
+InputStops f0 f1 input (Refuse r) = Told f0.files (λ m. RefusesInput m input r)
+InputStops f0 f1 input (ReadFault failed) = FailedAt f0 f1 input failed
+InputStops f0 f1 input NoMemory = Unit {0}
+
 -- what taking one input came to
 abbrev pub InputEnds : FolderState → FolderState → Input → Result (Object × List ℕ) Stop → Type 0
 InputEnds f0 f1 input (Ok x) = Told f0.files (λ m. Taken input.form (held m input.name) x.0 x.1)
-InputEnds f0 f1 input (Err (Refuse r)) = Told f0.files (λ m. RefusesInput m input r)
-InputEnds f0 f1 input (Err (ReadFault failed)) = FailedAt f0 f1 input failed
-InputEnds f0 f1 input (Err NoMemory) = Unit {0}
+InputEnds f0 f1 input (Err stop) = InputStops f0 f1 input stop
+
+-- what assembling one source came to
+abbrev pub SourceEnds : FolderState → FolderState → List ℕ → Result Object Stop → Type 0
+SourceEnds f0 f1 name (Ok o) = Told f0.files (λ m. Assembles (held m name) o)
+SourceEnds f0 f1 name (Err stop) = InputStops f0 f1 (record { name = name; form = Source }) stop
 
 pub record FailedRead (all : List Input) (f0 f1 : FolderState) (failed : List ℕ) : Type 0 where
   pub rose : Rose f0.read_faults f1.read_faults
@@ -60,14 +72,31 @@ StopCause all f0 f1 NoMemory = Unit {0}
 
 -- all was written
 pub record Finished (command : Command) (f0 f1 : FolderState) (o0 o1 : SinkState) (faulted : Bool) : Type 0 where
-  pub files : f1.files ≡ f0.files
-  pub told : Told f0.files (λ m. (out : List ℕ) × IsOutput command m (record { out = out; faulted = faulted }) × (o1.bytes ≡ appended o0.bytes out))
+  pub told : Told f0.files (λ m. (x : Output) × IsOutput command m x × (x.faulted ≡ faulted) × (o1.bytes ≡ appended o0.bytes x.out) × (f1.files ≡ Some (written m x.file)))
 
--- a write of out failed
+-- the name holds a prefix of the bytes, some are left, and all else is as before
+pub record HoldsPart (name bytes : List ℕ) (m : Files) (files : Option Files) : Type 0 where
+  pub part : List ℕ
+  pub rest : List ℕ
+  pub whole_is : part ++ rest ≡ bytes
+  pub short : 0 < length rest
+  pub files_are : files ≡ Some (insert m name part)
+
+-- where a failed write left a file and the line behind it
+pub data FileCut (name bytes out : List ℕ) (m : Files) (files : Option Files) (o0 o1 : Option (List ℕ)) : Type 0 where
+  AsBefore : files ≡ Some m → o1 ≡ o0 → FileCut name bytes out m files o0 o1
+  OfFile : HoldsPart name bytes m files → o1 ≡ o0 → FileCut name bytes out m files o0 o1
+  OfLine : files ≡ Some (insert m name bytes) → GotPrefix o0 o1 out → FileCut name bytes out m files o0 o1
+
+-- where a failed write left the file, if there is one, and out
+abbrev pub CutAt : Option (List ℕ × List ℕ) → List ℕ → Files → Option Files → Option (List ℕ) → Option (List ℕ) → Type 0
+CutAt None out m files o0 o1 = (files ≡ Some m) × GotPrefix o0 o1 out
+CutAt (Some file) out m files o0 o1 = FileCut file.0 file.1 out m files o0 o1
+
+-- a write of out or of the folder failed
 pub record CutShort (command : Command) (f0 f1 : FolderState) (o0 o1 : SinkState) : Type 0 where
-  pub cause : Rose o0.faults o1.faults
-  pub files : f1.files ≡ f0.files
-  pub told : Told f0.files (λ m. (x : Output) × IsOutput command m x × GotPrefix o0.bytes o1.bytes x.out)
+  pub cause : Rose o0.faults o1.faults ⊎ Rose f0.write_faults f1.write_faults
+  pub told : Told f0.files (λ m. (x : Output) × IsOutput command m x × CutAt x.file x.out m f1.files o0.bytes o1.bytes)
 
 -- the command ended before it had written anything
 pub record StoppedFor (command : Command) (f0 f1 : FolderState) (o0 o1 : SinkState) (stop : Stop) : Type 0 where
@@ -91,6 +120,13 @@ EndedBy None f0 f1 o0 o1 (Done faulted) = ⊥
 EndedBy None f0 f1 o0 o1 (Stopped (Refuse r)) = ⊥
 EndedBy None f0 f1 o0 o1 (Stopped (ReadFault name)) = ⊥
 EndedBy None f0 f1 o0 o1 WriteFault = ⊥
+
+-- where the words are a command with an output name, no other name was created
+abbrev pub MayRun : Option Command → Option (List ℕ) → Type 0
+MayRun None created = Unit {0}
+MayRun (Some (Solo name steps)) created = Unit {0}
+MayRun (Some (Check names)) created = Unit {0}
+MayRun (Some (Asm from to)) created = MayCreate created to
 
 -- ---- the report
 

@@ -3,8 +3,6 @@ use Rattle.std.specs.Prelude.{◌≡◌, ℕ, List, [], ◌∷◌, ◌++◌, len
 use Rattle.std.specs.declared.result.Result.{Result}
 use Rattle.edge_io.specs.Known.{Files, held}
 use Rattle.object_form.specs.declared.object.Object.{Object}
-use Rattle.retos_cli.specs.declared.command.Command.{Command}
-use Rattle.retos_cli.specs.declared.command.Command.TheVariants.{Solo, Check}
 use Rattle.retos_cli.specs.declared.form.Form.{Form}
 use Rattle.retos_cli.specs.declared.form.Form.TheVariants.{Checked}
 use Rattle.retos_cli.specs.declared.input.Judged.{Judged}
@@ -12,10 +10,20 @@ use Rattle.retos_cli.specs.declared.input.Judged.TheVariants.{Refused, NoMemory}
 use Rattle.retos_cli.specs.declared.counted.Counted.{Counted}
 use Rattle.retos_cli.specs.Lines.{marked_below}
 use Rattle.edge_io.specs.Known.{FolderState}
+use Rattle.edge_io.specs.declared.whole.InputFault.{InputFault}
+use Rattle.edge_io.specs.declared.whole.InputFault.TheVariants as fault
+use Rattle.retos_cli.specs.declared.outcome.Why.TheVariants as why
 use Rattle.retos_cli.specs.declared.outcome.Stop.{Stop}
 use Rattle.retos_cli.specs.declared.outcome.Stop.TheVariants.{Refuse, ReadFault, NoMemory as Unserved}
 use Rattle.retos_cli.specs.Meaning.{Input, Taken, Refuses}
 use Rattle.retos_cli.specs.Ends.{Told, RefusesInput, FailedAt}
+
+-- why a whole read that gave nothing ends a command
+abbrev pub stop_of : List ℕ → InputFault → Stop
+stop_of name fault.Absent = Refuse (record { name = name; why = why.Absent })
+stop_of name fault.TooLong = Refuse (record { name = name; why = why.TooLong })
+stop_of name fault.Failed = ReadFault name
+stop_of name fault.Memory = Unserved
 
 -- the object of a text, or why the text is refused
 abbrev pub IsJudged : Form → List ℕ → Result (Object × List ℕ) Judged → Type 0

@@ -4,6 +4,7 @@ pub mod Entries
 pub mod Meaning
 pub mod Ends
 pub mod Clauses
+pub mod Writing
 pub mod Judging
 pub mod Tracing
 pub mod Bounds

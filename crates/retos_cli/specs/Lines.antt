@@ -5,8 +5,10 @@ use Rattle.line_text.specs.Hexadecimal.{hex_word}
 use Rattle.object_form.specs.declared.object.Object.{Object}
 use Rattle.object_form.specs.declared.fault.FormKind.{FormKind}
 use Rattle.object_form.specs.declared.fault.FormKind.TheVariants as kinds
+use Rattle.asm_text.specs.declared.fault.AsmKind.{AsmKind}
+use Rattle.asm_text.specs.declared.fault.AsmKind.TheVariants as asm
 use Rattle.retos_cli.specs.declared.outcome.Why.{Why}
-use Rattle.retos_cli.specs.declared.outcome.Why.TheVariants.{Absent, TooLong, Form, NotApplication, Check, NotYet, Room}
+use Rattle.retos_cli.specs.declared.outcome.Why.TheVariants.{Absent, TooLong, Form, NotApplication, Check, NotYet, Room, Line}
 use Rattle.place_model.specs.declared.places.NoRoom.{NoRoom}
 use Rattle.place_model.specs.declared.places.NoRoom.TheVariants as rooms
 use Rattle.retos_cli.specs.declared.outcome.Refused.{Refused}
@@ -42,6 +44,17 @@ room_text (rooms.Code need gap) = codes ": no room, code, need " ++ decimal need
 room_text (rooms.Region need gap) = codes ": no room, region, need " ++ decimal need ++ codes ", gap " ++ decimal gap
 room_text (rooms.Taken number) = codes ": function " ++ decimal number ++ codes " taken"
 
+abbrev pub asm_word : AsmKind → List ℕ
+asm_word asm.NotText = codes "notext"
+asm_word asm.DoubleLabel = codes "doublelabel"
+asm_word asm.UnknownWord = codes "unknownword"
+asm_word asm.BadDirective = codes "baddirective"
+asm_word asm.BadOperand = codes "badoperand"
+asm_word asm.NumberRange = codes "numberrange"
+asm_word asm.TooLarge = codes "toolarge"
+asm_word asm.NoLabel = codes "nolabel"
+asm_word asm.JumpRange = codes "jumprange"
+
 abbrev pub why_text : Why → List ℕ
 why_text Absent = codes ": absent"
 why_text TooLong = codes ": too long"
@@ -50,6 +63,7 @@ why_text NotApplication = codes ": not an application"
 why_text (Check rule place) = codes ": check rule " ++ decimal rule ++ codes " at " ++ hex_word place
 why_text NotYet = codes ": not yet"
 why_text (Room cause) = room_text cause
+why_text (Line line kind) = codes ": line " ++ decimal line ++ codes ": " ++ asm_word kind
 
 unfoldable pub refused_line : Refused → List ℕ
 refused_line r = name_line r.name (why_text r.why)
@@ -62,3 +76,7 @@ marked_below units (suc k) = marked_below units k + bit_at (slice_index_or units
 -- the line of an accepted object: its code words and its units
 unfoldable pub accepted_line : List ℕ → Object → List ℕ → List ℕ
 accepted_line name o units = name ++ codes ": accepted " ++ decimal (length o.code) ++ codes " words " ++ decimal (marked_below units (length o.code)) ++ codes " units" ++ 10 ∷ []
+
+-- the line of an object that is assembled and written: its code words
+unfoldable pub assembled_line : List ℕ → Object → List ℕ
+assembled_line name o = name ++ codes ": assembled " ++ decimal (length o.code) ++ codes " words" ++ 10 ∷ []

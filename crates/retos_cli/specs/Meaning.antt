@@ -1,25 +1,28 @@
 -- What a command refuses and what it gives, by its words and the files.
-use Rattle.std.specs.Prelude.{◌≡◌, ℕ, ◌<◌, ◌≤◌, ◌⊎◌, Bool, true, false, nat_lt, List, [], ◌∷◌, ◌++◌, length, map, Some, None, Ok, Err, if◌then◌else◌}
+use Rattle.std.specs.Prelude.{◌≡◌, ℕ, ◌<◌, ◌≤◌, ◌⊎◌, Bool, true, false, nat_lt, List, [], ◌∷◌, ◌++◌, length, Some, None, Ok, Err}
 use Rattle.std.specs.declared.option.Option.{Option}
+use Rattle.std.specs.FinMap.{insert}
 use Rattle.edge_io.specs.Known.{Files, held}
 use Rattle.object_form.specs.declared.object.Object.{Object}
 use Rattle.object_form.specs.declared.parts.Kind.TheVariants as kind
-use Rattle.object_form.specs.Spelling.{object_bytes}
+use Rattle.object_form.specs.Spelling.{fields, object_bytes}
 use Rattle.object_form.specs.Faults.{first_form_fault}
+use Rattle.asm_text.specs.FirstPass.{fault}
+use Rattle.asm_text.specs.Assembled.{assembled}
 use Rattle.code_model.specs.Verdicts.{IsAccepted, IsVerdict}
 use Rattle.code_model.specs.declared.verdict.Verdict.TheVariants as verdict
 use Rattle.solo_model.specs.Running.{run, booted, count_faults}
 use Rattle.solo_model.specs.Trace.{trace_text}
 use Rattle.retos_cli.specs.declared.command.Command.{Command}
-use Rattle.retos_cli.specs.declared.command.Command.TheVariants.{Solo, Check}
+use Rattle.retos_cli.specs.declared.command.Command.TheVariants.{Solo, Check, Asm}
 use Rattle.retos_cli.specs.declared.form.Form.{Form}
-use Rattle.retos_cli.specs.declared.form.Form.TheVariants.{Checked, Runnable}
+use Rattle.retos_cli.specs.declared.form.Form.TheVariants.{Checked, Runnable, Source}
 use Rattle.retos_cli.specs.declared.outcome.Why.{Why}
 use Rattle.retos_cli.specs.declared.outcome.Why.TheVariants as why
 use Rattle.retos_cli.specs.declared.outcome.Refused.{Refused}
 use Rattle.retos_cli.specs.declared.outcome.Status.{Status}
 use Rattle.retos_cli.specs.declared.outcome.Status.TheVariants as status
-use Rattle.retos_cli.specs.Lines.{words_line, refused_line, accepted_line}
+use Rattle.retos_cli.specs.Lines.{words_line, refused_line, accepted_line, assembled_line}
 use Rattle.retos_cli.specs.Entries.{IsRunnable}
 use Rattle.place_model.specs.declared.places.NoRoom.{NoRoom}
 use Rattle.solo_model.specs.Booted.{alone, placing_alone, IsBootMemory}
@@ -33,24 +36,34 @@ most_bytes = 1048576
 abbrev pub IsTextOf : Option (List ℕ) → Object → Type 0
 IsTextOf held o = (held ≡ Some (object_bytes o)) × (length (object_bytes o) ≤ most_bytes)
 
--- what is asked before the check
+-- the input is to be an object
+abbrev pub AsksObject : Form → Type 0
+AsksObject Checked = Unit {0}
+AsksObject Runnable = Unit {0}
+AsksObject Source = ⊥
+
+-- what is asked before the check. No object is a source
 abbrev pub Suits : Form → Object → Type 0
 Suits Checked o = Unit {0}
 Suits Runnable o = o.kind ≡ kind.App
+Suits Source o = ⊥
 
 -- what is asked behind it
 abbrev pub Runs : Form → Object → Type 0
 Runs Checked o = Unit {0}
+Runs Source o = ⊥
 Runs Runnable o = IsRunnable o
 
 -- there is room for it, alone
 abbrev pub HasRoom : Form → Object → Type 0
 HasRoom Checked o = Unit {0}
+HasRoom Source o = ⊥
 HasRoom Runnable o = placing_alone o ≡ Ok (alone o)
 
 -- there is none, and why
 abbrev pub LacksRoom : Form → Object → NoRoom → Type 0
 LacksRoom Checked o cause = ⊥
+LacksRoom Source o cause = ⊥
 LacksRoom Runnable o cause = placing_alone o ≡ Err cause
 
 -- the object is one that the command takes
@@ -65,15 +78,24 @@ pub record Taken (form : Form) (held : Option (List ℕ)) (o : Object) (units : 
   pub text : IsTextOf held o
   pub fit : IsFit form o units
 
--- the input is refused for this
+-- the input is a source that assembles to this object
+pub record Assembles (held : Option (List ℕ)) (o : Object) : Type 0 where
+  pub source : List ℕ
+  pub held_is : held ≡ Some source
+  pub short : length source ≤ most_bytes
+  pub gives : assembled source ≡ Ok (fields o)
+
+-- The input is refused for this. A source is refused for a line alone, and an object for the others alone; what isn't held or is too
+-- long is neither
 unfoldable pub Refuses : Form → Option (List ℕ) → Why → Type 0
 Refuses form held why.Absent = held ≡ None
 Refuses form held why.TooLong = (bytes : List ℕ) × (held ≡ Some bytes) × (most_bytes < length bytes)
-Refuses form held (why.Form k at) = (bytes : List ℕ) × (held ≡ Some bytes) × (length bytes ≤ most_bytes) × (first_form_fault bytes ≡ Some (record { kind = k; offset = at }))
-Refuses form held why.NotApplication = (o : Object) × IsTextOf held o × (Suits form o → ⊥)
-Refuses form held (why.Check rule place) = (o : Object) × IsTextOf held o × Suits form o × IsVerdict o (verdict.Refused rule place)
-Refuses form held why.NotYet = (o : Object) × (units : List ℕ) × IsTextOf held o × Suits form o × IsAccepted o units × (Runs form o → ⊥)
-Refuses form held (why.Room cause) = (o : Object) × (units : List ℕ) × IsTextOf held o × Suits form o × IsAccepted o units × Runs form o × LacksRoom form o cause
+Refuses form held (why.Form k at) = AsksObject form × (bytes : List ℕ) × (held ≡ Some bytes) × (length bytes ≤ most_bytes) × (first_form_fault bytes ≡ Some (record { kind = k; offset = at }))
+Refuses form held why.NotApplication = AsksObject form × (o : Object) × IsTextOf held o × (Suits form o → ⊥)
+Refuses form held (why.Check rule place) = AsksObject form × (o : Object) × IsTextOf held o × Suits form o × IsVerdict o (verdict.Refused rule place)
+Refuses form held why.NotYet = AsksObject form × (o : Object) × (units : List ℕ) × IsTextOf held o × Suits form o × IsAccepted o units × (Runs form o → ⊥)
+Refuses form held (why.Room cause) = AsksObject form × (o : Object) × (units : List ℕ) × IsTextOf held o × Suits form o × IsAccepted o units × Runs form o × LacksRoom form o cause
+Refuses form held (why.Line line k) = (form ≡ Source) × (bytes : List ℕ) × (held ≡ Some bytes) × (length bytes ≤ most_bytes) × (assembled bytes ≡ Err (fault line k))
 
 -- ---- the inputs of a command
 
@@ -88,9 +110,15 @@ checked_inputs (name ∷ names) = record { name = name; form = Checked } ∷ che
 abbrev pub inputs : Command → List Input
 inputs (Solo name steps) = record { name = name; form = Runnable } ∷ []
 inputs (Check names) = checked_inputs names
+inputs (Asm from to) = record { name = from; form = Source } ∷ []
+
+abbrev pub IsTakenAs : Form → Option (List ℕ) → Type 0
+IsTakenAs Checked held = (o : Object) × (units : List ℕ) × Taken Checked held o units
+IsTakenAs Runnable held = (o : Object) × (units : List ℕ) × Taken Runnable held o units
+IsTakenAs Source held = (o : Object) × Assembles held o
 
 unfoldable pub IsTaken : Files → Input → Type 0
-IsTaken m input = (o : Object) × (units : List ℕ) × Taken input.form (held m input.name) o units
+IsTaken m input = IsTakenAs input.form (held m input.name)
 
 -- the first input that is refused, and why
 unfoldable pub IsFirstRefused : Files → List Input → Refused → Type 0
@@ -106,10 +134,16 @@ IsReached m (input ∷ others) name = (name ≡ input.name) ⊎ (IsTaken m input
 
 -- ---- outputs
 
--- what a command that nothing refuses writes to out, and whether a run faulted
+-- what a command that nothing refuses writes: to out, and to a file with a name; and whether a run faulted
 pub record Output : Type 0 where
   pub out : List ℕ
+  pub file : Option (List ℕ × List ℕ)
   pub faulted : Bool
+
+-- the files with the written one
+abbrev pub written : Files → Option (List ℕ × List ℕ) → Files
+written m None = m
+written m (Some file) = insert m file.0 file.1
 
 -- the trace of an accepted application, from memory at boot
 pub record IsSoloOutput (m : Files) (name : List ℕ) (steps : ℕ) (x : Output) : Type 0 where
@@ -119,6 +153,7 @@ pub record IsSoloOutput (m : Files) (name : List ℕ) (steps : ℕ) (x : Output)
   pub memory : List ℕ
   pub boots : IsBootMemory object units memory
   pub trace : x.out ≡ trace_text object memory steps
+  pub file_is : x.file ≡ None
   pub faulted_is : x.faulted ≡ nat_lt 0 (count_faults (run steps (booted object memory)).records)
 
 -- the line of an accepted object, and the lines of the others
@@ -132,9 +167,18 @@ unfoldable pub AreAcceptedLines : Files → List (List ℕ) → List ℕ → Typ
 AreAcceptedLines m [] out = out ≡ []
 AreAcceptedLines m (name ∷ names) out = (line : List ℕ) × (rest : List ℕ) × IsAcceptedLine m name line × AreAcceptedLines m names rest × (out ≡ line ++ rest)
 
+-- the object of a source, under the output's name, and its line
+pub record IsAsmOutput (m : Files) (from to : List ℕ) (x : Output) : Type 0 where
+  pub object : Object
+  pub assembles : Assembles (held m from) object
+  pub line : x.out ≡ assembled_line to object
+  pub file_is : x.file ≡ Some (to, object_bytes object)
+  pub faulted_is : x.faulted ≡ false
+
 unfoldable pub IsOutput : Command → Files → Output → Type 0
 IsOutput (Solo name steps) m x = IsSoloOutput m name steps x
-IsOutput (Check names) m x = AreAcceptedLines m names x.out × (x.faulted ≡ false)
+IsOutput (Check names) m x = AreAcceptedLines m names x.out × (x.file ≡ None) × (x.faulted ≡ false)
+IsOutput (Asm from to) m x = IsAsmOutput m from to x
 
 -- ---- the whole, by the words and the files
 

@@ -60,4 +60,6 @@ pub enum Command {
     Solo { name: Name, steps: u32 },
     /// Checks 1 to 16 objects.
     Check { names: Names },
+    /// Assembles a source text, and writes the object.
+    Asm { from: Name, to: Name },
 }

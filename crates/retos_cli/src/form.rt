@@ -1,4 +1,4 @@
-//! What a command asks of an object.
+//! What a command asks of an input.
 
 /// What an input is for.
 #[derive(Clone, Copy, PartialEq, Eq, Debug, Drop)]
@@ -7,4 +7,6 @@ pub enum Form {
     Checked,
     /// An application to run.
     Runnable,
+    /// A source text to assemble.
+    Source,
 }

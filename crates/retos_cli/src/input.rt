@@ -3,8 +3,8 @@
 ghost use Rattle.std.specs.Prelude.{◌≡◌, ◌≤◌, ◌↔◌, length, IsTrue, IfOk, MatchOption};
 ghost use Rattle.code_model.specs.Verdicts.{AllSpelled};
 ghost use Rattle.object_form.specs.Spelling.{object_bytes};
-ghost use Rattle.retos_cli.specs.Meaning.{Suits, Runs, HasRoom, LacksRoom, IsFit};
-ghost use Rattle.retos_cli.specs.Judging.{IsJudged};
+ghost use Rattle.retos_cli.specs.Meaning.{AsksObject, Suits, Runs, HasRoom, LacksRoom, IsFit};
+ghost use Rattle.retos_cli.specs.Judging.{IsJudged, stop_of};
 ghost use Rattle.retos_cli.specs.Ends.{InputEnds, OnlyRead};
 
 use super::entries::is_runnable;
@@ -44,6 +44,7 @@ pub fn take<F: Folder>(
     name: &Name,
     form: Form,
 ) -> Result<(Object, Marks), Stop>
+    requires { AsksObject form }
     ensures ends { InputEnds (F.state files.old) (F.state files.new) (record { name = name.now; form = form }) result }
     ensures fit { IfOk result (λ x. IsFit form x.0 x.1) }
     ensures read { OnlyRead (F.state files.old) (F.state files.new) }
@@ -57,23 +58,33 @@ pub fn take<F: Folder>(
             })),
             Err(Judged::NoMemory) => Err(Stop::NoMemory),
         },
-        Err(InputFault::Absent) => Err(Stop::Refuse(Refused {
+        Err(fault) => Err(unread(name, fault)),
+    }
+}
+
+/// Why an input whose whole read gave nothing ends a command.
+pub fn unread(name: &Name, fault: InputFault) -> Stop
+    ensures { result ≡ stop_of name.now fault }
+{
+    match fault {
+        InputFault::Absent => Stop::Refuse(Refused {
             name: name.copied(),
             why: Why::Absent,
-        })),
-        Err(InputFault::TooLong) => Err(Stop::Refuse(Refused {
+        }),
+        InputFault::TooLong => Stop::Refuse(Refused {
             name: name.copied(),
             why: Why::TooLong,
-        })),
-        Err(InputFault::Failed) => Err(Stop::ReadFault(name.copied())),
-        Err(InputFault::Memory) => Err(Stop::NoMemory),
+        }),
+        InputFault::Failed => Stop::ReadFault(name.copied()),
+        InputFault::Memory => Stop::NoMemory,
     }
 }
 
 /// The object of a text that is taken, or why it is refused.
 #[tactic(auto, using(crate::proofs::Judgments::refuses_form))]
 fn judge(alloc: Global, text: &[u8], form: Form) -> Result<(Object, Marks), Judged>
-    requires { length text.now ≤ 1048576 }
+    requires size { length text.now ≤ 1048576 }
+    requires asked { AsksObject form }
     ensures { IsJudged form text.now result }
 {
     match read_object(alloc, text) {
@@ -86,7 +97,8 @@ fn judge(alloc: Global, text: &[u8], form: Form) -> Result<(Object, Marks), Judg
 /// The object with its marks where it is taken, or why not.
 #[tactic(auto, using(crate::proofs::Judgments::refuses_unsuited, crate::proofs::Judgments::refuses_check, crate::proofs::Judgments::refuses_yet, crate::proofs::Judgments::refuses_room))]
 fn judge_object(object: Object, form: Form) -> Result<(Object, Marks), Judged>
-    requires { length (object_bytes object) ≤ 1048576 }
+    requires size { length (object_bytes object) ≤ 1048576 }
+    requires asked { AsksObject form }
     ensures { IsJudged form (object_bytes object) result }
 {
     if !suits(form, &object) {
@@ -116,6 +128,7 @@ fn suits(form: Form, o: &Object) -> bool
             Kind::App => true,
             Kind::Module => false,
         },
+        Form::Source => false,
     }
 }
 
@@ -127,16 +140,19 @@ fn runs(form: Form, o: &Object) -> bool
     match form {
         Form::Checked => true,
         Form::Runnable => is_runnable(o),
+        Form::Source => false,
     }
 }
 
 /// Why there is no room for the object, where it is to run. None where there is.
 fn lacking(form: Form, o: &Object) -> Option<NoRoom>
+    requires { AsksObject form }
     ensures { MatchOption result (HasRoom form o.now) (λ cause. LacksRoom form o.now cause) }
 {
     alone_is_placed();
     match form {
         Form::Checked => None,
+        Form::Source => unreachable!(),
         Form::Runnable => {
             let need = (region_stop(o) - DATA_POOL_START) as u32;
             if need <= DATA_POOL_BYTES {

@@ -4,6 +4,9 @@
 //! and what is printed, `specs/Commands.antt` what words are a command.
 #![tactic(auto)]
 
+#[cfg(test)]
+mod asm_rows;
+pub mod assembling;
 pub mod checking;
 pub mod command;
 pub mod counted;
@@ -20,7 +23,10 @@ pub mod running;
 #[cfg(test)]
 mod solo_rows;
 #[cfg(test)]
+mod system_rows;
+#[cfg(test)]
 mod test_support;
 #[cfg(test)]
 mod tests;
 pub mod top;
+pub mod writing;

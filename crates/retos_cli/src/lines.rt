@@ -1,10 +1,11 @@
-//! The lines on the error stream, and the line of an accepted object.
+//! The lines on the error stream, and those of accepted and of assembled objects.
 
 ghost use Rattle.std.specs.Prelude.{◌≡◌, ◌+◌, ◌≤◌, ◌++◌, length, codes, decimal};
-ghost use Rattle.retos_cli.specs.Lines.{words_line, write_line, memory_line, read_line, refused_line, room_text, why_text, form_word};
+ghost use Rattle.retos_cli.specs.Lines.{words_line, write_line, memory_line, read_line, refused_line, room_text, why_text, form_word, asm_word};
 ghost use Rattle.line_text.specs.Hexadecimal.{hex_word};
 
 use super::outcome::{Refused, Why};
+use asm_text::fault::AsmKind;
 use edge_io::name::Name;
 use line_text::line::Line;
 use object_form::fault::FormKind;
@@ -84,6 +85,24 @@ fn form_word(kind: FormKind) -> &'static [u8]
     }
 }
 
+/// The word of a fault of a source text.
+fn asm_word(kind: AsmKind) -> &'static [u8]
+    ensures word { result.now ≡ asm_word kind }
+    ensures size { length result.now ≤ 12 }
+{
+    match kind {
+        AsmKind::NotText => b"notext",
+        AsmKind::DoubleLabel => b"doublelabel",
+        AsmKind::UnknownWord => b"unknownword",
+        AsmKind::BadDirective => b"baddirective",
+        AsmKind::BadOperand => b"badoperand",
+        AsmKind::NumberRange => b"numberrange",
+        AsmKind::TooLarge => b"toolarge",
+        AsmKind::NoLabel => b"nolabel",
+        AsmKind::JumpRange => b"jumprange",
+    }
+}
+
 /// Appends why an input is refused.
 fn push_why(line: &mut Line, why: &Why)
     requires { length line.old ≤ 262 }
@@ -98,6 +117,7 @@ fn push_why(line: &mut Line, why: &Why)
         Why::Check { rule, place } => push_check(line, *rule as u32, *place),
         Why::NotYet => line.push_text(b": not yet"),
         Why::Room(cause) => push_room(line, cause),
+        Why::Line { line: at, kind } => push_fault(line, *at, *kind),
     }
 }
 
@@ -143,6 +163,17 @@ fn push_form(line: &mut Line, kind: FormKind, at: u32)
     line.push_decimal(at);
 }
 
+fn push_fault(line: &mut Line, at: u32, kind: AsmKind)
+    requires { length line.old ≤ 262 }
+    ensures text { line.new ≡ line.old ++ (codes ": line " ++ decimal at ++ codes ": " ++ asm_word kind) }
+    ensures size { length line.new ≤ 340 }
+{
+    line.push_text(b": line ");
+    line.push_decimal(at);
+    line.push_text(b": ");
+    line.push_text(asm_word(kind));
+}
+
 fn push_check(line: &mut Line, rule: u32, place: u16)
     requires { length line.old ≤ 262 }
     ensures text { line.new ≡ line.old ++ (codes ": check rule " ++ decimal rule ++ codes " at " ++ hex_word place) }
@@ -176,6 +207,19 @@ pub fn of_accepted(name: &Name, words: u32, units: u32) -> Line
     line.push_text(b" words ");
     line.push_decimal(units);
     line.push_text(b" units");
+    line.push(b'\n');
+    line
+}
+
+/// An object is assembled and written, with this many code words.
+pub fn of_assembled(name: &Name, words: u32) -> Line
+    ensures { result ≡ name.now ++ codes ": assembled " ++ decimal words ++ codes " words" ++ codes "\n" }
+{
+    let mut line = Line::new();
+    line.push_text(name.as_slice());
+    line.push_text(b": assembled ");
+    line.push_decimal(words);
+    line.push_text(b" words");
     line.push(b'\n');
     line
 }

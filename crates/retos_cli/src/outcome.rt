@@ -3,6 +3,7 @@
 ghost use Rattle.std.specs.Prelude.{◌≡◌};
 ghost use Rattle.retos_cli.specs.Statuses.{status_number};
 
+use asm_text::fault::AsmKind;
 use edge_io::name::Name;
 use object_form::fault::FormKind;
 use place_model::places::NoRoom;
@@ -60,6 +61,8 @@ pub enum Why {
     NotYet,
     /// There is no room for it.
     Room(NoRoom),
+    /// A source text with this first fault: on which line, counted from 1, and what is wrong. Line 0 is for what is missing as a whole.
+    Line { line: u32, kind: AsmKind },
 }
 
 /// An input that is refused.
@@ -85,6 +88,6 @@ pub enum Outcome {
     Done(bool),
     BadWords,
     Stopped(Stop),
-    /// A write of out failed.
+    /// A write of out or of a file failed.
     WriteFault,
 }

@@ -1,9 +1,9 @@
 //! Worked rows of `check`, of the object's form, and of writes that fail.
 
 use crate::test_support::{
-    Case, GUARDED_STORE, SELF_JUMP, add, all_files, application, folder, sink, try_case, words_of,
+    Case, GUARDED_STORE, SELF_JUMP, add, all_files, application, do_words, folder, sink, try_case,
+    words_of,
 };
-use crate::top::retos;
 use edge_io::lists::Bytes;
 use std::test::Fail;
 
@@ -93,7 +93,7 @@ fn check_takes_16_objects(rt: HostRuntime) -> Result<(), Fail> {
     }
     let mut out = sink(rt.alloc(), &[])?;
     let mut err = sink(rt.alloc(), &[])?;
-    let status = retos(rt.alloc(), &words, &mut files, &mut out, &mut err);
+    let status = do_words(rt.alloc(), &words, &mut files, &mut out, &mut err);
     assert_eq!(rt; status.number(), 0);
     assert_eq!(rt; out.bytes(), whole.as_slice());
     assert_eq!(rt; err.bytes(), b"".as_slice());

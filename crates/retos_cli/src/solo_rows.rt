@@ -113,7 +113,7 @@ fn store(alloc: Global, address: u16, x: u16, instruction: u16) -> Result<Bytes,
         0x3FFF,
     ];
     let relocs: [CodeReloc; 2] = [(LO, 0x000E), (HI, 0x0014)];
-    Ok(application(alloc, &code, &relocs)?)
+    application(alloc, &code, &relocs)
 }
 
 #[test]

@@ -1,5 +1,8 @@
 //! Objects, folders and sinks for the tests.
 
+ghost use Rattle.std.specs.Prelude.{◌≡◌, None, IfOk};
+
+use crate::outcome::Status;
 use crate::top::retos;
 use edge_io::lists::{Bytes, Calls};
 use edge_io::mem_folder::MemFolder;
@@ -71,18 +74,38 @@ pub fn sink(alloc: Global, fail: &[u32]) -> Result<MemSink, AllocError> {
 }
 
 /// A folder in which these reads fail.
-pub fn folder(alloc: Global, fail: &[u32]) -> Result<MemFolder, AllocError> {
-    MemFolder::new(
-        alloc,
-        10,
-        calls(alloc, fail)?,
-        calls(alloc, &[])?,
-        calls(alloc, &[])?,
-    )
+pub fn folder(alloc: Global, fail: &[u32]) -> Result<MemFolder, AllocError>
+    ensures { IfOk result (λ files. files.created ≡ None) }
+{
+    let calls = Failing {
+        reads: fail,
+        writes: &[],
+        out: &[],
+    };
+    writable(alloc, 10, &calls)
+}
+
+/// The calls that are to fail: reads and writes of the folder, and writes of out.
+#[derive(Drop)]
+pub struct Failing<'a> {
+    pub reads: &'a [u32],
+    pub writes: &'a [u32],
+    pub out: &'a [u32],
+}
+
+/// A folder that has room for so many bytes of a file, in which these calls fail.
+pub fn writable(alloc: Global, room: u32, fail: &Failing) -> Result<MemFolder, AllocError>
+    ensures { IfOk result (λ files. files.created ≡ None) }
+{
+    let reads = calls(alloc, fail.reads)?;
+    let writes = calls(alloc, fail.writes)?;
+    MemFolder::new(alloc, room, reads, writes, Calls::new(alloc))
 }
 
 /// Adds a file, if its name isn't held.
-pub fn add(files: &mut MemFolder, name: &[u8], whole: &[u8]) -> Result<(), Fail> {
+pub fn add(files: &mut MemFolder, name: &[u8], whole: &[u8]) -> Result<(), Fail>
+    ensures { files.new.created ≡ files.old.created }
+{
     let name = Name::from_slice(name).ok_or("a name")?;
     if files.held(&name).is_none() {
         files.put(&name, whole)?;
@@ -108,6 +131,20 @@ pub struct Case<'a> {
     pub status: u8,
 }
 
+/// Does what words say in a folder in which no name was created.
+#[tactic(auto, using(crate::proofs::Sources::may_run_fresh))]
+pub fn do_words(
+    alloc: Global,
+    words: &Words,
+    files: &mut MemFolder,
+    out: &mut MemSink,
+    err: &mut MemSink,
+) -> Status
+    requires { files.old.created ≡ None }
+{
+    retos(alloc, words, files, out, err)
+}
+
 /// Does what a case's words say, and tells where it comes to something else.
 pub fn try_case(
     rt: &impl Abort,
@@ -115,11 +152,13 @@ pub fn try_case(
     files: &mut MemFolder,
     fail: &[u32],
     case: &Case,
-) -> Result<(), Fail> {
+) -> Result<(), Fail>
+    requires { files.old.created ≡ None }
+{
     let words = words_of(alloc, case.line)?;
     let mut out = sink(alloc, fail)?;
     let mut err = sink(alloc, &[])?;
-    let status = retos(alloc, &words, files, &mut out, &mut err);
+    let status = do_words(alloc, &words, files, &mut out, &mut err);
     assert_eq!(rt; out.bytes(), case.out.as_bytes(), "out of {}", case.line);
     assert_eq!(rt; err.bytes(), case.err.as_bytes(), "err of {}", case.line);
     assert_eq!(rt; status.number(), case.status, "status of {}", case.line);
@@ -127,7 +166,9 @@ pub fn try_case(
 }
 
 /// The files of the cases.
-pub fn all_files(alloc: Global, fail: &[u32]) -> Result<MemFolder, Fail> {
+pub fn all_files(alloc: Global, fail: &[u32]) -> Result<MemFolder, Fail>
+    ensures { IfOk result (λ files. files.created ≡ None) }
+{
     let mut files = folder(alloc, fail)?;
     add(&mut files, b"j.o", &SELF_JUMP)?;
     add(&mut files, b"s.o", &GUARDED_STORE)?;
@@ -145,11 +186,11 @@ pub fn all_files(alloc: Global, fail: &[u32]) -> Result<MemFolder, Fail> {
 pub type CodeReloc = (u8, u16);
 
 /// The text of an application of one thread with a stack of 16 bytes, entry 0 and no static part.
-pub fn application(alloc: Global, code: &[u16], relocs: &[CodeReloc]) -> Result<Bytes, AllocError> {
+pub fn application(alloc: Global, code: &[u16], relocs: &[CodeReloc]) -> Result<Bytes, Fail> {
     let mut text = Bytes::from_slice(alloc, b"RETO\x01\x01")?;
-    push_word(&mut text, code.len() as u16)?;
+    push_word(&mut text, count(code.len())?)?;
     text.extend_from_slice(&[0, 0, 0, 0, 0x10, 0, 1, 0, 0, 0])?;
-    push_word(&mut text, relocs.len() as u16)?;
+    push_word(&mut text, count(relocs.len())?)?;
     for word in code {
         push_word(&mut text, *word)?;
     }
@@ -158,6 +199,11 @@ pub fn application(alloc: Global, code: &[u16], relocs: &[CodeReloc]) -> Result<
         push_word(&mut text, *offset)?;
     }
     Ok(text)
+}
+
+/// A count as a word.
+fn count(of: usize) -> Result<u16, Fail> {
+    Ok(u16::try_from(of).ok().ok_or("at most 65,535")?)
 }
 
 /// Appends a word, its low byte first.

@@ -1,5 +1,4 @@
-use crate::test_support::{Case, add, all_files, folder, sink, try_case, words_of};
-use crate::top::retos;
+use crate::test_support::{Case, add, all_files, do_words, folder, sink, try_case, words_of};
 use edge_io::lists::Bytes;
 use std::test::Fail;
 
@@ -191,7 +190,7 @@ fn a_refusal_that_cannot_be_written_is_a_write_fault(rt: HostRuntime) -> Result<
     let mut files = folder(rt.alloc(), &[])?;
     let mut out = sink(rt.alloc(), &[])?;
     let mut err = sink(rt.alloc(), &[0])?;
-    let status = retos(rt.alloc(), &words, &mut files, &mut out, &mut err);
+    let status = do_words(rt.alloc(), &words, &mut files, &mut out, &mut err);
     assert_eq!(rt; status.number(), 4);
     assert_eq!(rt; err.bytes(), b"".as_slice());
     Ok(())

@@ -1,11 +1,12 @@
 //! The top call.
 
-ghost use Rattle.std.specs.Prelude.{◌≡◌};
+ghost use Rattle.std.specs.Prelude.{◌≡◌, Some};
 ghost use Rattle.retos_cli.specs.Commands.{command_of};
-ghost use Rattle.retos_cli.specs.Ends.{Ended, EndedBy};
+ghost use Rattle.retos_cli.specs.Ends.{Ended, EndedBy, MayRun};
 ghost use Rattle.retos_cli.specs.Bounds.{IsBounded};
 ghost use Rattle.retos_cli.specs.Clauses.{call_of, OutputClause, RefusedClause, ReadFaultClause, WriteFaultClause, NoMemoryClause, CompleteClause, NoCommandClause, ConfinedClause};
 
+use super::assembling::assemble_file;
 use super::checking::check_all;
 use super::command::Command;
 use super::outcome::{Outcome, Status, Stop};
@@ -28,6 +29,7 @@ pub fn retos<F: Folder, O: Sink, E: Sink>(
     out: &mut O,
     err: &mut E,
 ) -> Status
+    requires may_create { MayRun (command_of words.now) (F.state files.old).created }
     ensures output { OutputClause (call_of F.state O.state E.state words.now files.old files.new out.old out.new err.old err.new) result }
     ensures refused { RefusedClause (call_of F.state O.state E.state words.now files.old files.new out.old out.new err.old err.new) result }
     ensures read_fault { ReadFaultClause (call_of F.state O.state E.state words.now files.old files.new out.old out.new err.old err.new) result }
@@ -45,6 +47,7 @@ pub fn retos<F: Folder, O: Sink, E: Sink>(
 
 /// Reads the words as a command, and carries it out.
 fn run<F: Folder, O: Sink>(alloc: Global, words: &Words, files: &mut F, out: &mut O) -> Outcome
+    requires { MayRun (command_of words.now) (F.state files.old).created }
     ensures { EndedBy (command_of words.now) (F.state files.old) (F.state files.new) (O.state out.old) (O.state out.new) result }
 {
     match read_command(alloc, words) {
@@ -60,11 +63,13 @@ fn carry_out<F: Folder, O: Sink>(
     files: &mut F,
     out: &mut O,
 ) -> Outcome
-    requires { IsBounded command.now }
+    requires bounded { IsBounded command.now }
+    requires may_create { MayRun (Some command.now) (F.state files.old).created }
     ensures { Ended command.now (F.state files.old) (F.state files.new) (O.state out.old) (O.state out.new) result }
 {
     match command {
         Command::Solo { name, steps } => run_solo(alloc, files, name, *steps, out),
         Command::Check { names } => check_all(alloc, files, names, out),
+        Command::Asm { from, to } => assemble_file(alloc, files, from, to, out),
     }
 }
