@@ -1,0 +1,360 @@
+-- What a piece is among shaped pieces, and which rules on forms it breaks: none.
+use Rattle.std.proofs.Common.{◌≡◌, ℕ, ◌<◌, List, [], ◌∷◌, ◌++◌, Option, refl, sym, subst, ap, ◌∙◌, arith}
+use Rattle.std.proofs.lemmas.List.{append_assoc}
+use Rattle.msp_encode.specs.declared.instr.Op1.{Op1}
+use Rattle.msp_encode.specs.declared.instr.Op1.TheVariants.{Rrc, Swpb, Rra, Sxt, Push, Call}
+use Rattle.msp_encode.specs.declared.instr.Src.{Src}
+use Rattle.msp_encode.specs.declared.instr.Src.TheVariants as src
+use Rattle.msp_encode.specs.declared.instr.Dst.{Dst}
+use Rattle.msp_encode.specs.declared.instr.Dst.TheVariants as dst
+use Rattle.msp_encode.specs.declared.instr.Instr.{Instr}
+use Rattle.msp_encode.specs.declared.instr.Instr.TheVariants as instr
+use Rattle.object_form.specs.declared.parts.RelKind.{RelKind}
+use Rattle.code_model.specs.declared.guards.GuardKind.{GuardKind}
+use Rattle.code_model.specs.declared.guards.GuardKind.TheVariants as guard
+use Rattle.code_model.specs.Guards.{Changes, Stacks, SrcIs, DstIs, Pops, IsAtR4, IsHigh, IsGrowthForm, IsPopForm, IsSpForm}
+use Rattle.code_model.specs.Rules.{IsReti, WritesReg, IsImmediate, IsBranch, IsMemoryDst, IsMemorySrc, WritesMemory, ReadsStack, IsPushOrCall}
+use Rattle.insert_model.specs.declared.piece.Piece.{Piece}
+use Rattle.insert_laws.specs.Pieces.{moved_src, moved_dst, moved_instr, standing}
+use Rattle.insert_laws.specs.Shapes.{IsGuard, IsThroughR4, IsServed, Shaped, Ends, Free, Guards}
+
+-- ---- roles
+
+heads : (m n : Piece) (xs ys : List Piece) → m ∷ xs ≡ n ∷ ys → m ≡ n
+heads m n xs ys e = cc
+
+tails : (m n : Piece) (xs ys : List Piece) → m ∷ xs ≡ n ∷ ys → xs ≡ ys
+tails m n xs ys e = cc
+
+no_cut : (x : List Piece) (r : Piece) (z : List Piece) → [] ≡ x ++ r ∷ z → ⊥
+no_cut [] r z e = cc
+no_cut (n ∷ x) r z e = cc
+
+pub data Role (F : Piece → Type 0) (xs x : List Piece) (r : Piece) (z : List Piece) : Type 0 where
+  IsFree : F r → Shaped F x → Role F xs x r z
+  IsOwn : (a : List Piece) (g : GuardKind) (u y : List Piece) (p : Piece) (b : List Piece) → IsGuard g (u ++ r ∷ y) → IsServed g p → xs ≡ a ++ ((u ++ r ∷ y) ++ p ∷ b) → x ≡ a ++ u → Role F xs x r z
+  Serves : (a : List Piece) (g : GuardKind) (gs : List Piece) → Shaped F a → IsGuard g gs → IsServed g r → xs ≡ a ++ (gs ++ r ∷ z) → x ≡ a ++ gs → Role F xs x r z
+
+-- where a cut of a guard with what it guards lies
+data Lies (gs : List Piece) (p : Piece) (ps x : List Piece) (r : Piece) (z : List Piece) : Type 0 where
+  Inside : (y : List Piece) → gs ≡ x ++ r ∷ y → Lies gs p ps x r z
+  Behind : x ≡ gs → r ≡ p → z ≡ ps → Lies gs p ps x r z
+  After : (more : List Piece) → x ≡ gs ++ p ∷ more → ps ≡ more ++ r ∷ z → Lies gs p ps x r z
+
+lies : (gs : List Piece) (p : Piece) (ps x : List Piece) (r : Piece) (z : List Piece) → gs ++ p ∷ ps ≡ x ++ r ∷ z → Lies gs p ps x r z
+lies [] p ps [] r z e = Behind refl (sym (heads p r ps z e)) (sym (tails p r ps z e))
+lies [] p ps (n ∷ x) r z e = After x (ap (λ (m : Piece). m ∷ x) (sym (heads p n ps (x ++ r ∷ z) e))) (tails p n ps (x ++ r ∷ z) e)
+lies (m ∷ gs) p ps [] r z e = Inside gs (ap (λ (n : Piece). n ∷ gs) (heads m r (gs ++ p ∷ ps) z e))
+lies (m ∷ gs) p ps (n ∷ x) r z e =
+    let h : m ≡ n = heads m n (gs ++ p ∷ ps) (x ++ r ∷ z) e in
+    elim (lies gs p ps x r z (tails m n (gs ++ p ∷ ps) (x ++ r ∷ z) e)) [
+      | Inside y f ↦ Inside y (λ j. h j ∷ f j)
+      | Behind f s t ↦ Behind (λ j. sym h j ∷ f j) s t
+      | After more f t ↦ After more (λ j. sym h j ∷ f j) t
+    ]
+
+role_after : (F : Piece → Type 0) (front xs x : List Piece) (r : Piece) (z : List Piece) → ((ys : List Piece) → Shaped F ys → Shaped F (front ++ ys)) → Role F xs x r z → Role F (front ++ xs) (front ++ x) r z
+role_after F front xs x r z on (IsFree f s) = IsFree f (on x s)
+role_after F front xs x r z on (IsOwn a g u y p b is h e ex) =
+    IsOwn (front ++ a) g u y p b is h (ap (λ (ys : List Piece). front ++ ys) e ∙ sym (append_assoc front a ((u ++ r ∷ y) ++ p ∷ b))) (ap (λ (ys : List Piece). front ++ ys) ex ∙ sym (append_assoc front a u))
+role_after F front xs x r z on (Serves a g gs s is h e ex) =
+    Serves (front ++ a) g gs (on a s) is h (ap (λ (ys : List Piece). front ++ ys) e ∙ sym (append_assoc front a (gs ++ r ∷ z))) (ap (λ (ys : List Piece). front ++ ys) ex ∙ sym (append_assoc front a gs))
+
+pub role_of : (F : Piece → Type 0) (xs x : List Piece) (r : Piece) (z : List Piece) → Shaped F xs → xs ≡ x ++ r ∷ z → Role F xs x r z
+role_of F xs x r z (Ends _ empty) e = absurd (no_cut x r z (sym empty ∙ e))
+role_of F xs [] r z (Free _ p ps is f rest) e = IsFree (subst F (heads p r ps z (sym is ∙ e)) f) (Ends [] refl)
+role_of F xs (n ∷ x) r z (Free _ p ps is f rest) e =
+    let h : p ≡ n = heads p n ps (x ++ r ∷ z) (sym is ∙ e) in
+    let q : Role F ps x r z = role_of F ps x r z rest (tails p n ps (x ++ r ∷ z) (sym is ∙ e)) in
+    subst (λ (ys : List Piece). Role F ys (n ∷ x) r z) (sym is) (subst (λ (m : Piece). Role F (p ∷ ps) (m ∷ x) r z) h (role_after F (p ∷ []) ps x r z (λ ys s. Free (p ∷ ys) p ys refl f s) q))
+role_of F xs x r z (Guards _ g gs p ps are is h rest) e = by (lies gs p ps x r z (sym are ∙ e)) (λ more t. role_of F ps more r z rest t)
+  where
+    whole : xs ≡ (gs ++ p ∷ []) ++ ps
+    whole = are ∙ sym (append_assoc gs (p ∷ []) ps)
+
+    on : (ys : List Piece) → Shaped F ys → Shaped F ((gs ++ p ∷ []) ++ ys)
+    on ys s = Guards ((gs ++ p ∷ []) ++ ys) g gs p ys (append_assoc gs (p ∷ []) ys) is h s
+
+    by : Lies gs p ps x r z → ((more : List Piece) → ps ≡ more ++ r ∷ z → Role F ps more r z) → Role F xs x r z
+    by (Inside y f) later = IsOwn [] g x y p ps (subst (IsGuard g) f is) h (are ∙ ap (λ (ys : List Piece). ys ++ p ∷ ps) f) refl
+    by (Behind f s t) later = Serves [] g gs (Ends [] refl) is (subst (IsServed g) (sym s) h) (are ∙ (λ j. gs ++ sym s j ∷ sym t j)) f
+    by (After more f t) later =
+        let front : x ≡ (gs ++ p ∷ []) ++ more = f ∙ sym (append_assoc gs (p ∷ []) more) in
+        subst (λ (ys : List Piece). Role F ys x r z) (sym whole) (subst (λ (ys : List Piece). Role F ((gs ++ p ∷ []) ++ ps) ys r z) (sym front) (role_after F (gs ++ p ∷ []) ps more r z on (later more t)))
+
+-- ---- forms stay where words move
+
+src_back : (go : ℕ → ℕ) (k : Option RelKind) (s : Src) (r : ℕ) → SrcIs (moved_src go k s) r → SrcIs s r
+src_back go k (src.Reg n) r h = h
+src_back go k (src.Indexed n x) r h = h
+src_back go k (src.Symbolic x) r h = h
+src_back go k (src.Absolute x) r h = h
+src_back go k (src.Indirect n) r h = h
+src_back go k (src.AutoInc n) r h = h
+src_back go k (src.Immediate x) r h = h
+src_back go k (src.Const c) r h = h
+
+pops_back : (go : ℕ → ℕ) (k : Option RelKind) (s : Src) (r : ℕ) → Pops (moved_src go k s) r → Pops s r
+pops_back go k (src.Reg n) r h = h
+pops_back go k (src.Indexed n x) r h = h
+pops_back go k (src.Symbolic x) r h = h
+pops_back go k (src.Absolute x) r h = h
+pops_back go k (src.Indirect n) r h = h
+pops_back go k (src.AutoInc n) r h = h
+pops_back go k (src.Immediate x) r h = h
+pops_back go k (src.Const c) r h = h
+
+src_memory_back : (go : ℕ → ℕ) (k : Option RelKind) (s : Src) → IsMemorySrc (moved_src go k s) → IsMemorySrc s
+src_memory_back go k (src.Reg n) h = h
+src_memory_back go k (src.Indexed n x) h = h
+src_memory_back go k (src.Symbolic x) h = h
+src_memory_back go k (src.Absolute x) h = h
+src_memory_back go k (src.Indirect n) h = h
+src_memory_back go k (src.AutoInc n) h = h
+src_memory_back go k (src.Immediate x) h = h
+src_memory_back go k (src.Const c) h = h
+
+immediate_on : (go : ℕ → ℕ) (k : Option RelKind) (s : Src) → IsImmediate s → IsImmediate (moved_src go k s)
+immediate_on go k (src.Reg n) h = h
+immediate_on go k (src.Indexed n x) h = h
+immediate_on go k (src.Symbolic x) h = h
+immediate_on go k (src.Absolute x) h = h
+immediate_on go k (src.Indirect n) h = h
+immediate_on go k (src.AutoInc n) h = h
+immediate_on go k (src.Immediate x) h = h
+immediate_on go k (src.Const c) h = h
+
+dst_back : (go : ℕ → ℕ) (k : Option RelKind) (d : Dst) (r : ℕ) → DstIs (moved_dst go k d) r → DstIs d r
+dst_back go k (dst.Reg n) r h = h
+dst_back go k (dst.Indexed n x) r h = h
+dst_back go k (dst.Symbolic x) r h = h
+dst_back go k (dst.Absolute x) r h = h
+
+dst_on : (go : ℕ → ℕ) (k : Option RelKind) (d : Dst) (r : ℕ) → DstIs d r → DstIs (moved_dst go k d) r
+dst_on go k (dst.Reg n) r h = h
+dst_on go k (dst.Indexed n x) r h = h
+dst_on go k (dst.Symbolic x) r h = h
+dst_on go k (dst.Absolute x) r h = h
+
+dst_memory_back : (go : ℕ → ℕ) (k : Option RelKind) (d : Dst) → IsMemoryDst (moved_dst go k d) → IsMemoryDst d
+dst_memory_back go k (dst.Reg n) h = h
+dst_memory_back go k (dst.Indexed n x) h = h
+dst_memory_back go k (dst.Symbolic x) h = h
+dst_memory_back go k (dst.Absolute x) h = h
+
+reti_moved : (go : ℕ → ℕ) (j k : Option RelKind) (i : Instr) → IsReti (moved_instr go j k i) → IsReti i
+reti_moved go j k (instr.Two op w s d) h = h
+reti_moved go j k (instr.One op w s) h = h
+reti_moved go j k instr.Reti h = h
+reti_moved go j k (instr.Jump c n) h = h
+
+reg_moved : (go : ℕ → ℕ) (j k : Option RelKind) (i : Instr) (r : ℕ) → WritesReg (moved_instr go j k i) r → WritesReg i r
+reg_moved go j k (instr.Two op w s d) r h = (h.0, dst_back go k d r h.1)
+reg_moved go j k (instr.One op w s) r h = (h.0, src_back go j s r h.1)
+reg_moved go j k instr.Reti r h = h
+reg_moved go j k (instr.Jump c n) r h = h
+
+memory_moved : (go : ℕ → ℕ) (j k : Option RelKind) (i : Instr) → WritesMemory (moved_instr go j k i) → WritesMemory i
+memory_moved go j k (instr.Two op w s d) h = (h.0, dst_memory_back go k d h.1)
+memory_moved go j k (instr.One op w s) h = (h.0, src_memory_back go j s h.1)
+memory_moved go j k instr.Reti h = h
+memory_moved go j k (instr.Jump c n) h = h
+
+stack_moved : (go : ℕ → ℕ) (j k : Option RelKind) (i : Instr) → ReadsStack (moved_instr go j k i) → ReadsStack i
+stack_moved go j k (instr.Two op w s d) h = pops_back go j s 1 h
+stack_moved go j k (instr.One op w s) h = pops_back go j s 1 h
+stack_moved go j k instr.Reti h = h
+stack_moved go j k (instr.Jump c n) h = h
+
+push_moved : (go : ℕ → ℕ) (j k : Option RelKind) (i : Instr) → IsPushOrCall (moved_instr go j k i) → IsPushOrCall i
+push_moved go j k (instr.Two op w s d) h = h
+push_moved go j k (instr.One op w s) h = h
+push_moved go j k instr.Reti h = h
+push_moved go j k (instr.Jump c n) h = h
+
+branch_moved : (go : ℕ → ℕ) (j k : Option RelKind) (i : Instr) → IsBranch i → IsBranch (moved_instr go j k i)
+branch_moved go j k (instr.Two op w s d) h = (h.0, h.1, immediate_on go j s h.2, dst_on go k d 0 h.3)
+branch_moved go j k (instr.One op w s) h = h
+branch_moved go j k instr.Reti h = h
+branch_moved go j k (instr.Jump c n) h = h
+
+module _ (go : ℕ → ℕ) (p : Piece) where
+  pub reti_back : IsReti (standing go p) → IsReti p.instr
+  unfolding standing
+  reti_back h = reti_moved go p.source p.destination p.instr h
+
+  pub reg_back : (r : ℕ) → WritesReg (standing go p) r → WritesReg p.instr r
+  unfolding standing
+  reg_back r h = reg_moved go p.source p.destination p.instr r h
+
+  pub memory_back : WritesMemory (standing go p) → WritesMemory p.instr
+  unfolding standing
+  memory_back h = memory_moved go p.source p.destination p.instr h
+
+  pub stack_back : ReadsStack (standing go p) → ReadsStack p.instr
+  unfolding standing
+  stack_back h = stack_moved go p.source p.destination p.instr h
+
+  pub push_back : IsPushOrCall (standing go p) → IsPushOrCall p.instr
+  unfolding standing
+  push_back h = push_moved go p.source p.destination p.instr h
+
+  pub branch_on : IsBranch p.instr → IsBranch (standing go p)
+  unfolding standing
+  branch_on h = branch_moved go p.source p.destination p.instr h
+
+-- ---- what guarded pieces are
+
+not_both : (op : Op1) → Changes op → Stacks op → ⊥
+not_both Rrc c s = s
+not_both Swpb c s = s
+not_both Rra c s = s
+not_both Sxt c s = s
+not_both Push c s = c
+not_both Call c s = c
+
+through_dst : (d : Dst) (r : ℕ) → d ≡ dst.Indexed 4 0 → DstIs d r → ⊥
+through_dst (dst.Reg n) r e h = let f : dst.Reg n ≡ dst.Indexed 4 0 = e in cc
+through_dst (dst.Indexed n x) r e h = h
+through_dst (dst.Symbolic x) r e h = h
+through_dst (dst.Absolute x) r e h = h
+
+at_r4_src : (s : Src) (r : ℕ) → IsAtR4 s → SrcIs s r → ⊥
+at_r4_src (src.Reg n) r a h = a
+at_r4_src (src.Indexed n x) r a h = h
+at_r4_src (src.Symbolic x) r a h = h
+at_r4_src (src.Absolute x) r a h = h
+at_r4_src (src.Indirect n) r a h = h
+at_r4_src (src.AutoInc n) r a h = h
+at_r4_src (src.Immediate x) r a h = h
+at_r4_src (src.Const c) r a h = h
+
+at_r4_pops : (s : Src) (r : ℕ) → IsAtR4 s → Pops s r → ⊥
+at_r4_pops (src.Reg n) r a h = h
+at_r4_pops (src.Indexed n x) r a h = h
+at_r4_pops (src.Symbolic x) r a h = h
+at_r4_pops (src.Absolute x) r a h = h
+at_r4_pops (src.Indirect n) r a h = h
+at_r4_pops (src.AutoInc n) r a h = a
+at_r4_pops (src.Immediate x) r a h = h
+at_r4_pops (src.Const c) r a h = h
+
+high_reg : (d : Dst) (r : ℕ) → r < 4 → IsHigh d → DstIs d r → ⊥
+high_reg (dst.Reg n) r low a h = omega (arith, a.0)
+high_reg (dst.Indexed n x) r low a h = h
+high_reg (dst.Symbolic x) r low a h = h
+high_reg (dst.Absolute x) r low a h = h
+
+high_memory : (d : Dst) → IsHigh d → IsMemoryDst d → ⊥
+high_memory (dst.Reg n) a h = h
+high_memory (dst.Indexed n x) a h = a
+high_memory (dst.Symbolic x) a h = a
+high_memory (dst.Absolute x) a h = a
+
+is_reg_dst : (d : Dst) (r : ℕ) → DstIs d r → IsMemoryDst d → ⊥
+is_reg_dst (dst.Reg n) r a h = h
+is_reg_dst (dst.Indexed n x) r a h = a
+is_reg_dst (dst.Symbolic x) r a h = a
+is_reg_dst (dst.Absolute x) r a h = a
+
+one_reg : (d : Dst) (a b : ℕ) → DstIs d a → DstIs d b → a ≡ b
+one_reg (dst.Reg n) a b h k = omega (arith, h, k)
+one_reg (dst.Indexed n x) a b h k = absurd h
+one_reg (dst.Symbolic x) a b h k = absurd h
+one_reg (dst.Absolute x) a b h k = absurd h
+
+is_reg_src : (s : Src) (a b : ℕ) → SrcIs s a → Pops s b → ⊥
+is_reg_src (src.Reg n) a b h k = k
+is_reg_src (src.Indexed n x) a b h k = h
+is_reg_src (src.Symbolic x) a b h k = h
+is_reg_src (src.Absolute x) a b h k = h
+is_reg_src (src.Indirect n) a b h k = h
+is_reg_src (src.AutoInc n) a b h k = h
+is_reg_src (src.Immediate x) a b h k = h
+is_reg_src (src.Const c) a b h k = h
+
+-- a guarded form, by its instruction
+abbrev pub ServedForm : GuardKind → Option RelKind → Instr → Type 0
+ServedForm guard.Store k i = IsThroughR4 k i
+ServedForm guard.Growth k i = IsGrowthForm i
+ServedForm guard.Pop k i = IsPopForm i
+ServedForm guard.Sp k i = IsSpForm i
+
+pub form_of : (g : GuardKind) (p : Piece) → IsServed g p → ServedForm g p.destination p.instr
+form_of guard.Store p h = h
+form_of guard.Growth p h = h
+form_of guard.Pop p h = h
+form_of guard.Sp p h = h
+
+pub served_reti : (g : GuardKind) (k : Option RelKind) (i : Instr) → ServedForm g k i → IsReti i → ⊥
+served_reti guard.Store k instr.Reti f h = f
+served_reti guard.Growth k instr.Reti f h = f
+served_reti guard.Pop k instr.Reti f h = f
+served_reti guard.Sp k instr.Reti f h = f
+served_reti g k (instr.Two op w s d) f h = h
+served_reti g k (instr.One op w s) f h = h
+served_reti g k (instr.Jump c n) f h = h
+
+-- R0 to R3 are written by guarded pieces only as the SP guard's
+pub served_reg : (g : GuardKind) (k : Option RelKind) (i : Instr) (r : ℕ) → r < 4 → ServedForm g k i → WritesReg i r → (g ≡ guard.Sp) × (r ≡ 1)
+served_reg guard.Store k (instr.Two op w s d) r low f h = absurd (through_dst d r f.1 h.1)
+served_reg guard.Store k (instr.One op w s) r low f h = absurd (at_r4_src s r f.1 h.1)
+served_reg guard.Store k instr.Reti r low f h = absurd h
+served_reg guard.Store k (instr.Jump c n) r low f h = absurd h
+served_reg guard.Growth k (instr.Two op w s d) r low f h = absurd f
+served_reg guard.Growth k (instr.One op w s) r low f h = absurd (not_both op h.0 f.0)
+served_reg guard.Growth k instr.Reti r low f h = absurd h
+served_reg guard.Growth k (instr.Jump c n) r low f h = absurd h
+served_reg guard.Pop k (instr.Two op w s d) r low f h = absurd (high_reg d r low f.3 h.1)
+served_reg guard.Pop k (instr.One op w s) r low f h = absurd f
+served_reg guard.Pop k instr.Reti r low f h = absurd h
+served_reg guard.Pop k (instr.Jump c n) r low f h = absurd h
+served_reg guard.Sp k (instr.Two op w s d) r low f h = (refl, one_reg d r 1 h.1 f.3)
+served_reg guard.Sp k (instr.One op w s) r low f h = absurd f
+served_reg guard.Sp k instr.Reti r low f h = absurd h
+served_reg guard.Sp k (instr.Jump c n) r low f h = absurd h
+
+pub served_memory : (g : GuardKind) (k : Option RelKind) (i : Instr) → ServedForm g k i → WritesMemory i → g ≡ guard.Store
+served_memory guard.Store k i f h = refl
+served_memory guard.Growth k (instr.Two op w s d) f h = absurd f
+served_memory guard.Growth k (instr.One op w s) f h = absurd (not_both op h.0 f.0)
+served_memory guard.Growth k instr.Reti f h = absurd h
+served_memory guard.Growth k (instr.Jump c n) f h = absurd h
+served_memory guard.Pop k (instr.Two op w s d) f h = absurd (high_memory d f.3 h.1)
+served_memory guard.Pop k (instr.One op w s) f h = absurd f
+served_memory guard.Pop k instr.Reti f h = absurd h
+served_memory guard.Pop k (instr.Jump c n) f h = absurd h
+served_memory guard.Sp k (instr.Two op w s d) f h = absurd (is_reg_dst d 1 f.3 h.1)
+served_memory guard.Sp k (instr.One op w s) f h = absurd f
+served_memory guard.Sp k instr.Reti f h = absurd h
+served_memory guard.Sp k (instr.Jump c n) f h = absurd h
+
+pub served_stack : (g : GuardKind) (k : Option RelKind) (i : Instr) → ServedForm g k i → ReadsStack i → g ≡ guard.Pop
+served_stack guard.Pop k i f h = refl
+served_stack guard.Store k (instr.Two op w s d) f h = absurd (f.3.1 h)
+served_stack guard.Store k (instr.One op w s) f h = absurd (at_r4_pops s 1 f.1 h)
+served_stack guard.Store k instr.Reti f h = absurd h
+served_stack guard.Store k (instr.Jump c n) f h = absurd h
+served_stack guard.Growth k (instr.Two op w s d) f h = absurd f
+served_stack guard.Growth k (instr.One op w s) f h = absurd (f.1.1 h)
+served_stack guard.Growth k instr.Reti f h = absurd h
+served_stack guard.Growth k (instr.Jump c n) f h = absurd h
+served_stack guard.Sp k (instr.Two op w s d) f h = absurd (is_reg_src s 4 1 f.2 h)
+served_stack guard.Sp k (instr.One op w s) f h = absurd f
+served_stack guard.Sp k instr.Reti f h = absurd h
+served_stack guard.Sp k (instr.Jump c n) f h = absurd h
+
+pub served_push : (g : GuardKind) (k : Option RelKind) (i : Instr) → ServedForm g k i → IsPushOrCall i → g ≡ guard.Growth
+served_push guard.Growth k i f h = refl
+served_push guard.Store k (instr.Two op w s d) f h = absurd h
+served_push guard.Store k (instr.One op w s) f h = absurd (not_both op f.0 h)
+served_push guard.Store k instr.Reti f h = absurd h
+served_push guard.Store k (instr.Jump c n) f h = absurd h
+served_push guard.Pop k (instr.Two op w s d) f h = absurd h
+served_push guard.Pop k (instr.One op w s) f h = absurd f
+served_push guard.Pop k instr.Reti f h = absurd h
+served_push guard.Pop k (instr.Jump c n) f h = absurd h
+served_push guard.Sp k (instr.Two op w s d) f h = absurd h
+served_push guard.Sp k (instr.One op w s) f h = absurd f
+served_push guard.Sp k instr.Reti f h = absurd h
+served_push guard.Sp k (instr.Jump c n) f h = absurd h

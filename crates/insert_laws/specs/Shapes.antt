@@ -1,0 +1,80 @@
+-- The shape of the pieces of an object with guards: free pieces, and guards with what they guard.
+use Rattle.std.specs.Prelude.{◌≡◌, ℕ, ◌<◌, ◌≤◌, ◌⊎◌, List, [], ◌∷◌, ◌++◌, Option, None, ℤ, pos}
+use Rattle.msp_encode.specs.declared.instr.Op2.TheVariants.{Mov}
+use Rattle.msp_encode.specs.declared.instr.Width.TheVariants.{Wide}
+use Rattle.msp_encode.specs.declared.instr.Cond.{Cond}
+use Rattle.msp_encode.specs.declared.instr.Src.TheVariants as src
+use Rattle.msp_encode.specs.declared.instr.Dst.TheVariants as dst
+use Rattle.msp_encode.specs.declared.instr.Instr.{Instr}
+use Rattle.msp_encode.specs.declared.instr.Instr.TheVariants as instr
+use Rattle.object_form.specs.declared.parts.RelKind.{RelKind}
+use Rattle.code_model.specs.declared.guards.GuardKind.{GuardKind}
+use Rattle.code_model.specs.declared.guards.GuardKind.TheVariants as guard
+use Rattle.code_model.specs.Guards.{Writes, Changes, IsQuiet, IsAtR4, IsGrowthForm, IsPopForm, IsSpForm}
+use Rattle.msp_encode.specs.Spelling.{InstrFits}
+use Rattle.object_form.specs.declared.object.Object.{Object}
+use Rattle.code_model.specs.Rules.{IsReti, WritesReg, IsBranch, WritesMemory, ReadsStack, IsPushOrCall, IsAlways}
+use Rattle.insert_model.specs.declared.line.Line.{Line}
+use Rattle.insert_model.specs.declared.piece.Piece.{Piece}
+use Rattle.insert_model.specs.Faults.{UsesCheck, ChangesFlags, IsForbidden, GoesWrong}
+use Rattle.insert_model.specs.Guards.{store_guard, growth_guard, pop_guard, sp_guard}
+
+-- `MOV SR,R5`, with which each guard begins
+abbrev pub saving : Instr
+saving = instr.Two Mov Wide (src.Reg 2) (dst.Reg 5)
+
+-- the pieces of a store guard
+pub record IsStoreGuard (gs : List Piece) : Type 0 where
+  pub base : ℕ
+  pub index : ℕ
+  pub kind : Option RelKind
+  pub below : base < 16
+  pub register : (base ≡ 1) ⊎ (3 ≤ base)
+  pub are : gs ≡ store_guard base index kind
+
+abbrev pub IsGuard : GuardKind → List Piece → Type 0
+IsGuard guard.Store gs = IsStoreGuard gs
+IsGuard guard.Growth gs = gs ≡ growth_guard
+IsGuard guard.Pop gs = gs ≡ pop_guard
+IsGuard guard.Sp gs = gs ≡ sp_guard
+
+-- a store through 0(R4) whose index isn't relocated, or an operation on @R4
+abbrev pub IsThroughR4 : Option RelKind → Instr → Type 0
+IsThroughR4 k (instr.Two op w s d) = Writes op × (d ≡ dst.Indexed 4 0) × (k ≡ None) × IsQuiet s
+IsThroughR4 k (instr.One op w s) = Changes op × IsAtR4 s
+IsThroughR4 k instr.Reti = ⊥
+IsThroughR4 k (instr.Jump c n) = ⊥
+
+-- a piece that a guard of this kind may stand before
+abbrev pub IsServed : GuardKind → Piece → Type 0
+IsServed guard.Store p = IsThroughR4 p.destination p.instr
+IsServed guard.Growth p = IsGrowthForm p.instr
+IsServed guard.Pop p = IsPopForm p.instr
+IsServed guard.Sp p = IsSpForm p.instr
+
+-- guards with what they guard, and pieces that meet a fact
+pub data Shaped (F : Piece → Type 0) : List Piece → Type 0 where
+  Ends : (xs : List Piece) → xs ≡ [] → Shaped F xs
+  Free : (xs : List Piece) (p : Piece) (ps : List Piece) → xs ≡ p ∷ ps → F p → Shaped F ps → Shaped F xs
+  Guards : (xs : List Piece) (g : GuardKind) (gs : List Piece) (p : Piece) (ps : List Piece) → xs ≡ gs ++ p ∷ ps → IsGuard g gs → IsServed g p → Shaped F ps → Shaped F xs
+
+-- no rule on forms asks for a guard
+pub record IsFreeForm (p : Piece) : Type 0 where
+  pub no_reti : IsReti p.instr → ⊥
+  pub pc : WritesReg p.instr 0 → IsBranch p.instr
+  pub no_sp : WritesReg p.instr 1 → ⊥
+  pub no_memory : WritesMemory p.instr → ⊥
+  pub no_pop : ReadsStack p.instr → ⊥
+  pub no_push : IsPushOrCall p.instr → ⊥
+  pub no_save : p.instr ≡ saving → ⊥
+  -- it is no jump of a guard
+  pub jumps : (c : Cond) (k : ℤ) → p.instr ≡ instr.Jump c k → (k ≡ pos 1) ⊎ IsAlways c
+  -- SR is written by flags alone, which aren't relocated
+  pub sr : WritesReg p.instr 2 → (ChangesFlags p.instr p.source → ⊥) → ⊥
+
+-- a source instruction that nothing is wrong with
+pub record IsCleanLine (o : Object) (l : Line) : Type 0 where
+  pub fits : InstrFits l.instr
+  pub free : UsesCheck l.instr → ⊥
+  pub allowed : IsForbidden l → ⊥
+  pub lands : GoesWrong o l → ⊥

@@ -1,0 +1,108 @@
+//! Laws of objects with guards, for the layers above: each is used by calling it.
+#![tactic(auto)]
+
+ghost use Rattle.insert_laws.specs.Laws.{StartsArePieces, RelocsArePieces, FormRulesPass, StartsAreUnits, EntryRulePasses, TargetRulePasses, EndRulePasses, JumpRulePasses, NothingRefused, VerdictAccepts};
+
+use checker_laws::one_stands;
+use insert_model::laws::{instruction_size, line_stands};
+use msp_decode::laws::{first_word_decides, one_instruction, reading_law};
+use msp_encode::laws::legal_by_cases;
+
+/// The starts of an object with guards are the places of the pieces of its units, so all of its code is spelled.
+pub fn starts_are_pieces()
+    ensures { StartsArePieces }
+{
+    one_stands();
+    reading_law();
+    legal_by_cases();
+}
+
+/// The relocations of the code of an object with guards are those of the words of its pieces.
+pub fn relocs_are_pieces()
+    ensures { RelocsArePieces }
+{}
+
+/// All rules but those on targets, on the code's end, on the entry and the exports refuse no object with guards: all of its code
+/// is spelled, none of it is RETI, PC is written by branches alone and SR by flags, SP, memory, pushes and pops stand behind
+/// their guards, absolute words that are written are in the static part, and only words that may be relocated are.
+pub fn form_rules_pass()
+    ensures { FormRulesPass }
+{
+    one_stands();
+    reading_law();
+    legal_by_cases();
+    one_instruction();
+    first_word_decides();
+}
+
+/// The place map sends the offset of each start of the source to a unit start.
+pub fn starts_are_units()
+    ensures { StartsAreUnits }
+{
+    one_stands();
+    reading_law();
+    legal_by_cases();
+    one_instruction();
+    first_word_decides();
+    instruction_size();
+    line_stands();
+}
+
+/// The rule on the entry and the exports refuses no object with guards.
+pub fn entry_rule_passes()
+    ensures { EntryRulePasses }
+{
+    starts_are_units();
+}
+
+/// The rule on branches and calls refuses no object with guards.
+pub fn target_rule_passes()
+    ensures { TargetRulePasses }
+{
+    one_stands();
+    reading_law();
+    legal_by_cases();
+    starts_are_units();
+}
+
+/// The rule on the code's end refuses no object with guards: its last instruction is a branch.
+pub fn end_rule_passes()
+    ensures { EndRulePasses }
+{
+    one_stands();
+    reading_law();
+    legal_by_cases();
+    instruction_size();
+    line_stands();
+}
+
+/// The rule on jumps refuses no object with guards: outside guards, jumps stand in the units of conditional jumps alone.
+pub fn jump_rule_passes()
+    ensures { JumpRulePasses }
+{
+    one_stands();
+    reading_law();
+    legal_by_cases();
+    one_instruction();
+    first_word_decides();
+    instruction_size();
+    line_stands();
+}
+
+/// No rule of the checker refuses an object with guards.
+pub fn nothing_refused()
+    ensures { NothingRefused }
+{
+    form_rules_pass();
+    entry_rule_passes();
+    target_rule_passes();
+    end_rule_passes();
+    jump_rule_passes();
+}
+
+/// Each verdict of an object with guards is an acceptance: what `insert` answers, the checker accepts.
+pub fn verdict_accepts()
+    ensures { VerdictAccepts }
+{
+    nothing_refused();
+}
