@@ -1,0 +1,9 @@
+pub mod Running
+pub mod Flags
+pub mod Lines
+pub mod Fetched
+pub mod Contexts
+pub mod Guards
+pub mod Frame
+pub mod Guarded
+pub mod AtR4

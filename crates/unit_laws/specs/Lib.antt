@@ -1,0 +1,5 @@
+pub mod Running
+pub mod Lines
+pub mod Guards
+pub mod Frame
+pub mod Guarded

@@ -1,0 +1,82 @@
+//! Laws of the units of objects with guards, for the layers above: each is used by calling it.
+//!
+//! `specs/Running.antt` says what running a unit is, `specs/Lines.antt` what each line of a guard does, and
+//! `specs/Guards.antt` where a run of a guard ends, `specs/Frame.antt` that what names neither R4 nor R5 is the same whatever
+//! they hold, and `specs/Guarded.antt` what the guarded instruction does behind its guard.
+#![tactic(auto)]
+
+ghost use Rattle.unit_laws.specs.Frame.{FrameLaw};
+ghost use Rattle.unit_laws.specs.Guarded.{AtR4Law, GuardedLaw, ThroughLaw};
+ghost use Rattle.unit_laws.specs.Guards.{GrowthGuardLaw, PopGuardLaw, SpGuardLaw, StoreGuardLaw};
+ghost use Rattle.unit_laws.specs.Lines.{ComparedLaw, LineLaw};
+ghost use Rattle.unit_laws.specs.Running.{FollowLaw, JoinLaw, OnceLaw};
+
+use msp_decode::laws::{first_word_decides, one_instruction};
+
+/// A run inside a unit is followed by a run of what it leads to.
+pub fn runs_join()
+    ensures { JoinLaw }
+{}
+
+/// Running a unit goes on where a run inside it leads.
+pub fn unit_follows()
+    ensures { FollowLaw }
+{}
+
+/// Running a unit from a context ends in one way.
+pub fn unit_ends_once()
+    ensures { OnceLaw }
+{
+    one_instruction();
+    first_word_decides();
+}
+
+/// What each line of a guard does to the sixteen registers, exactly. It writes nothing.
+pub fn line_does()
+    ensures { LineLaw }
+{}
+
+/// The carry flag tells after a comparison whether the destination is at least the source, and the zero flag whether they are equal.
+pub fn comparison_tells()
+    ensures { ComparedLaw }
+{}
+
+/// Where a run of the store guard ends: at the guarded instruction, with the address in R4, exactly where it is in the region, and at F000 elsewhere.
+pub fn store_guard_ends()
+    ensures { StoreGuardLaw }
+{}
+
+/// Where a run of the growth guard ends: at the guarded instruction exactly where SP is at least the current limit, and at F002 elsewhere.
+pub fn growth_guard_ends()
+    ensures { GrowthGuardLaw }
+{}
+
+/// Where a run of the pop guard ends: at the guarded instruction exactly where SP is not the current top, and at F002 elsewhere.
+pub fn pop_guard_ends()
+    ensures { PopGuardLaw }
+{}
+
+/// Where a run of the SP guard ends: at the guarded instruction exactly where R4 is between the current limit and the current top, and at F002 elsewhere.
+pub fn sp_guard_ends()
+    ensures { SpGuardLaw }
+{}
+
+/// An instruction that names neither R4 nor R5 does the same whatever they hold, and leaves them.
+pub fn others_kept()
+    ensures { FrameLaw }
+{}
+
+/// Where a guard passes, the guarded instruction ends the unit, with all but R4 and R5 as it leaves them without the guard.
+pub fn guarded_ends()
+    ensures { GuardedLaw }
+{}
+
+/// An operation on 0(R4) does what it does on x(Rn) or on an absolute address, where R4 has that address, but for R4 and R5.
+pub fn through_same()
+    ensures { ThroughLaw }
+{}
+
+/// RRC, RRA, SWPB or SXT on @R4 does what it does on x(Rn), on @Rn or on an absolute address, where R4 has that address, but for R4 and R5.
+pub fn at_r4_same()
+    ensures { AtR4Law }
+{}
