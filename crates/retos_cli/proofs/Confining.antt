@@ -9,7 +9,7 @@ use Rattle.place_model.specs.declared.places.NoRoom.TheVariants.{Region}
 use Rattle.solo_model.specs.Booted.{alone, placing_alone, region_end}
 use Rattle.solo_laws.specs.Laws.{SoloLaw}
 use Rattle.retos_cli.specs.declared.command.Command.{Command}
-use Rattle.retos_cli.specs.declared.command.Command.TheVariants.{Solo, Check, Asm}
+use Rattle.retos_cli.specs.declared.command.Command.TheVariants.{Solo, Check, Asm, Insert}
 use Rattle.retos_cli.specs.Ends.{Told}
 use Rattle.retos_cli.specs.Clauses.{RunsConfined}
 use Rattle.retos_cli.proofs.Told.{told_all}
@@ -31,6 +31,7 @@ runs-confined : SoloLaw → PlacedLaw → (m : Files) (c : Option Command) → R
 runs-confined law placed m None = tt
 runs-confined law placed m (Some (Check names)) = tt
 runs-confined law placed m (Some (Asm from to)) = tt
+runs-confined law placed m (Some (Insert from to)) = tt
 runs-confined law placed m (Some (Solo name steps)) = λ o units taken memory boots. law o units memory steps taken.fit.suits (fits placed o taken.fit.room) taken.fit.accepted boots
 
 pub confined_clause : SoloLaw → PlacedLaw → (files : Option Files) (c : Option Command) → Told files (RunsConfined c)

@@ -21,7 +21,7 @@ use Rattle.retos_cli.specs.declared.outcome.Stop.{Stop}
 use Rattle.retos_cli.specs.Judging.{stop_of}
 use Rattle.retos_cli.specs.Ends.{Told, RefusesInput, OnlyRead, InputStops}
 
-holds : (h : Option (List ℕ)) (bytes : List ℕ) → Answers h (Ok bytes) → Some bytes ≡ h
+pub holds : (h : Option (List ℕ)) (bytes : List ℕ) → Answers h (Ok bytes) → Some bytes ≡ h
 holds None bytes a = absurd a
 holds (Some all) bytes a = ap (λ (x : List ℕ). Some x) a.0
 

@@ -9,29 +9,45 @@ use Rattle.code_model.specs.declared.verdict.Verdict.TheVariants as verdict
 use Rattle.asm_text.specs.declared.fault.AsmKind.{AsmKind}
 use Rattle.asm_text.specs.FirstPass.{fault}
 use Rattle.asm_text.specs.Assembled.{assembled}
+use Rattle.insert_model.specs.declared.fault.InsertKind.{InsertKind}
+use Rattle.insert_model.specs.Faults.{IsFault}
 use Rattle.retos_cli.specs.declared.form.Form.{Form}
-use Rattle.retos_cli.specs.declared.form.Form.TheVariants.{Source}
+use Rattle.retos_cli.specs.declared.form.Form.TheVariants.{Source, Plain, Checked, Runnable}
 use Rattle.retos_cli.specs.declared.outcome.Why.TheVariants as why
-use Rattle.retos_cli.specs.Meaning.{AsksObject, Refuses, Suits, Runs, LacksRoom}
+use Rattle.retos_cli.specs.Meaning.{AsksObject, AsksCheck, Refuses, Suits, Runs, LacksRoom}
 use Rattle.place_model.specs.declared.places.NoRoom.{NoRoom}
 
-pub refuses_unsuited : (form : Form) (o : Object) → AsksObject form → length (object_bytes o) ≤ 1048576 → (Suits form o → ⊥) → Refuses form (Some (object_bytes o)) why.NotApplication
+pub refuses_unsuited : (form : Form) (o : Object) → AsksCheck form → length (object_bytes o) ≤ 1048576 → (Suits form o → ⊥) → Refuses form (Some (object_bytes o)) why.NotApplication
 unfolding Refuses
 refuses_unsuited form o a l n = (a, o, (refl, l), n)
 
-pub refuses_check : (form : Form) (o : Object) (rule place : ℕ) → AsksObject form → length (object_bytes o) ≤ 1048576 → Suits form o → IsVerdict o (verdict.Refused rule place) → Refuses form (Some (object_bytes o)) (why.Check rule place)
+pub refuses_check : (form : Form) (o : Object) (rule place : ℕ) → AsksCheck form → length (object_bytes o) ≤ 1048576 → Suits form o → IsVerdict o (verdict.Refused rule place) → Refuses form (Some (object_bytes o)) (why.Check rule place)
 unfolding Refuses
 refuses_check form o rule place a l s v = (a, o, (refl, l), s, v)
 
-pub refuses_yet : (form : Form) (o : Object) (units : List ℕ) → AsksObject form → length (object_bytes o) ≤ 1048576 → Suits form o → IsAccepted o units → (Runs form o → ⊥) → Refuses form (Some (object_bytes o)) why.NotYet
+pub refuses_yet : (form : Form) (o : Object) (units : List ℕ) → AsksCheck form → length (object_bytes o) ≤ 1048576 → Suits form o → IsAccepted o units → (Runs form o → ⊥) → Refuses form (Some (object_bytes o)) why.NotYet
 unfolding Refuses
 refuses_yet form o units k l s a n = (k, o, units, (refl, l), s, a, n)
 
-pub refuses_form : (form : Form) (text : List ℕ) (kind : FormKind) (at : ℕ) → AsksObject form → length text ≤ 1048576 → first_form_fault text ≡ Some (record { kind = kind; offset = at }) → Refuses form (Some text) (why.Form kind at)
-unfolding Refuses
-refuses_form form text k at a l e = (a, text, refl, l, e)
+asks-object : (form : Form) → AsksCheck form → AsksObject form
+asks-object Checked a = tt
+asks-object Runnable a = tt
+asks-object Plain a = absurd a
+asks-object Source a = absurd a
 
-pub refuses_room : (form : Form) (o : Object) (units : List ℕ) (cause : NoRoom) → AsksObject form → length (object_bytes o) ≤ 1048576 → Suits form o → IsAccepted o units → Runs form o → LacksRoom form o cause → Refuses form (Some (object_bytes o)) (why.Room cause)
+pub refuses_plain_form : (text : List ℕ) (kind : FormKind) (at : ℕ) → length text ≤ 1048576 → first_form_fault text ≡ Some (record { kind = kind; offset = at }) → Refuses Plain (Some text) (why.Form kind at)
+unfolding Refuses
+refuses_plain_form text k at l e = (tt, text, refl, l, e)
+
+pub refuses_insert : (o : Object) (kind : InsertKind) (at : ℕ) → length (object_bytes o) ≤ 1048576 → IsFault o kind at → Refuses Plain (Some (object_bytes o)) (why.Insert kind at)
+unfolding Refuses
+refuses_insert o k at l f = (refl, o, (refl, l), f)
+
+pub refuses_form : (form : Form) (text : List ℕ) (kind : FormKind) (at : ℕ) → AsksCheck form → length text ≤ 1048576 → first_form_fault text ≡ Some (record { kind = kind; offset = at }) → Refuses form (Some text) (why.Form kind at)
+unfolding Refuses
+refuses_form form text k at a l e = (asks-object form a, text, refl, l, e)
+
+pub refuses_room : (form : Form) (o : Object) (units : List ℕ) (cause : NoRoom) → AsksCheck form → length (object_bytes o) ≤ 1048576 → Suits form o → IsAccepted o units → Runs form o → LacksRoom form o cause → Refuses form (Some (object_bytes o)) (why.Room cause)
 unfolding Refuses
 refuses_room form o units cause k l s a r n = (k, o, units, (refl, l), s, a, r, n)
 

@@ -3,6 +3,7 @@ pub mod Counting
 pub mod Forms
 pub mod Gathered
 pub mod Gathering
+pub mod Guarding
 pub mod Inputs
 pub mod Joined
 pub mod Judgments

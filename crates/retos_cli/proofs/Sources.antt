@@ -7,7 +7,7 @@ use Rattle.edge_io.specs.Causes.{Rose}
 use Rattle.object_form.specs.declared.object.Object.{Object}
 use Rattle.object_form.specs.Spelling.{object_bytes}
 use Rattle.retos_cli.specs.declared.command.Command.{Command}
-use Rattle.retos_cli.specs.declared.command.Command.TheVariants.{Solo, Check, Asm}
+use Rattle.retos_cli.specs.declared.command.Command.TheVariants.{Solo, Check, Asm, Insert}
 use Rattle.retos_cli.specs.declared.form.Form.TheVariants.{Source}
 use Rattle.retos_cli.specs.declared.outcome.Outcome.{Outcome}
 use Rattle.retos_cli.specs.declared.outcome.Outcome.TheVariants.{Done, BadWords, Stopped, WriteFault}
@@ -30,33 +30,33 @@ asm-output : (m : Files) (from to : List ℕ) (o : Object) → Assembles (held m
 unfolding IsOutput
 asm-output m from to o a = record { object = o; assembles = a; line = refl; file_is = refl; faulted_is = refl }
 
-put-over : (fs gs : Option Files) (m : Files) (name bytes : List ℕ) → gs ≡ put fs name bytes → fs ≡ Some m → gs ≡ Some (insert m name bytes)
-put-over fs gs m name bytes e f = e ∙ ap (λ (hs : Option Files). put hs name bytes) f
+pub put_over : (fs gs : Option Files) (m : Files) (name bytes : List ℕ) → gs ≡ put fs name bytes → fs ≡ Some m → gs ≡ Some (insert m name bytes)
+put_over fs gs m name bytes e f = e ∙ ap (λ (hs : Option Files). put hs name bytes) f
 
 rose-after : (a b c : ℕ) → b ≡ a → Rose b c → Rose a c
 rose-after a b c e r = let P : ℕ → Type 0 = λ n. Rose n c in subst P e r
 
-cause-after : (f0 f1 f2 : FolderState) (o0 o1 : SinkState) → OnlyRead f0 f1 → Rose o0.faults o1.faults ⊎ Rose f1.write_faults f2.write_faults → Rose o0.faults o1.faults ⊎ Rose f0.write_faults f2.write_faults
-cause-after f0 f1 f2 o0 o1 l (inl r) = inl r
-cause-after f0 f1 f2 o0 o1 l (inr r) = inr (rose-after f0.write_faults f1.write_faults f2.write_faults l.writes r)
+pub cause_after : (f0 f1 f2 : FolderState) (o0 o1 : SinkState) → OnlyRead f0 f1 → Rose o0.faults o1.faults ⊎ Rose f1.write_faults f2.write_faults → Rose o0.faults o1.faults ⊎ Rose f0.write_faults f2.write_faults
+cause_after f0 f1 f2 o0 o1 l (inl r) = inl r
+cause_after f0 f1 f2 o0 o1 l (inr r) = inr (rose-after f0.write_faults f1.write_faults f2.write_faults l.writes r)
 
-read-then : (f0 f1 f2 : FolderState) → OnlyRead f0 f1 → f2 ≡ f1 → OnlyRead f0 f2
-read-then f0 f1 f2 l e = let P : FolderState → Type 0 = λ f. OnlyRead f0 f in subst P (sym e) l
+pub read_then : (f0 f1 f2 : FolderState) → OnlyRead f0 f1 → f2 ≡ f1 → OnlyRead f0 f2
+read_then f0 f1 f2 l e = let P : FolderState → Type 0 = λ f. OnlyRead f0 f in subst P (sym e) l
 
 ended-by : (f0 f1 f2 : FolderState) (o0 o1 : SinkState) (from to : List ℕ) (o : Object) (r : Outcome)
     → Told f0.files (λ m. Assembles (held m from) o) → OnlyRead f0 f1 → IsPut f1 f2 o0 o1 to o (assembled_line to o) r → Ended (Asm from to) f0 f2 o0 o1 r
 ended-by f0 f1 f2 o0 o1 from to o (Done faulted) t l h = record {
   told = told_map f0.files (λ m. Assembles (held m from) o) (λ m. (x : Output) × IsOutput (Asm from to) m x × (x.faulted ≡ faulted) × (o1.bytes ≡ appended o0.bytes x.out) × (f2.files ≡ Some (written m x.file)))
-      (λ m e a. (output-of to o, asm-output m from to o a, sym h.0, h.2, put-over f1.files f2.files m to (object_bytes o) h.1 (l.files ∙ e))) t;
+      (λ m e a. (output-of to o, asm-output m from to o a, sym h.0, h.2, put_over f1.files f2.files m to (object_bytes o) h.1 (l.files ∙ e))) t;
 }
 ended-by f0 f1 f2 o0 o1 from to o WriteFault t l h = record {
-  cause = cause-after f0 f1 f2 o0 o1 l h.cause;
+  cause = cause_after f0 f1 f2 o0 o1 l h.cause;
   told = told_both f0.files (λ m. Assembles (held m from) o) (λ m. FileCut to (object_bytes o) (assembled_line to o) m f2.files o0.bytes o1.bytes)
       (λ m. (x : Output) × IsOutput (Asm from to) m x × CutAt x.file x.out m f2.files o0.bytes o1.bytes)
       (λ m e a k. (output-of to o, asm-output m from to o a, k)) t
       (told_same f0.files f1.files (λ m. FileCut to (object_bytes o) (assembled_line to o) m f2.files o0.bytes o1.bytes) l.files h.left);
 }
-ended-by f0 f1 f2 o0 o1 from to o (Stopped NoMemory) t l h = record { read = read-then f0 f1 f2 l h.0; cause = tt; out = h.1 }
+ended-by f0 f1 f2 o0 o1 from to o (Stopped NoMemory) t l h = record { read = read_then f0 f1 f2 l h.0; cause = tt; out = h.1 }
 ended-by f0 f1 f2 o0 o1 from to o (Stopped (Refuse r)) t l h = absurd h
 ended-by f0 f1 f2 o0 o1 from to o (Stopped (ReadFault n)) t l h = absurd h
 ended-by f0 f1 f2 o0 o1 from to o BadWords t l h = absurd h
@@ -80,3 +80,4 @@ may_run_fresh c created e = let P : Option (List ℕ) → Type 0 = λ n. MayRun 
     by-command (Some (Solo name steps)) = tt
     by-command (Some (Check names)) = tt
     by-command (Some (Asm from to)) = tt
+    by-command (Some (Insert from to)) = tt

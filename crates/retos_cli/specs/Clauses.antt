@@ -5,7 +5,7 @@ use Rattle.edge_io.specs.Known.{Files, FolderState, SinkState, appended, held, G
 use Rattle.edge_io.specs.Causes.{Rose, Still}
 use Rattle.object_form.specs.declared.object.Object.{Object}
 use Rattle.retos_cli.specs.declared.command.Command.{Command}
-use Rattle.retos_cli.specs.declared.command.Command.TheVariants.{Solo, Check, Asm}
+use Rattle.retos_cli.specs.declared.command.Command.TheVariants.{Solo, Check, Asm, Insert}
 use Rattle.retos_cli.specs.declared.form.Form.TheVariants.{Runnable}
 use Rattle.retos_cli.specs.declared.outcome.Status.{Status}
 use Rattle.retos_cli.specs.declared.outcome.Status.TheVariants.{Done, Refused, BadWords, ReadFault, WriteFault, NoMemory, Faulted}
@@ -146,6 +146,7 @@ abbrev pub RunsConfined : Option Command → Files → Type 0
 RunsConfined None m = Unit {0}
 RunsConfined (Some (Check names)) m = Unit {0}
 RunsConfined (Some (Asm from to)) m = Unit {0}
+RunsConfined (Some (Insert from to)) m = Unit {0}
 RunsConfined (Some (Solo name steps)) m = (o : Object) (units : List ℕ) → Taken Runnable (held m name) o units → (memory : List ℕ) → IsBootMemory o units memory → AllConfined o units steps (booted o memory)
 
 abbrev pub ConfinedClause : Call → Type 0

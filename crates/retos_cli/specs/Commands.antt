@@ -3,7 +3,7 @@ use Rattle.std.specs.Prelude.{ℕ, ◌+◌, ◌-◌, ◌*◌, ◌==◌, Bool, �
 use Rattle.std.specs.Option.{option_map, option_and_then}
 use Rattle.std.specs.declared.option.Option.{Option}
 use Rattle.retos_cli.specs.declared.command.Command.{Command}
-use Rattle.retos_cli.specs.declared.command.Command.TheVariants.{Solo, Check, Asm}
+use Rattle.retos_cli.specs.declared.command.Command.TheVariants.{Solo, Check, Asm, Insert}
 
 -- a name has 1 to 255 bytes and doesn't begin with a dash
 abbrev pub is_name : List ℕ → Bool
@@ -49,7 +49,14 @@ asm_of words =
     if length words == 3 then option_and_then (λ from. option_map (λ to. Asm from to) (name_of (word words 2))) (name_of (word words 1))
     else None
 
+-- the same
+abbrev pub insert_of : List (List ℕ) → Option Command
+insert_of words =
+    if length words == 3 then option_and_then (λ from. option_map (λ to. Insert from to) (name_of (word words 2))) (name_of (word words 1))
+    else None
+
 unfoldable pub command_of : List (List ℕ) → Option Command
 command_of words =
     if bytes_eq (word words 0) (codes "solo") then solo_of words
-    else (if bytes_eq (word words 0) (codes "check") then check_of words else (if bytes_eq (word words 0) (codes "asm") then asm_of words else None))
+    else (if bytes_eq (word words 0) (codes "check") then check_of words else (if bytes_eq (word words 0) (codes "asm") then asm_of words
+    else (if bytes_eq (word words 0) (codes "insert") then insert_of words else None)))

@@ -8,7 +8,7 @@ use Rattle.edge_io.specs.Known.{Files, FolderState, SinkState, appended, held, G
 use Rattle.edge_io.specs.Causes.{Rose}
 use Rattle.object_form.specs.declared.object.Object.{Object}
 use Rattle.retos_cli.specs.declared.command.Command.{Command}
-use Rattle.retos_cli.specs.declared.command.Command.TheVariants.{Solo, Check, Asm}
+use Rattle.retos_cli.specs.declared.command.Command.TheVariants.{Solo, Check, Asm, Insert}
 use Rattle.retos_cli.specs.declared.outcome.Stop.{Stop}
 use Rattle.retos_cli.specs.declared.outcome.Stop.TheVariants.{Refuse, ReadFault, NoMemory}
 use Rattle.retos_cli.specs.declared.outcome.Outcome.{Outcome}
@@ -16,9 +16,9 @@ use Rattle.retos_cli.specs.declared.outcome.Outcome.TheVariants.{Done, BadWords,
 use Rattle.retos_cli.specs.declared.outcome.Refused.{Refused}
 use Rattle.retos_cli.specs.declared.outcome.Status.{Status}
 use Rattle.retos_cli.specs.declared.outcome.Status.TheVariants as status
-use Rattle.retos_cli.specs.declared.form.Form.TheVariants.{Source}
+use Rattle.retos_cli.specs.declared.form.Form.TheVariants.{Source, Plain}
 use Rattle.retos_cli.specs.Lines.{words_line, write_line, memory_line, read_line, refused_line}
-use Rattle.retos_cli.specs.Meaning.{Input, Output, Refuses, Taken, Assembles, IsFirstRefused, IsReached, IsOutput, inputs, written, status_by}
+use Rattle.retos_cli.specs.Meaning.{Input, Output, Refuses, Taken, Assembles, Guards, IsFirstRefused, IsReached, IsOutput, inputs, written, status_by}
 
 -- a fact about the files, where they are told
 abbrev pub Told : Option Files → (Files → Type 0) → Type 0
@@ -58,6 +58,11 @@ InputEnds f0 f1 input (Err stop) = InputStops f0 f1 input stop
 abbrev pub SourceEnds : FolderState → FolderState → List ℕ → Result Object Stop → Type 0
 SourceEnds f0 f1 name (Ok o) = Told f0.files (λ m. Assembles (held m name) o)
 SourceEnds f0 f1 name (Err stop) = InputStops f0 f1 (record { name = name; form = Source }) stop
+
+-- what giving one object its guards came to
+abbrev pub PlainEnds : FolderState → FolderState → List ℕ → Result Object Stop → Type 0
+PlainEnds f0 f1 name (Ok q) = Told f0.files (λ m. (o : Object) × Guards (held m name) o q)
+PlainEnds f0 f1 name (Err stop) = InputStops f0 f1 (record { name = name; form = Plain }) stop
 
 pub record FailedRead (all : List Input) (f0 f1 : FolderState) (failed : List ℕ) : Type 0 where
   pub rose : Rose f0.read_faults f1.read_faults
@@ -127,6 +132,7 @@ MayRun None created = Unit {0}
 MayRun (Some (Solo name steps)) created = Unit {0}
 MayRun (Some (Check names)) created = Unit {0}
 MayRun (Some (Asm from to)) created = MayCreate created to
+MayRun (Some (Insert from to)) created = MayCreate created to
 
 -- ---- the report
 

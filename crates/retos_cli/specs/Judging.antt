@@ -4,7 +4,7 @@ use Rattle.std.specs.declared.result.Result.{Result}
 use Rattle.edge_io.specs.Known.{Files, held}
 use Rattle.object_form.specs.declared.object.Object.{Object}
 use Rattle.retos_cli.specs.declared.form.Form.{Form}
-use Rattle.retos_cli.specs.declared.form.Form.TheVariants.{Checked}
+use Rattle.retos_cli.specs.declared.form.Form.TheVariants.{Checked, Plain}
 use Rattle.retos_cli.specs.declared.input.Judged.{Judged}
 use Rattle.retos_cli.specs.declared.input.Judged.TheVariants.{Refused, NoMemory}
 use Rattle.retos_cli.specs.declared.counted.Counted.{Counted}
@@ -15,7 +15,7 @@ use Rattle.edge_io.specs.declared.whole.InputFault.TheVariants as fault
 use Rattle.retos_cli.specs.declared.outcome.Why.TheVariants as why
 use Rattle.retos_cli.specs.declared.outcome.Stop.{Stop}
 use Rattle.retos_cli.specs.declared.outcome.Stop.TheVariants.{Refuse, ReadFault, NoMemory as Unserved}
-use Rattle.retos_cli.specs.Meaning.{Input, Taken, Refuses}
+use Rattle.retos_cli.specs.Meaning.{Input, Taken, Guards, Refuses}
 use Rattle.retos_cli.specs.Ends.{Told, RefusesInput, FailedAt}
 
 -- why a whole read that gave nothing ends a command
@@ -30,6 +30,12 @@ abbrev pub IsJudged : Form → List ℕ → Result (Object × List ℕ) Judged �
 IsJudged form text (Ok x) = Taken form (Some text) x.0 x.1
 IsJudged form text (Err (Refused why)) = Refuses form (Some text) why
 IsJudged form text (Err NoMemory) = Unit {0}
+
+-- the object of a text with its guards, or why the text is refused
+abbrev pub IsGuarded : List ℕ → Result Object Judged → Type 0
+IsGuarded text (Ok q) = (o : Object) × Guards (Some text) o q
+IsGuarded text (Err (Refused why)) = Refuses Plain (Some text) why
+IsGuarded text (Err NoMemory) = Unit {0}
 
 -- how many words and units the accepted object of this name has
 pub record IsCounted (m : Files) (name : List ℕ) (c : Counted) : Type 0 where

@@ -7,8 +7,10 @@ use Rattle.object_form.specs.declared.fault.FormKind.{FormKind}
 use Rattle.object_form.specs.declared.fault.FormKind.TheVariants as kinds
 use Rattle.asm_text.specs.declared.fault.AsmKind.{AsmKind}
 use Rattle.asm_text.specs.declared.fault.AsmKind.TheVariants as asm
+use Rattle.insert_model.specs.declared.fault.InsertKind.{InsertKind}
+use Rattle.insert_model.specs.declared.fault.InsertKind.TheVariants as guards
 use Rattle.retos_cli.specs.declared.outcome.Why.{Why}
-use Rattle.retos_cli.specs.declared.outcome.Why.TheVariants.{Absent, TooLong, Form, NotApplication, Check, NotYet, Room, Line}
+use Rattle.retos_cli.specs.declared.outcome.Why.TheVariants.{Absent, TooLong, Form, NotApplication, Check, NotYet, Room, Line, Insert}
 use Rattle.place_model.specs.declared.places.NoRoom.{NoRoom}
 use Rattle.place_model.specs.declared.places.NoRoom.TheVariants as rooms
 use Rattle.retos_cli.specs.declared.outcome.Refused.{Refused}
@@ -55,6 +57,13 @@ asm_word asm.TooLarge = codes "toolarge"
 asm_word asm.NoLabel = codes "nolabel"
 asm_word asm.JumpRange = codes "jumprange"
 
+abbrev pub insert_word : InsertKind → List ℕ
+insert_word guards.NotDecoded = codes "notdecoded"
+insert_word guards.UsesCheckRegister = codes "usescheckregister"
+insert_word guards.Forbidden = codes "forbidden"
+insert_word guards.BadTarget = codes "badtarget"
+insert_word guards.TooLarge = codes "toolarge"
+
 abbrev pub why_text : Why → List ℕ
 why_text Absent = codes ": absent"
 why_text TooLong = codes ": too long"
@@ -64,6 +73,7 @@ why_text (Check rule place) = codes ": check rule " ++ decimal rule ++ codes " a
 why_text NotYet = codes ": not yet"
 why_text (Room cause) = room_text cause
 why_text (Line line kind) = codes ": line " ++ decimal line ++ codes ": " ++ asm_word kind
+why_text (Insert kind at) = codes ": insert " ++ insert_word kind ++ codes " at " ++ decimal at
 
 unfoldable pub refused_line : Refused → List ℕ
 refused_line r = name_line r.name (why_text r.why)
@@ -80,3 +90,7 @@ accepted_line name o units = name ++ codes ": accepted " ++ decimal (length o.co
 -- the line of an object that is assembled and written: its code words
 unfoldable pub assembled_line : List ℕ → Object → List ℕ
 assembled_line name o = name ++ codes ": assembled " ++ decimal (length o.code) ++ codes " words" ++ 10 ∷ []
+
+-- the line of an object that has got its guards and is written: its code words
+unfoldable pub inserted_line : List ℕ → Object → List ℕ
+inserted_line name o = name ++ codes ": inserted " ++ decimal (length o.code) ++ codes " words" ++ 10 ∷ []

@@ -9,20 +9,21 @@ use Rattle.object_form.specs.Spelling.{fields, object_bytes}
 use Rattle.object_form.specs.Faults.{first_form_fault}
 use Rattle.asm_text.specs.FirstPass.{fault}
 use Rattle.asm_text.specs.Assembled.{assembled}
+use Rattle.insert_model.specs.Faults.{IsFault, IsInserted}
 use Rattle.code_model.specs.Verdicts.{IsAccepted, IsVerdict}
 use Rattle.code_model.specs.declared.verdict.Verdict.TheVariants as verdict
 use Rattle.solo_model.specs.Running.{run, booted, count_faults}
 use Rattle.solo_model.specs.Trace.{trace_text}
 use Rattle.retos_cli.specs.declared.command.Command.{Command}
-use Rattle.retos_cli.specs.declared.command.Command.TheVariants.{Solo, Check, Asm}
+use Rattle.retos_cli.specs.declared.command.Command.TheVariants.{Solo, Check, Asm, Insert}
 use Rattle.retos_cli.specs.declared.form.Form.{Form}
-use Rattle.retos_cli.specs.declared.form.Form.TheVariants.{Checked, Runnable, Source}
+use Rattle.retos_cli.specs.declared.form.Form.TheVariants.{Checked, Runnable, Source, Plain}
 use Rattle.retos_cli.specs.declared.outcome.Why.{Why}
 use Rattle.retos_cli.specs.declared.outcome.Why.TheVariants as why
 use Rattle.retos_cli.specs.declared.outcome.Refused.{Refused}
 use Rattle.retos_cli.specs.declared.outcome.Status.{Status}
 use Rattle.retos_cli.specs.declared.outcome.Status.TheVariants as status
-use Rattle.retos_cli.specs.Lines.{words_line, refused_line, accepted_line, assembled_line}
+use Rattle.retos_cli.specs.Lines.{words_line, refused_line, accepted_line, assembled_line, inserted_line}
 use Rattle.retos_cli.specs.Entries.{IsRunnable}
 use Rattle.place_model.specs.declared.places.NoRoom.{NoRoom}
 use Rattle.solo_model.specs.Booted.{alone, placing_alone, IsBootMemory}
@@ -40,30 +41,42 @@ IsTextOf held o = (held ≡ Some (object_bytes o)) × (length (object_bytes o) �
 abbrev pub AsksObject : Form → Type 0
 AsksObject Checked = Unit {0}
 AsksObject Runnable = Unit {0}
+AsksObject Plain = Unit {0}
 AsksObject Source = ⊥
 
--- what is asked before the check. No object is a source
+-- the input is to be an object that the checker accepts
+abbrev pub AsksCheck : Form → Type 0
+AsksCheck Checked = Unit {0}
+AsksCheck Runnable = Unit {0}
+AsksCheck Plain = ⊥
+AsksCheck Source = ⊥
+
+-- what is asked before the check. No object is a source, and one that is to get guards isn't checked
 abbrev pub Suits : Form → Object → Type 0
 Suits Checked o = Unit {0}
 Suits Runnable o = o.kind ≡ kind.App
 Suits Source o = ⊥
+Suits Plain o = ⊥
 
 -- what is asked behind it
 abbrev pub Runs : Form → Object → Type 0
 Runs Checked o = Unit {0}
 Runs Source o = ⊥
+Runs Plain o = ⊥
 Runs Runnable o = IsRunnable o
 
 -- there is room for it, alone
 abbrev pub HasRoom : Form → Object → Type 0
 HasRoom Checked o = Unit {0}
 HasRoom Source o = ⊥
+HasRoom Plain o = ⊥
 HasRoom Runnable o = placing_alone o ≡ Ok (alone o)
 
 -- there is none, and why
 abbrev pub LacksRoom : Form → Object → NoRoom → Type 0
 LacksRoom Checked o cause = ⊥
 LacksRoom Source o cause = ⊥
+LacksRoom Plain o cause = ⊥
 LacksRoom Runnable o cause = placing_alone o ≡ Err cause
 
 -- the object is one that the command takes
@@ -85,17 +98,23 @@ pub record Assembles (held : Option (List ℕ)) (o : Object) : Type 0 where
   pub short : length source ≤ most_bytes
   pub gives : assembled source ≡ Ok (fields o)
 
--- The input is refused for this. A source is refused for a line alone, and an object for the others alone; what isn't held or is too
--- long is neither
+-- the input is an object, with guards this other
+pub record Guards (held : Option (List ℕ)) (o q : Object) : Type 0 where
+  pub text : IsTextOf held o
+  pub gives : IsInserted o q
+
+-- The input is refused for this. A source is refused for a line alone, an object that is to get guards for its text or for what the
+-- inserter finds, and an object that is checked for its text or for the others; what isn't held or is too long is none of them
 unfoldable pub Refuses : Form → Option (List ℕ) → Why → Type 0
 Refuses form held why.Absent = held ≡ None
 Refuses form held why.TooLong = (bytes : List ℕ) × (held ≡ Some bytes) × (most_bytes < length bytes)
 Refuses form held (why.Form k at) = AsksObject form × (bytes : List ℕ) × (held ≡ Some bytes) × (length bytes ≤ most_bytes) × (first_form_fault bytes ≡ Some (record { kind = k; offset = at }))
-Refuses form held why.NotApplication = AsksObject form × (o : Object) × IsTextOf held o × (Suits form o → ⊥)
-Refuses form held (why.Check rule place) = AsksObject form × (o : Object) × IsTextOf held o × Suits form o × IsVerdict o (verdict.Refused rule place)
-Refuses form held why.NotYet = AsksObject form × (o : Object) × (units : List ℕ) × IsTextOf held o × Suits form o × IsAccepted o units × (Runs form o → ⊥)
-Refuses form held (why.Room cause) = AsksObject form × (o : Object) × (units : List ℕ) × IsTextOf held o × Suits form o × IsAccepted o units × Runs form o × LacksRoom form o cause
+Refuses form held why.NotApplication = AsksCheck form × (o : Object) × IsTextOf held o × (Suits form o → ⊥)
+Refuses form held (why.Check rule place) = AsksCheck form × (o : Object) × IsTextOf held o × Suits form o × IsVerdict o (verdict.Refused rule place)
+Refuses form held why.NotYet = AsksCheck form × (o : Object) × (units : List ℕ) × IsTextOf held o × Suits form o × IsAccepted o units × (Runs form o → ⊥)
+Refuses form held (why.Room cause) = AsksCheck form × (o : Object) × (units : List ℕ) × IsTextOf held o × Suits form o × IsAccepted o units × Runs form o × LacksRoom form o cause
 Refuses form held (why.Line line k) = (form ≡ Source) × (bytes : List ℕ) × (held ≡ Some bytes) × (length bytes ≤ most_bytes) × (assembled bytes ≡ Err (fault line k))
+Refuses form held (why.Insert k at) = (form ≡ Plain) × (o : Object) × IsTextOf held o × IsFault o k at
 
 -- ---- the inputs of a command
 
@@ -111,11 +130,13 @@ abbrev pub inputs : Command → List Input
 inputs (Solo name steps) = record { name = name; form = Runnable } ∷ []
 inputs (Check names) = checked_inputs names
 inputs (Asm from to) = record { name = from; form = Source } ∷ []
+inputs (Insert from to) = record { name = from; form = Plain } ∷ []
 
 abbrev pub IsTakenAs : Form → Option (List ℕ) → Type 0
 IsTakenAs Checked held = (o : Object) × (units : List ℕ) × Taken Checked held o units
 IsTakenAs Runnable held = (o : Object) × (units : List ℕ) × Taken Runnable held o units
 IsTakenAs Source held = (o : Object) × Assembles held o
+IsTakenAs Plain held = (o : Object) × (q : Object) × Guards held o q
 
 unfoldable pub IsTaken : Files → Input → Type 0
 IsTaken m input = IsTakenAs input.form (held m input.name)
@@ -175,10 +196,20 @@ pub record IsAsmOutput (m : Files) (from to : List ℕ) (x : Output) : Type 0 wh
   pub file_is : x.file ≡ Some (to, object_bytes object)
   pub faulted_is : x.faulted ≡ false
 
+-- the object with its guards, under the output's name, and its line
+pub record IsInsertOutput (m : Files) (from to : List ℕ) (x : Output) : Type 0 where
+  pub object : Object
+  pub guarded : Object
+  pub guards : Guards (held m from) object guarded
+  pub line : x.out ≡ inserted_line to guarded
+  pub file_is : x.file ≡ Some (to, object_bytes guarded)
+  pub faulted_is : x.faulted ≡ false
+
 unfoldable pub IsOutput : Command → Files → Output → Type 0
 IsOutput (Solo name steps) m x = IsSoloOutput m name steps x
 IsOutput (Check names) m x = AreAcceptedLines m names x.out × (x.file ≡ None) × (x.faulted ≡ false)
 IsOutput (Asm from to) m x = IsAsmOutput m from to x
+IsOutput (Insert from to) m x = IsInsertOutput m from to x
 
 -- ---- the whole, by the words and the files
 

@@ -62,4 +62,6 @@ pub enum Command {
     Check { names: Names },
     /// Assembles a source text, and writes the object.
     Asm { from: Name, to: Name },
+    /// Gives an object its guards, and writes the object with them.
+    Insert { from: Name, to: Name },
 }

@@ -9,4 +9,6 @@ pub enum Form {
     Runnable,
     /// A source text to assemble.
     Source,
+    /// An object that is to get guards.
+    Plain,
 }

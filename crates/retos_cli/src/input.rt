@@ -3,7 +3,7 @@
 ghost use Rattle.std.specs.Prelude.{◌≡◌, ◌≤◌, ◌↔◌, length, IsTrue, IfOk, MatchOption};
 ghost use Rattle.code_model.specs.Verdicts.{AllSpelled};
 ghost use Rattle.object_form.specs.Spelling.{object_bytes};
-ghost use Rattle.retos_cli.specs.Meaning.{AsksObject, Suits, Runs, HasRoom, LacksRoom, IsFit};
+ghost use Rattle.retos_cli.specs.Meaning.{AsksCheck, Suits, Runs, HasRoom, LacksRoom, IsFit};
 ghost use Rattle.retos_cli.specs.Judging.{IsJudged, stop_of};
 ghost use Rattle.retos_cli.specs.Ends.{InputEnds, OnlyRead};
 
@@ -44,7 +44,7 @@ pub fn take<F: Folder>(
     name: &Name,
     form: Form,
 ) -> Result<(Object, Marks), Stop>
-    requires { AsksObject form }
+    requires { AsksCheck form }
     ensures ends { InputEnds (F.state files.old) (F.state files.new) (record { name = name.now; form = form }) result }
     ensures fit { IfOk result (λ x. IsFit form x.0 x.1) }
     ensures read { OnlyRead (F.state files.old) (F.state files.new) }
@@ -84,7 +84,7 @@ pub fn unread(name: &Name, fault: InputFault) -> Stop
 #[tactic(auto, using(crate::proofs::Judgments::refuses_form))]
 fn judge(alloc: Global, text: &[u8], form: Form) -> Result<(Object, Marks), Judged>
     requires size { length text.now ≤ 1048576 }
-    requires asked { AsksObject form }
+    requires asked { AsksCheck form }
     ensures { IsJudged form text.now result }
 {
     match read_object(alloc, text) {
@@ -98,7 +98,7 @@ fn judge(alloc: Global, text: &[u8], form: Form) -> Result<(Object, Marks), Judg
 #[tactic(auto, using(crate::proofs::Judgments::refuses_unsuited, crate::proofs::Judgments::refuses_check, crate::proofs::Judgments::refuses_yet, crate::proofs::Judgments::refuses_room))]
 fn judge_object(object: Object, form: Form) -> Result<(Object, Marks), Judged>
     requires size { length (object_bytes object) ≤ 1048576 }
-    requires asked { AsksObject form }
+    requires asked { AsksCheck form }
     ensures { IsJudged form (object_bytes object) result }
 {
     if !suits(form, &object) {
@@ -128,7 +128,7 @@ fn suits(form: Form, o: &Object) -> bool
             Kind::App => true,
             Kind::Module => false,
         },
-        Form::Source => false,
+        Form::Source | Form::Plain => false,
     }
 }
 
@@ -140,19 +140,19 @@ fn runs(form: Form, o: &Object) -> bool
     match form {
         Form::Checked => true,
         Form::Runnable => is_runnable(o),
-        Form::Source => false,
+        Form::Source | Form::Plain => false,
     }
 }
 
 /// Why there is no room for the object, where it is to run. None where there is.
 fn lacking(form: Form, o: &Object) -> Option<NoRoom>
-    requires { AsksObject form }
+    requires { AsksCheck form }
     ensures { MatchOption result (HasRoom form o.now) (λ cause. LacksRoom form o.now cause) }
 {
     alone_is_placed();
     match form {
         Form::Checked => None,
-        Form::Source => unreachable!(),
+        Form::Source | Form::Plain => unreachable!(),
         Form::Runnable => {
             let need = (region_stop(o) - DATA_POOL_START) as u32;
             if need <= DATA_POOL_BYTES {

@@ -13,6 +13,9 @@ pub mod counted;
 pub mod entries;
 pub mod form;
 pub mod input;
+#[cfg(test)]
+mod insert_rows;
+pub mod inserting;
 pub mod lines;
 pub mod outcome;
 pub mod parse;

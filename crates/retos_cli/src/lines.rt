@@ -1,12 +1,13 @@
-//! The lines on the error stream, and those of accepted and of assembled objects.
+//! The lines on the error stream, and those of accepted and of written objects.
 
 ghost use Rattle.std.specs.Prelude.{◌≡◌, ◌+◌, ◌≤◌, ◌++◌, length, codes, decimal};
-ghost use Rattle.retos_cli.specs.Lines.{words_line, write_line, memory_line, read_line, refused_line, room_text, why_text, form_word, asm_word};
+ghost use Rattle.retos_cli.specs.Lines.{words_line, write_line, memory_line, read_line, refused_line, room_text, why_text, form_word, asm_word, insert_word};
 ghost use Rattle.line_text.specs.Hexadecimal.{hex_word};
 
 use super::outcome::{Refused, Why};
 use asm_text::fault::AsmKind;
 use edge_io::name::Name;
+use insert_model::fault::InsertKind;
 use line_text::line::Line;
 use object_form::fault::FormKind;
 use place_model::places::NoRoom;
@@ -103,6 +104,20 @@ fn asm_word(kind: AsmKind) -> &'static [u8]
     }
 }
 
+/// The word of a fault of an object that is to get guards.
+fn insert_word(kind: InsertKind) -> &'static [u8]
+    ensures word { result.now ≡ insert_word kind }
+    ensures size { length result.now ≤ 17 }
+{
+    match kind {
+        InsertKind::NotDecoded => b"notdecoded",
+        InsertKind::UsesCheckRegister => b"usescheckregister",
+        InsertKind::Forbidden => b"forbidden",
+        InsertKind::BadTarget => b"badtarget",
+        InsertKind::TooLarge => b"toolarge",
+    }
+}
+
 /// Appends why an input is refused.
 fn push_why(line: &mut Line, why: &Why)
     requires { length line.old ≤ 262 }
@@ -118,6 +133,7 @@ fn push_why(line: &mut Line, why: &Why)
         Why::NotYet => line.push_text(b": not yet"),
         Why::Room(cause) => push_room(line, cause),
         Why::Line { line: at, kind } => push_fault(line, *at, *kind),
+        Why::Insert { kind, offset } => push_insert(line, *kind, *offset),
     }
 }
 
@@ -174,6 +190,17 @@ fn push_fault(line: &mut Line, at: u32, kind: AsmKind)
     line.push_text(asm_word(kind));
 }
 
+fn push_insert(line: &mut Line, kind: InsertKind, at: u32)
+    requires { length line.old ≤ 262 }
+    ensures text { line.new ≡ line.old ++ (codes ": insert " ++ insert_word kind ++ codes " at " ++ decimal at) }
+    ensures size { length line.new ≤ 340 }
+{
+    line.push_text(b": insert ");
+    line.push_text(insert_word(kind));
+    line.push_text(b" at ");
+    line.push_decimal(at);
+}
+
 fn push_check(line: &mut Line, rule: u32, place: u16)
     requires { length line.old ≤ 262 }
     ensures text { line.new ≡ line.old ++ (codes ": check rule " ++ decimal rule ++ codes " at " ++ hex_word place) }
@@ -218,6 +245,19 @@ pub fn of_assembled(name: &Name, words: u32) -> Line
     let mut line = Line::new();
     line.push_text(name.as_slice());
     line.push_text(b": assembled ");
+    line.push_decimal(words);
+    line.push_text(b" words");
+    line.push(b'\n');
+    line
+}
+
+/// An object has got its guards and is written, with this many code words.
+pub fn of_inserted(name: &Name, words: u32) -> Line
+    ensures { result ≡ name.now ++ codes ": inserted " ++ decimal words ++ codes " words" ++ codes "\n" }
+{
+    let mut line = Line::new();
+    line.push_text(name.as_slice());
+    line.push_text(b": inserted ");
     line.push_decimal(words);
     line.push_text(b" words");
     line.push(b'\n');

@@ -5,6 +5,7 @@ ghost use Rattle.retos_cli.specs.Statuses.{status_number};
 
 use asm_text::fault::AsmKind;
 use edge_io::name::Name;
+use insert_model::fault::InsertKind;
 use object_form::fault::FormKind;
 use place_model::places::NoRoom;
 
@@ -63,6 +64,8 @@ pub enum Why {
     Room(NoRoom),
     /// A source text with this first fault: on which line, counted from 1, and what is wrong. Line 0 is for what is missing as a whole.
     Line { line: u32, kind: AsmKind },
+    /// An object that can't get its guards: what is wrong first, and at which offset of bytes.
+    Insert { kind: InsertKind, offset: u32 },
 }
 
 /// An input that is refused.

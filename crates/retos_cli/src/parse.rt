@@ -2,7 +2,7 @@
 
 ghost use Rattle.std.specs.Prelude.{◌≡◌, ◌+◌, ◌<◌, ◌≤◌, List, [], length, drop, true, false, IfOk, IfSome, MatchOption};
 ghost use Rattle.retos_cli.specs.Bounds.{IsBoundedIfSome};
-ghost use Rattle.retos_cli.specs.Commands.{command_of, is_name, name_of, names_of, steps_of, digits_value, solo_of, check_of, asm_of, word};
+ghost use Rattle.retos_cli.specs.Commands.{command_of, is_name, name_of, names_of, steps_of, digits_value, solo_of, check_of, asm_of, insert_of, word};
 
 use super::command::{Command, Names};
 use edge_io::name::Name;
@@ -28,6 +28,8 @@ pub fn read_command(alloc: Global, words: &Words) -> Result<Option<Command>, All
         check(alloc, words)
     } else if first == b"asm".as_slice() {
         Ok(asm(words))
+    } else if first == b"insert".as_slice() {
+        Ok(insert(words))
     } else {
         Ok(None)
     }
@@ -83,6 +85,22 @@ fn asm(words: &Words) -> Option<Command>
     match name(word_at(words, 1)) {
         Some(from) => match name(word_at(words, 2)) {
             Some(to) => Some(Command::Asm { from, to }),
+            None => None,
+        },
+        None => None,
+    }
+}
+
+fn insert(words: &Words) -> Option<Command>
+    ensures read { result ≡ insert_of words.now }
+    ensures bounded { IsBoundedIfSome result }
+{
+    if words.len() != 3 {
+        return None;
+    }
+    match name(word_at(words, 1)) {
+        Some(from) => match name(word_at(words, 2)) {
+            Some(to) => Some(Command::Insert { from, to }),
             None => None,
         },
         None => None,

@@ -1,0 +1,224 @@
+//! Worked rows of `insert`: what it writes and prints, what it refuses, and calls that fail.
+
+use crate::test_support::{
+    Case, CodeReloc, Failing, SELF_JUMP, UNGUARDED, add, application, folder, try_case, writable,
+};
+use edge_io::lists::Bytes;
+use edge_io::name::Name;
+use std::alloc::Global;
+use std::process::Abort;
+use std::test::Fail;
+
+/// `MOV R7,0(R6)` and a jump back to it.
+const STORE: [u16; 3] = [0x4786, 0, 0x3FFD];
+
+/// The same with its guard.
+const WITH_GUARD: [u16; 17] = [
+    0x4205, 0x4604, 0x5034, 0, 0x9034, 0, 0x2803, 0x9034, 0, 0x2802, 0x4030, 0xF000, 0x4502,
+    0x4784, 0, 0x4030, 0,
+];
+
+/// The relocations of the guarded store: LO, HI and CODE.
+const RELOCS: [CodeReloc; 3] = [(3, 0x0A), (4, 0x10), (1, 0x20)];
+
+/// No call fails.
+const NONE: Failing = Failing {
+    reads: &[],
+    writes: &[],
+    out: &[],
+};
+
+/// Does what a case's words say where `s.o` holds a text, and tells where `g.o` then holds something else.
+fn try_insert(
+    rt: &impl Abort,
+    alloc: Global,
+    text: &[u8],
+    room: u32,
+    fail: &Failing,
+    case: &Case,
+    written: Option<&[u8]>,
+) -> Result<(), Fail> {
+    let mut files = writable(alloc, room, fail)?;
+    add(&mut files, b"s.o", text)?;
+    try_case(rt, alloc, &mut files, fail.out, case)?;
+    let from = Name::from_slice(b"s.o").ok_or("a name")?;
+    let to = Name::from_slice(b"g.o").ok_or("a name")?;
+    assert_eq!(rt;
+        files.held(&from),
+        Some(text),
+        "the object of {}",
+        case.line
+    );
+    assert_eq!(rt; files.held(&to), written, "the file of {}", case.line);
+    Ok(())
+}
+
+#[test]
+fn insert_writes_the_guards_and_prints_its_line(rt: HostRuntime) -> Result<(), Fail> {
+    let plain = application(rt.alloc(), &STORE, &[])?;
+    let guarded = application(rt.alloc(), &WITH_GUARD, &RELOCS)?;
+    let case = Case {
+        line: "insert s.o g.o",
+        out: "g.o: inserted 17 words\n",
+        err: "",
+        status: 0,
+    };
+    try_insert(
+        &rt,
+        rt.alloc(),
+        plain.as_slice(),
+        66,
+        &NONE,
+        &case,
+        Some(guarded.as_slice()),
+    )
+}
+
+#[test]
+fn a_guarded_object_gets_no_guards_again(rt: HostRuntime) -> Result<(), Fail> {
+    let guarded = application(rt.alloc(), &WITH_GUARD, &RELOCS)?;
+    let case = Case {
+        line: "insert s.o g.o",
+        out: "",
+        err: "retos: s.o: insert usescheckregister at 0\n",
+        status: 1,
+    };
+    try_insert(&rt, rt.alloc(), guarded.as_slice(), 66, &NONE, &case, None)
+}
+
+#[test]
+fn an_object_is_refused_at_its_first_fault(rt: HostRuntime) -> Result<(), Fail> {
+    let rows: [(&[u16], &str); 4] = [
+        (&[0x4303, 0], "retos: s.o: insert notdecoded at 2\n"),
+        (
+            &[0x4303, 0x4506],
+            "retos: s.o: insert usescheckregister at 2\n",
+        ),
+        (
+            &[0x4303, 0x1300, 0x3FFF],
+            "retos: s.o: insert forbidden at 2\n",
+        ),
+        (&[0x4303, 0x4303], "retos: s.o: insert badtarget at 2\n"),
+    ];
+    for (code, err) in rows {
+        let text = application(rt.alloc(), code, &[])?;
+        let case = Case {
+            line: "insert s.o g.o",
+            out: "",
+            err,
+            status: 1,
+        };
+        try_insert(&rt, rt.alloc(), text.as_slice(), 66, &NONE, &case, None)?;
+    }
+    Ok(())
+}
+
+/// Each of the stores gets 15 words: 546 fit, and the one at word 1092 doesn't.
+#[test]
+fn an_object_that_would_be_too_large_is_named(rt: HostRuntime) -> Result<(), Fail> {
+    let mut text = Bytes::from_slice(rt.alloc(), b"RETO\x01\x01\x47\x04")?;
+    text.extend_from_slice(&[0, 0, 0, 0, 0x10, 0, 1, 0, 0, 0, 0, 0])?;
+    for _ in 0..547u32 {
+        text.extend_from_slice(&[0x86, 0x47, 0, 0])?;
+    }
+    text.extend_from_slice(&[0xFF, 0x3F])?;
+    let case = Case {
+        line: "insert s.o g.o",
+        out: "",
+        err: "retos: s.o: insert toolarge at 2184\n",
+        status: 1,
+    };
+    try_insert(&rt, rt.alloc(), text.as_slice(), 66, &NONE, &case, None)
+}
+
+#[test]
+fn an_absent_or_malformed_object_is_named(rt: HostRuntime) -> Result<(), Fail> {
+    let rows: [(&str, &str); 2] = [
+        ("insert none.o g.o", "retos: none.o: absent\n"),
+        ("insert s.o g.o", "retos: s.o: form short at 29\n"),
+    ];
+    for (line, err) in rows {
+        let case = Case {
+            line,
+            out: "",
+            err,
+            status: 1,
+        };
+        try_insert(&rt, rt.alloc(), &UNGUARDED[..29], 66, &NONE, &case, None)?;
+    }
+    Ok(())
+}
+
+#[test]
+fn a_failing_read_of_the_object_is_named(rt: HostRuntime) -> Result<(), Fail> {
+    let fail = Failing {
+        reads: &[0],
+        writes: &[],
+        out: &[],
+    };
+    let case = Case {
+        line: "insert s.o g.o",
+        out: "",
+        err: "retos: s.o: read fault\n",
+        status: 3,
+    };
+    try_insert(&rt, rt.alloc(), &SELF_JUMP, 66, &fail, &case, None)
+}
+
+/// The create is write 0 of the folder, the first append write 1.
+#[test]
+fn a_failing_write_of_guards_leaves_a_prefix(rt: HostRuntime) -> Result<(), Fail> {
+    let plain = application(rt.alloc(), &STORE, &[])?;
+    let guarded = application(rt.alloc(), &WITH_GUARD, &RELOCS)?;
+    let rows: [(&[u32], &[u32], u32, Option<&[u8]>); 4] = [
+        (&[0], &[], 66, None),
+        (&[1], &[], 66, Some(&[])),
+        (&[], &[], 10, Some(b"RETO\x01\x01\x11\x00\x00\x00")),
+        (&[], &[0], 66, Some(guarded.as_slice())),
+    ];
+    for (writes, out, room, written) in rows {
+        let fail = Failing {
+            reads: &[],
+            writes,
+            out,
+        };
+        let case = Case {
+            line: "insert s.o g.o",
+            out: "",
+            err: "retos: write fault\n",
+            status: 4,
+        };
+        try_insert(
+            &rt,
+            rt.alloc(),
+            plain.as_slice(),
+            room,
+            &fail,
+            &case,
+            written,
+        )?;
+    }
+    Ok(())
+}
+
+#[test]
+fn insert_takes_two_names(rt: HostRuntime) -> Result<(), Fail> {
+    let lines = [
+        "insert",
+        "insert s.o",
+        "insert s.o -g",
+        "insert -s.o g.o",
+        "insert s.o g.o h.o",
+    ];
+    for line in lines {
+        let mut files = folder(rt.alloc(), &[])?;
+        let case = Case {
+            line,
+            out: "",
+            err: "retos: words\n",
+            status: 2,
+        };
+        try_case(&rt, rt.alloc(), &mut files, &[], &case)?;
+    }
+    Ok(())
+}
