@@ -68,7 +68,7 @@ pub word-small : (m : List ℕ) (a : ℕ) → IsMemory m → word_at m a < 65536
 unfolding word_at
 word-small m a h = omega (arith, h.small (a / 2 * 2), h.small (a / 2 * 2 + 1))
 
-with_flags-small : (sr : ℕ) (c z n v : Bool) → sr < 65536 → with_flags sr c z n v < 65536
+pub with_flags-small : (sr : ℕ) (c z n v : Bool) → sr < 65536 → with_flags sr c z n v < 65536
 unfolding with_flags
 with_flags-small sr c z n v h = omega (arith, h, bit_small c, bit_small z, bit_small n, bit_small v)
 

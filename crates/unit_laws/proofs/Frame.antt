@@ -84,14 +84,14 @@ abbrev pub PlaceAvoids : Place → Type 0
 PlaceAvoids (InReg n) = Avoids n
 PlaceAvoids (At a) = Unit {0}
 
-place-spread : (d : Dst) (at : ℕ) (r : List ℕ) (x y : ℕ) → DstAvoids d → place_to d at (spread r x y) ≡ place_to d at r
+pub place-spread : (d : Dst) (at : ℕ) (r : List ℕ) (x y : ℕ) → DstAvoids d → place_to d at (spread r x y) ≡ place_to d at r
 unfolding place_to
 place-spread (dst.Reg n) at r x y a = refl
 place-spread (dst.Indexed n k) at r x y a = ap (λ (v : ℕ). At (sum_of k v)) (spread-reg r x y n a)
 place-spread (dst.Symbolic k) at r x y a = refl
 place-spread (dst.Absolute k) at r x y a = refl
 
-place-avoids : (d : Dst) (at : ℕ) (r : List ℕ) → DstAvoids d → PlaceAvoids (place_to d at r)
+pub place-avoids : (d : Dst) (at : ℕ) (r : List ℕ) → DstAvoids d → PlaceAvoids (place_to d at r)
 unfolding place_to
 place-avoids (dst.Reg n) at r a = a
 place-avoids (dst.Indexed n k) at r a = tt
@@ -120,7 +120,7 @@ operand-avoids (src.AutoInc n) at r a = tt
 operand-avoids (src.Immediate k) at r a = (omega arith, omega arith)
 operand-avoids (src.Const k) at r a = (omega arith, omega arith)
 
-value-spread : (w : Width) (p : Place) (m r : List ℕ) (x y : ℕ) → PlaceAvoids p → value_in w p m (spread r x y) ≡ value_in w p m r
+pub value-spread : (w : Width) (p : Place) (m r : List ℕ) (x y : ℕ) → PlaceAvoids p → value_in w p m (spread r x y) ≡ value_in w p m r
 unfolding value_in
 value-spread w (InReg n) m r x y a = ap (low w) (spread-reg r x y n a)
 value-spread w (At k) m r x y a = refl

@@ -25,7 +25,7 @@ sixteen : (r : List ℕ) (next x y : ℕ) → spread (set_reg (held r (reg r 0) 
 unfolding set_reg
 sixteen r next x y = refl
 
-held-spread : (r : List ℕ) (next x y : ℕ) → IsContext r → next % 2 ≡ 0 → held r next (reg r 2) x y ≡ spread (set_reg r 0 next) x y
+pub held-spread : (r : List ℕ) (next x y : ℕ) → IsContext r → next % 2 ≡ 0 → held r next (reg r 2) x y ≡ spread (set_reg r 0 next) x y
 held-spread r next x y h e =
     ap (λ (p : ℕ). held r p (reg r 2) x y) (omega (arith, e)) ∙ (sym (sixteen r next x y) ∙ ap (λ (q : List ℕ). spread (set_reg q 0 next) x y) (as_held r (reg r 0) h refl))
 
@@ -74,7 +74,7 @@ after-length w (src.Indirect n) r = refl
 after-length w (src.Immediate k) r = refl
 after-length w (src.Const k) r = refl
 
-after-other : (w : Width) (s : Src) (r : List ℕ) (n : ℕ) → (Steps s n → ⊥) → reg (after_source w s r) n ≡ reg r n
+pub after-other : (w : Width) (s : Src) (r : List ℕ) (n : ℕ) → (Steps s n → ⊥) → reg (after_source w s r) n ≡ reg r n
 unfolding after_source
 after-other w (src.AutoInc j) r n a = reg-other r j _ n (λ e. a (sym e))
 after-other w (src.Reg j) r n a = refl

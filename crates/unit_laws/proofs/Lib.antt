@@ -7,3 +7,13 @@ pub mod Guards
 pub mod Frame
 pub mod Guarded
 pub mod AtR4
+pub mod GoingOn
+pub mod OwnUnits
+pub mod GuardedUnits
+pub mod Sizes
+pub mod IntoR4
+pub mod ComputedUnits
+pub mod CalleeUnits
+pub mod PopUnits
+pub mod SpUnits
+pub mod Placing

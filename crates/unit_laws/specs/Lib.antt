@@ -3,3 +3,4 @@ pub mod Lines
 pub mod Guards
 pub mod Frame
 pub mod Guarded
+pub mod Rows

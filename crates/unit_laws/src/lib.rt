@@ -2,7 +2,8 @@
 //!
 //! `specs/Running.antt` says what running a unit is, `specs/Lines.antt` what each line of a guard does, and
 //! `specs/Guards.antt` where a run of a guard ends, `specs/Frame.antt` that what names neither R4 nor R5 is the same whatever
-//! they hold, and `specs/Guarded.antt` what the guarded instruction does behind its guard.
+//! they hold, `specs/Guarded.antt` what the guarded instruction does behind its guard, and `specs/Rows.antt` where a run of each
+//! kind of unit ends.
 #![tactic(auto)]
 
 ghost use Rattle.unit_laws.specs.Frame.{FrameLaw};
@@ -10,6 +11,7 @@ ghost use Rattle.unit_laws.specs.Guarded.{AtR4Law, GuardedLaw, ThroughLaw};
 ghost use Rattle.unit_laws.specs.Guards.{GrowthGuardLaw, PopGuardLaw, SpGuardLaw, StoreGuardLaw};
 ghost use Rattle.unit_laws.specs.Lines.{ComparedLaw, LineLaw};
 ghost use Rattle.unit_laws.specs.Running.{FollowLaw, JoinLaw, OnceLaw};
+ghost use Rattle.unit_laws.specs.Rows.{BranchLaw, CalleeLaw, ChangeLaw, ComputedLaw, GoesOnLaw, GoesToLaw, GrowthLaw, JumpLaw, OwnLaw, PcMovesLaw, PlaceLaw, PopIntoLaw, PopLaw, ReturnLaw, SetSpLaw, StoreLaw};
 
 use msp_decode::laws::{first_word_decides, one_instruction};
 
@@ -79,4 +81,84 @@ pub fn through_same()
 /// RRC, RRA, SWPB or SXT on @R4 does what it does on x(Rn), on @Rn or on an absolute address, where R4 has that address, but for R4 and R5.
 pub fn at_r4_same()
     ensures { AtR4Law }
+{}
+
+/// An instruction that neither writes PC nor is made of it leads behind itself.
+pub fn goes_on()
+    ensures { GoesOnLaw }
+{}
+
+/// A context with another PC is a context.
+pub fn pc_moves()
+    ensures { PcMovesLaw }
+{}
+
+/// A branch and a call of a place lead there.
+pub fn goes_to()
+    ensures { GoesToLaw }
+{}
+
+/// An instruction that is its own unit ends it, with all but R4 and R5 as it leaves them.
+pub fn own_unit_ends()
+    ensures { OwnLaw }
+{}
+
+/// A branch that is a unit changes PC alone.
+pub fn branch_unit_ends()
+    ensures { BranchLaw }
+{}
+
+/// A jump over a branch changes PC alone: it leads to the branch's target where the condition holds, and behind the unit elsewhere.
+pub fn jump_unit_ends()
+    ensures { JumpLaw }
+{}
+
+/// A computed jump ends at F004 with its target in R4.
+pub fn computed_unit_ends()
+    ensures { ComputedLaw }
+{}
+
+/// A guarded operation on memory does what the source's does where its address is in the region, and ends at F000 elsewhere.
+pub fn store_unit_ends()
+    ensures { StoreLaw }
+{}
+
+/// So does a guarded RRC, RRA, SWPB or SXT.
+pub fn change_unit_ends()
+    ensures { ChangeLaw }
+{}
+
+/// A guarded PUSH or CALL of a place does what the source's does where SP is at least the current limit, and ends at F002 elsewhere.
+pub fn growth_unit_ends()
+    ensures { GrowthLaw }
+{}
+
+/// A guarded computed call ends at F006 with its target in R4 where SP is at least the current limit, and at F002 elsewhere.
+pub fn callee_unit_ends()
+    ensures { CalleeLaw }
+{}
+
+/// A guarded pop does what the source's does where SP isn't the current top, and ends at F002 elsewhere.
+pub fn pop_unit_ends()
+    ensures { PopLaw }
+{}
+
+/// So does a guarded pop by way of R4.
+pub fn pop_into_unit_ends()
+    ensures { PopIntoLaw }
+{}
+
+/// A guarded return ends at F004 with its target in R4 where SP isn't the current top, and at F002 elsewhere.
+pub fn return_unit_ends()
+    ensures { ReturnLaw }
+{}
+
+/// A guarded operation on SP does what the source's does where the result is from the current limit to the current top, and ends at F002 elsewhere.
+pub fn set_sp_unit_ends()
+    ensures { SetSpLaw }
+{}
+
+/// Where an instruction that goes on stands doesn't show in what it does, but for PC.
+pub fn place_hidden()
+    ensures { PlaceLaw }
 {}
