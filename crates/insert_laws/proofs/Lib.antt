@@ -22,3 +22,6 @@ pub mod Loose
 pub mod Ending
 pub mod Jumping
 pub mod Accepting
+pub mod Deciding
+pub mod LineUnits
+pub mod PlaceBounds

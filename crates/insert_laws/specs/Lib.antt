@@ -1,3 +1,5 @@
 pub mod Pieces
 pub mod Laws
 pub mod Shapes
+pub mod Source
+pub mod Lines

@@ -2,8 +2,10 @@
 #![tactic(auto)]
 
 ghost use Rattle.insert_laws.specs.Laws.{StartsArePieces, RelocsArePieces, FormRulesPass, StartsAreUnits, EntryRulePasses, TargetRulePasses, EndRulePasses, JumpRulePasses, NothingRefused, VerdictAccepts};
+ghost use Rattle.insert_laws.specs.Source.{SpellingLaw, StartsDecided};
+ghost use Rattle.insert_laws.specs.Lines.{CodeIsPieces, LinesAreClean, LinesHaveUnits, PlacesWithin};
 
-use checker_laws::one_stands;
+use checker_laws::{next_start, one_stands, starts_apart};
 use insert_model::laws::{instruction_size, line_stands};
 use msp_decode::laws::{first_word_decides, one_instruction, reading_law};
 use msp_encode::laws::legal_by_cases;
@@ -105,4 +107,46 @@ pub fn verdict_accepts()
     ensures { VerdictAccepts }
 {
     nothing_refused();
+}
+
+/// The words of a legal instruction spell it.
+pub fn spelling_spells()
+    ensures { SpellingLaw }
+{}
+
+/// Whether an instruction of the source starts at a place is decided, for an object that was given guards.
+pub fn starts_decided()
+    ensures { StartsDecided }
+{
+    next_start();
+    starts_apart();
+}
+
+/// Nothing is wrong with any line of a source that an object with guards was made from.
+pub fn lines_are_clean()
+    ensures { LinesAreClean }
+{
+    reading_law();
+    legal_by_cases();
+}
+
+/// The code of an object with guards is the words of its pieces, where each word that names code names the unit of what it named.
+pub fn code_is_pieces()
+    ensures { CodeIsPieces }
+{}
+
+/// The words of each line's unit lie one behind another in the code: the place map sends the line's offset to the first of them, and
+/// the offset behind the line to what is behind the last. It sends no offset between them.
+pub fn lines_have_units()
+    ensures { LinesHaveUnits }
+{
+    instruction_size();
+    line_stands();
+}
+
+/// The place map sends each offset to a word of the code, or behind its last one.
+pub fn places_within()
+    ensures { PlacesWithin }
+{
+    code_is_pieces();
 }

@@ -1,0 +1,48 @@
+-- Laws of the source's lines: each is clean, and its unit has its words in the code of the object with guards.
+use Rattle.std.specs.Prelude.{◌≡◌, ℕ, ◌+◌, ◌*◌, ◌%◌, ◌≤◌, ◌⊎◌, List, ◌++◌, length, map}
+use Rattle.std.specs.List.{Contains}
+use Rattle.object_form.specs.declared.object.Object.{Object}
+use Rattle.object_form.specs.Spelling.{fields}
+use Rattle.insert_model.specs.declared.line.Line.{Line}
+use Rattle.insert_model.specs.declared.piece.Word.{Word}
+use Rattle.insert_model.specs.Words.{count, unit_words}
+use Rattle.insert_model.specs.Source.{lines}
+use Rattle.insert_model.specs.Units.{static_bytes, unit}
+use Rattle.insert_model.specs.Inserted.{moved, place_map}
+use Rattle.insert_model.specs.Faults.{IsInserted}
+use Rattle.insert_laws.specs.Pieces.{pieces}
+use Rattle.insert_laws.specs.Shapes.{IsCleanLine}
+
+-- nothing is wrong with any line
+abbrev pub LinesAreClean : Type 0
+LinesAreClean = (o q : Object) → IsInserted o q → (l : Line) → Contains (lines (fields o)) l → IsCleanLine o l
+
+-- the code of an object with guards is the words of its pieces, each naming the unit of what it named
+abbrev pub CodeIsPieces : Type 0
+CodeIsPieces = (o q : Object) → IsInserted o q → q.code ≡ map (moved (place_map (fields o))) (unit_words (pieces (fields o)))
+
+-- the words of a line's unit
+abbrev pub line_words : Object → Line → List Word
+line_words o l = unit_words (unit (static_bytes (fields o)) l)
+
+-- the words of a line's unit among those of all pieces
+pub record UnitLies (o : Object) (l : Line) : Type 0 where
+  pub front : List Word
+  pub back : List Word
+  pub are : unit_words (pieces (fields o)) ≡ front ++ (line_words o l ++ back)
+  -- the place map sends the line's offset to its unit, and the offset behind the line to the words behind the unit
+  pub first : place_map (fields o) (2 * l.at) ≡ 2 * length front
+  pub behind : place_map (fields o) (2 * (l.at + count l.instr)) ≡ 2 * (length front + length (line_words o l))
+  -- and it sends no word's offset within the unit
+  pub apart : (t : ℕ) → (place_map (fields o) (2 * t) ≤ 2 * length front) ⊎ (2 * (length front + length (line_words o l)) ≤ place_map (fields o) (2 * t))
+
+abbrev pub LinesHaveUnits : Type 0
+LinesHaveUnits = (o q : Object) → IsInserted o q → (l : Line) → Contains (lines (fields o)) l → UnitLies o l
+
+-- the place map sends no offset behind the code, and each to a word
+pub record LiesWithin (o q : Object) (x : ℕ) : Type 0 where
+  pub below : place_map (fields o) x ≤ 2 * length q.code
+  pub even : place_map (fields o) x % 2 ≡ 0
+
+abbrev pub PlacesWithin : Type 0
+PlacesWithin = (o q : Object) → IsInserted o q → (x : ℕ) → LiesWithin o q x
