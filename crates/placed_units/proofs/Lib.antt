@@ -1,0 +1,17 @@
+pub mod Fetching
+pub mod Clean
+pub mod Targets
+pub mod Pieces
+pub mod Results
+pub mod TwoRows
+pub mod WordsInPlace
+pub mod Pushing
+pub mod PoppingRows
+pub mod WritingRows
+pub mod Landing
+pub mod TwoUnits
+pub mod OneUnits
+pub mod Calls
+pub mod Jumps
+pub mod Ending
+pub mod Worked

@@ -1,0 +1,4 @@
+pub mod Placed
+pub mod Checks
+pub mod Ends
+pub mod Given

@@ -1,0 +1,74 @@
+//! The unit law: an object with guards does what its source does, unit by unit.
+//!
+//! `specs/Placed.antt` says where the unit of a source instruction stands in memory and what the instruction does there,
+//! `specs/Checks.antt` which check its unit makes, and `specs/Ends.antt` where running the unit ends. The laws are functions that do
+//! nothing. They stand on the rows of the unit table over numbers (`unit_laws`), on the inserter's definitions (`insert_model`)
+//! and laws (`insert_laws`), and on the images of placed objects (`image_model`).
+#![tactic(auto)]
+
+ghost use Rattle.placed_units.specs.Ends.{PushedLaw, UnitLaw, UnitStandsLaw};
+ghost use Rattle.placed_units.specs.Given.{RowLaws};
+
+use image_model::code_image_stands;
+use insert_laws::{
+    code_is_pieces, lines_are_clean, lines_have_units, places_within, relocs_are_pieces,
+    spelling_spells, starts_decided,
+};
+use unit_laws::{
+    branch_unit_ends, callee_unit_ends, change_unit_ends, computed_unit_ends, goes_on, goes_to,
+    growth_unit_ends, jump_unit_ends, own_unit_ends, pc_moves, pop_into_unit_ends, pop_unit_ends,
+    return_unit_ends, set_sp_unit_ends, store_unit_ends,
+};
+
+/// The rows of the unit table over numbers, and what is known of spelled instructions and of starts.
+fn row_laws()
+    ensures { RowLaws }
+{
+    goes_on();
+    goes_to();
+    pc_moves();
+    own_unit_ends();
+    branch_unit_ends();
+    jump_unit_ends();
+    computed_unit_ends();
+    store_unit_ends();
+    change_unit_ends();
+    growth_unit_ends();
+    callee_unit_ends();
+    pop_unit_ends();
+    pop_into_unit_ends();
+    return_unit_ends();
+    set_sp_unit_ends();
+    spelling_spells();
+    starts_decided();
+    places_within();
+}
+
+/// Where the bytes of an object with guards are its image, the words of each source instruction's unit stand at the unit's
+/// address, just before those of the next, and no other unit begins among them.
+pub fn unit_stands()
+    ensures { UnitStandsLaw }
+{
+    lines_are_clean();
+    lines_have_units();
+    code_is_pieces();
+    relocs_are_pieces();
+    code_image_stands();
+}
+
+/// Running a unit ends at the entry for its check, with nothing written, exactly where the check fails. Elsewhere it does what the
+/// source instruction does, but for R4 and R5, and leads to the next unit, the target's unit or a named entry. A return, a
+/// computed jump or a computed call ends at the entry that takes it over, with the target in R4.
+pub fn unit_ends()
+    ensures { UnitLaw }
+{
+    row_laws();
+    unit_stands();
+}
+
+/// A call in a unit pushes the address of the next unit.
+pub fn call_pushes()
+    ensures { PushedLaw }
+{
+    unit_stands();
+}
