@@ -1,0 +1,14 @@
+; Thread 1 overwrites the return address of thread 0, in the region that both may write: 2 is the address of no code.
+        .app 32 2
+        .entry main
+main:   MOV #evil,R12           ; thread 1 begins at evil, at priority 3
+        MOV #3,R13
+        CALL #0xF00A            ; spawn
+        CALL #f
+stay:   JMP stay
+f:      CALL #0xF00C            ; yield: now thread 1 runs
+        RET                     ; a checked return, to what stands there now
+evil:   MOV #LO,R6
+        MOV #2,30(R6)           ; the uppermost word of thread 0's stack
+        CALL #0xF00C            ; yield
+stay2:  JMP stay2
