@@ -1,8 +1,6 @@
 //! Laying the units one after another.
 
 ghost use Rattle.std.specs.Prelude.{◌≡◌, ℕ, ◌+◌, ◌*◌, ◌<◌, ◌≤◌, ◌++◌, length, replicate, OnOk, MatchResult};
-ghost use Rattle.object_form.specs.Spelling.{fields};
-ghost use Rattle.insert_model.specs.Units.{static_bytes};
 ghost use Rattle.check_inserter.specs.Read.{IsSource};
 ghost use Rattle.check_inserter.specs.Places.{IsLaid, IsUnlaid};
 
@@ -27,7 +25,7 @@ pub(crate) fn lay(alloc: Global, o: &Object, lines: &[Line]) -> Result<Laid, Ins
     requires { IsSource o.now lines.now }
     ensures { MatchResult result (λ laid. IsLaid o.now laid) (λ e. IsUnlaid o.now e) }
 {
-    let size = static_size(o);
+    let size = usize::from(o.static_bytes());
     let mut words = Vec::new(alloc);
     let mut places = Vec::new(alloc);
     for line in lines {
@@ -40,14 +38,6 @@ pub(crate) fn lay(alloc: Global, o: &Object, lines: &[Line]) -> Result<Laid, Ins
     }
     put_places(&mut places, words.len(), 1)?;
     Ok(Laid { words, places })
-}
-
-/// The bytes of the static part, rounded up to even.
-#[tactic(auto, unfolding(insert_model::specs::Units::static_bytes))]
-fn static_size(o: &Object) -> usize
-    ensures { result ≡ static_bytes (fields o.now) }
-{
-    (o.init.len() + usize::from(o.zeroed) + 1) / 2 * 2
 }
 
 /// Appends a place so many times.

@@ -1,5 +1,6 @@
 //! Objects.
 
+ghost use Rattle.std.specs.Prelude.{◌≡◌, ◌+◌, ◌*◌, ◌/◌, ◌≤◌, length};
 ghost use Rattle.object_form.specs.Form.{MeetsForm};
 
 use super::lists::{CodeWords, Exports, Relocs};
@@ -34,4 +35,14 @@ pub struct Object {
     pub relocs: Relocs,
     pub exports: Exports,
     pub ghost form: { MeetsForm kind version code init zeroed stack threads entry relocs exports },
+}
+
+impl Object {
+    /// The bytes of the static part, initialised and zeroed together, rounded up to even.
+    pub fn static_bytes(&self) -> u16
+        ensures size { result ≡ (length self.now.init + self.now.zeroed + 1) / 2 * 2 }
+        ensures most { result ≤ 16384 }
+    {
+        (self.init.len() as u16 + self.zeroed + 1) / 2 * 2
+    }
 }

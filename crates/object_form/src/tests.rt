@@ -77,6 +77,27 @@ fn numbers_are_read(rt: HostRuntime) -> Result<(), Fail> {
 }
 
 #[test]
+fn the_static_part_is_even(rt: HostRuntime) -> Result<(), Fail> {
+    for (low, high, want) in [
+        (0, 0, 2),
+        (1, 0, 4),
+        (4, 0, 6),
+        (5, 0, 8),
+        (0xFD, 0x3F, 16384),
+        (0xFE, 0x3F, 16384),
+    ] {
+        let mut text = ADDRESS;
+        text[10] = low;
+        text[11] = high;
+        let o: Object = read_object(rt.alloc(), &text)
+            .ok()
+            .ok_or("the text is an object's")?;
+        assert_eq!(rt; o.static_bytes(), want, "{low} and {high} zeroed");
+    }
+    Ok(())
+}
+
+#[test]
 fn a_text_cut_is_short(rt: HostRuntime) {
     for n in 0..68 {
         assert!(rt;

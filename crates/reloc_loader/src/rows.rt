@@ -2,7 +2,6 @@
 
 ghost use Rattle.std.specs.Prelude.{◌≡◌, ◌%◌, ◌≤◌};
 ghost use Rattle.object_form.specs.declared.parts.Kind.TheVariants.{App};
-ghost use Rattle.code_model.specs.Rules.{static_size};
 ghost use Rattle.kernel_model.specs.Layout.{kernel_of};
 ghost use Rattle.kernel_model.specs.Queues.{Leaves};
 ghost use Rattle.kernel_model.specs.Kernel.{app_at};
@@ -32,21 +31,13 @@ pub fn code_bytes(o: &Object) -> u16
     2 * o.code.len() as u16
 }
 
-/// The bytes of the static part, rounded up to even.
-pub fn static_bytes(o: &Object) -> u16
-    ensures size { result ≡ static_size o.now }
-    ensures most { result ≤ 16384 }
-{
-    (o.init.len() as u16 + o.zeroed + 1) / 2 * 2
-}
-
 /// The bytes of an application's region: the static part, and a stack for each thread.
 pub fn region_bytes(o: &Object) -> u32
     requires { (o.now).kind ≡ App }
     ensures size { result ≡ region_length o.now }
     ensures even { result % 2 ≡ 0 }
 {
-    u32::from(static_bytes(o)) + u32::from(o.threads) * u32::from(o.stack)
+    u32::from(o.static_bytes()) + u32::from(o.threads) * u32::from(o.stack)
 }
 
 /// Fills the application's row, and keeps the entry's address in the row of its thread 0.
@@ -65,7 +56,7 @@ pub fn put_rows(m: &mut FlatMem, o: &Object, r: &Regions)
             code_hi: r.code_hi,
             lo: r.lo,
             hi: r.hi,
-            z: static_bytes(o),
+            z: o.static_bytes(),
             stack: o.stack,
             threads: u16::from(o.threads),
         },

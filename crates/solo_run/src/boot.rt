@@ -1,7 +1,6 @@
 //! Memory at boot: the application placed alone, and its thread 0 running.
 
 ghost use Rattle.std.specs.Prelude.{◌≡◌, ◌≤◌, [], length, IfOk};
-ghost use Rattle.code_model.specs.Rules.{static_size};
 ghost use Rattle.code_model.specs.Verdicts.{IsAccepted};
 ghost use Rattle.object_form.specs.declared.parts.Kind.TheVariants.{App};
 ghost use Rattle.kernel_model.specs.Layout.{kernel_of, empty};
@@ -46,26 +45,18 @@ const FIRST_PRIORITY: u16 = 3;
 /// GIE alone.
 const INTERRUPTS_ON: u16 = 8;
 
-/// The bytes of the static part, rounded up to even: at most 16,384.
-fn static_bytes(o: &Object) -> u16
-    ensures size { result ≡ static_size o.now }
-    ensures most { result ≤ 16384 }
-{
-    (o.init.len() as u16 + o.zeroed + 1) / 2 * 2
-}
-
 /// The address behind the region.
 pub fn region_stop(o: &Object) -> u16
     ensures { result ≡ region_end o.now }
 {
-    DATA_POOL_START + static_bytes(o) + o.threads as u16 * o.stack
+    DATA_POOL_START + o.static_bytes() + o.threads as u16 * o.stack
 }
 
 /// The address behind the stack of thread 0.
 fn stack_stop(o: &Object) -> u16
     ensures { result ≡ stack_top o.now }
 {
-    DATA_POOL_START + static_bytes(o) + o.stack
+    DATA_POOL_START + o.static_bytes() + o.stack
 }
 
 /// All registers 0 but PC, SP and SR.
@@ -160,7 +151,7 @@ fn start(m: &mut FlatMem, o: &Object)
     put(
         m,
         SysWord::CurLim,
-        DATA_POOL_START + static_bytes(o) + LIMIT_MARGIN,
+        DATA_POOL_START + o.static_bytes() + LIMIT_MARGIN,
     );
     put(m, SysWord::CurTop, stack_stop(o));
 }

@@ -1,10 +1,10 @@
 //! The rules on written memory.
 
-ghost use Rattle.std.specs.Prelude.{◌≡◌, ℕ, ◌<◌, ◌↔◌, IsTrue};
+ghost use Rattle.std.specs.Prelude.{ℕ, ◌<◌, ◌↔◌, IsTrue};
 ghost use Rattle.code_model.specs.Starts.{AreStarts};
 ghost use Rattle.code_model.specs.Guards.{Guarded};
 ghost use Rattle.code_model.specs.declared.guards.GuardKind.TheVariants as guard;
-ghost use Rattle.code_model.specs.Rules.{IsMemoryDst, IsMemorySrc, WritesMemory, static_size, InStatic, IsWildDst, IsWildSrc, WritesWild};
+ghost use Rattle.code_model.specs.Rules.{IsMemoryDst, IsMemorySrc, WritesMemory, InStatic, IsWildDst, IsWildSrc, WritesWild};
 ghost use Rattle.static_checker.specs.Spots.{IsStartSpot};
 
 use crate::forms::{changes, src_size, writes};
@@ -92,12 +92,5 @@ fn in_static(o: &Object, at: usize, word: u16) -> bool
     requires { at < 32768 }
     ensures { IsTrue result ↔ InStatic o.now at word }
 {
-    has_reloc(o, at, RelKind::Data) && usize::from(word) < static_size(o)
-}
-
-/// The bytes of the static part, rounded up to even.
-fn static_size(o: &Object) -> usize
-    ensures { result ≡ static_size o.now }
-{
-    (o.init.len() + usize::from(o.zeroed) + 1) / 2 * 2
+    has_reloc(o, at, RelKind::Data) && word < o.static_bytes()
 }
