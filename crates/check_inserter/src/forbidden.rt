@@ -1,18 +1,19 @@
 //! Instructions that have no unit.
 
-ghost use Rattle.std.specs.Prelude.{◌≡◌, ℕ, ◌<◌, ◌+◌, ◌⊎◌, ◌↔◌, IsTrue, None};
-ghost use Rattle.code_model.specs.Rules.{IsBisOrBic, IsFlags, const_value, WritesReg, IsData, SrcCarries, DstCarries, Carries};
-ghost use Rattle.insert_model.specs.Words.{count};
+ghost use Rattle.std.specs.Prelude.{ℕ, ◌<◌, ◌↔◌, IsTrue};
+ghost use Rattle.code_model.specs.Rules.{WritesReg};
 ghost use Rattle.insert_model.specs.Faults.{IsCheck, SrcUsesCheck, DstUsesCheck, UsesCheck, NamesFlags, ChangesFlags, SetsPc, ReadsPc, HasSymbolic, IsSpecial, HasBadOperand, IsNoPopTarget, PopsAmiss, StepsBase, StoresAmiss, IsWrongWord, IsWrongWithin, HasWrongWord, WritesAmiss, ReadsAmiss, IsForbidden};
 
-use crate::forms::{
-    changes, dst_is, is_auto_inc, is_memory, is_mov, is_reti, is_symbolic_dst, is_symbolic_src,
-    is_wide, pops, sets_pc, src_is, stacks, writes, writes_reg,
-};
-use crate::size::{source_size, word_count};
+use crate::forms::{is_auto_inc, is_memory, is_symbolic_dst, is_symbolic_src, sets_pc};
+use crate::size::word_count;
 use insert_model::line::Line;
-use msp_encode::instr::{Cg, Dst, Instr, Op2, Src};
+use msp_encode::instr::{Dst, Instr, Src};
 use object_form::parts::RelKind;
+use static_checker::forms::{
+    changes, const_value, dst_is, is_bis_or_bic, is_flags, is_mov, is_reti, is_wide, pops, src_is,
+    stacks, writes, writes_reg,
+};
+use static_checker::operand_words::carries;
 
 /// Tells whether an operand names R4 or R5.
 pub(crate) fn uses_check(i: Instr) -> bool
@@ -91,40 +92,14 @@ fn changes_flags(i: Instr, kind: Option<RelKind>) -> bool
     }
 }
 
-fn is_bis_or_bic(op: Op2) -> bool
-    ensures { IsTrue result ↔ IsBisOrBic op }
-{
-    matches!(op, Op2::Bic | Op2::Bis)
-}
-
 /// Tells whether a source is a constant or an unrelocated immediate with flags alone.
 fn names_flags(src: Src, kind: Option<RelKind>) -> bool
     ensures { IsTrue result ↔ NamesFlags src kind }
 {
     match src {
-        Src::Const(constant) => is_flags(value_of(constant)),
+        Src::Const(constant) => is_flags(const_value(constant)),
         Src::Immediate(x) => kind.is_none() && is_flags(x),
         _ => false,
-    }
-}
-
-/// Tells whether a word has no bit but the flags V, N, Z and C.
-fn is_flags(word: u16) -> bool
-    ensures { IsTrue result ↔ IsFlags word }
-{
-    word & 0xFEF8 == 0
-}
-
-fn value_of(constant: Cg) -> u16
-    ensures { result ≡ const_value constant }
-{
-    match constant {
-        Cg::Zero => 0,
-        Cg::One => 1,
-        Cg::Two => 2,
-        Cg::Four => 4,
-        Cg::Eight => 8,
-        Cg::AllOnes => 0xFFFF,
     }
 }
 
@@ -237,41 +212,4 @@ fn is_wrong_word(line: &Line, word: usize) -> bool
         Some(kind) => !carries(line.instr, word, kind),
         None => false,
     }
-}
-
-/// Tells whether an instruction may have a relocation of this kind on this of its words, counted from 0.
-fn carries(i: Instr, word: usize, kind: RelKind) -> bool
-    ensures { IsTrue result ↔ Carries i word kind }
-{
-    match i {
-        Instr::Two { src, dst, .. } => (word == 1 && src_carries(src, kind))
-            || (word == 1 + source_size(src) && dst_carries(dst, kind)),
-        Instr::One { src, .. } => word == 1 && src_carries(src, kind),
-        _ => false,
-    }
-}
-
-fn src_carries(src: Src, kind: RelKind) -> bool
-    ensures { IsTrue result ↔ SrcCarries src kind }
-{
-    match src {
-        Src::Immediate(_) => true,
-        Src::Absolute(_) | Src::Indexed(_, _) => is_data(kind),
-        _ => false,
-    }
-}
-
-fn dst_carries(dst: Dst, kind: RelKind) -> bool
-    ensures { IsTrue result ↔ DstCarries dst kind }
-{
-    match dst {
-        Dst::Absolute(_) | Dst::Indexed(_, _) => is_data(kind),
-        _ => false,
-    }
-}
-
-fn is_data(kind: RelKind) -> bool
-    ensures { IsTrue result ↔ IsData kind }
-{
-    matches!(kind, RelKind::Data)
 }

@@ -1,8 +1,9 @@
 //! The inserter: an object whose instructions have the guards that the checker asks for, made from one that has none.
 //!
-//! It stands on the decoder and the encoder, on objects (`object_form`) and on the definitions of `insert_model`, which say
-//! what the unit of each source instruction is, what object the units make, and what is wrong with a source object. The
-//! layers above call `insert`: its answer is that object or the first fault with its offset, and no other answer is.
+//! It stands on the decoder and the encoder, on objects (`object_form`), on what the checker asks of instructions
+//! (`static_checker`) and on the definitions of `insert_model`, which say what the unit of each source instruction is, what
+//! object the units make, and what is wrong with a source object. The layers above call `insert`: its answer is that object
+//! or the first fault with its offset, and no other answer is.
 //!
 //! The inserter reads the instructions once as lines (`source`), looks for the first fault (`faults`), lays the units of the
 //! lines one after another and keeps where each source word's unit stands (`laying`), and then gives the words, the

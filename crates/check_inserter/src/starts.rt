@@ -1,7 +1,6 @@
 //! The places where source instructions start.
 
-ghost use Rattle.std.specs.Prelude.{◌≡◌, ◌≢◌, ℕ, ◌/◌, ◌<◌, ◌↔◌, IsTrue, MatchOption, pos, ◌+◌, ◌+ℤ◌, length};
-ghost use Rattle.object_form.specs.Bitmap.{Has};
+ghost use Rattle.std.specs.Prelude.{◌<◌, ◌↔◌, IsTrue};
 ghost use Rattle.code_model.specs.Starts.{AreStarts};
 ghost use Rattle.insert_model.specs.Faults.{IsStartOffset, IsJumpStart};
 ghost use Rattle.check_inserter.specs.Read.{StartsIn, AreWhole, IsSource};
@@ -9,6 +8,7 @@ ghost use Rattle.check_inserter.specs.Read.{StartsIn, AreWhole, IsSource};
 use insert_model::line::Line;
 use object_form::marks::Marks;
 use object_form::object::Object;
+use static_checker::marking::{jump_place, mark};
 
 /// The places where lines start, as marks.
 pub(crate) fn starts(o: &Object, lines: &[Line]) -> Marks
@@ -20,15 +20,6 @@ pub(crate) fn starts(o: &Object, lines: &[Line]) -> Marks
         mark(&mut marks, line.at);
     }
     marks
-}
-
-/// Marks a place.
-fn mark(marks: &mut Marks, at: usize)
-    requires { at < 8192 }
-    ensures marked { Has marks.new at }
-    ensures others { (k : ℕ) → k ≢ at → Has marks.new k ↔ Has marks.old k }
-{
-    marks.set((2 * at) as u16);
 }
 
 /// Tells whether a word is the offset of a start.
@@ -54,19 +45,5 @@ pub(crate) fn is_jump_start(o: &Object, starts: &Marks, at: usize, offset: i16) 
     match jump_place(at, offset) {
         Some(target) => starts.has((2 * target) as u16),
         None => false,
-    }
-}
-
-/// Where a jump at a place goes. None exactly where that is no place below 8,192.
-fn jump_place(at: usize, offset: i16) -> Option<usize>
-    requires { at < 8192 }
-    ensures { MatchOption result ((t : ℕ) → t < 8192 → pos t ≡ (pos (at + 1) +ℤ offset) → ⊥)
-        (λ t. (t < 8192) × (pos t ≡ (pos (at + 1) +ℤ offset))) }
-{
-    let target = at as i32 + 1 + i32::from(offset);
-    if 0 <= target && target < 8192 {
-        Some(target as usize)
-    } else {
-        None
     }
 }

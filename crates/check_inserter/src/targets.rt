@@ -9,8 +9,8 @@ ghost use Rattle.insert_model.specs.Source.{own_piece, own};
 ghost use Rattle.insert_model.specs.Faults.{IsStartOffset, JumpsAmiss, IsSourceJump, IsSourceCall, NamesStart, IsSourceTarget, IsSourceCallee, MissesTarget, MissesCallee, GoesAmiss, WordMisses, OperandsMiss, NamesAmiss, RunsOut, GoesWrong};
 ghost use Rattle.check_inserter.specs.Read.{IsWhole};
 
-use crate::forms::{is_call, is_jmp, sets_pc};
-use crate::size::{source_size, word_count};
+use crate::forms::sets_pc;
+use crate::size::word_count;
 use crate::starts::{is_jump_start, is_start_offset};
 use insert_model::line::Line;
 use insert_model::piece::Piece;
@@ -18,6 +18,7 @@ use msp_encode::instr::{Dst, Instr, Src};
 use object_form::marks::Marks;
 use object_form::object::Object;
 use object_form::parts::{Kind, RelKind};
+use static_checker::forms::{is_call, is_jmp, src_size};
 
 /// Tells whether a line has a target that isn't one, or the code could run on behind it where it ends.
 pub(crate) fn goes_wrong(o: &Object, starts: &Marks, line: &Line) -> bool
@@ -141,7 +142,7 @@ pub(crate) fn own(line: &Line) -> Piece
     let instr = line.instr;
     match instr {
         Instr::Two { src, .. } => {
-            if source_size(src) == 0 {
+            if src_size(src) == 0 {
                 Piece {
                     instr,
                     source: None,

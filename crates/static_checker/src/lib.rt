@@ -9,13 +9,17 @@
 //! marks (`units`), and then asks each rule at each place (`rules`). Every question is a small function that is true exactly
 //! where the definition of its name holds. It takes no memory, and looks at each place a bounded number of times; a
 //! relocation is found by a binary search.
+//!
+//! Public beside `check` are questions that other crates ask of instructions too: what their operations and operands do
+//! (`forms`), which of their words may have a relocation (`operand_words`) and which have one (`relocs`), what stands at a
+//! place (`spot`), and marks by places (`marking`).
 #![tactic(auto)]
 
 mod covering;
-mod forms;
+pub mod forms;
 mod guards;
-mod marking;
-mod operand_words;
+pub mod marking;
+pub mod operand_words;
 mod registers;
 pub mod relocs;
 mod rules;

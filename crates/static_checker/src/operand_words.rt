@@ -15,7 +15,7 @@ use object_form::object::Object;
 use object_form::parts::RelKind;
 
 /// Tells whether the word at a place has a relocation that it may not have.
-pub fn has_wrong_reloc(o: &Object, starts: &Marks, at: usize) -> bool
+pub(crate) fn has_wrong_reloc(o: &Object, starts: &Marks, at: usize) -> bool
     requires starts { AreStarts o.now.code starts.now }
     requires within { at < length o.now.code }
     ensures { IsTrue result ↔ HasWrongReloc o.now at }
@@ -60,7 +60,7 @@ fn carries_from(o: &Object, starts: &Marks, start: usize, word: usize, kind: Rel
 }
 
 /// Tells whether an instruction may have a relocation of this kind on this of its words, counted from 0.
-fn carries(i: Instr, word: usize, kind: RelKind) -> bool
+pub fn carries(i: Instr, word: usize, kind: RelKind) -> bool
     ensures { IsTrue result ↔ Carries i word kind }
 {
     match i {

@@ -1,18 +1,20 @@
-//! The rules on registers and the stack: RETI, PC, SP, SR, pops and pushes.
+//! The rules on registers and the stack: PC, SP, SR, pops and pushes.
 
-ghost use Rattle.std.specs.Prelude.{◌≡◌, ℕ, ◌<◌, ◌↔◌, IsTrue};
+ghost use Rattle.std.specs.Prelude.{ℕ, ◌<◌, ◌↔◌, IsTrue};
 ghost use Rattle.code_model.specs.Starts.{AreStarts};
 ghost use Rattle.code_model.specs.Guards.{Guarded};
 ghost use Rattle.code_model.specs.declared.guards.GuardKind.TheVariants as guard;
-ghost use Rattle.code_model.specs.Rules.{IsReti, WritesReg, IsImmediate, IsBranch, const_value, IsFlags, IsBisOrBic, NamesFlags, ChangesFlags, ReadsStack, IsPushOrCall};
+ghost use Rattle.code_model.specs.Rules.{WritesReg, IsImmediate, IsBranch, NamesFlags, ChangesFlags, ReadsStack, IsPushOrCall};
 ghost use Rattle.static_checker.specs.Spots.{IsStartSpot};
 
-use crate::forms::{changes, dst_is, is_mov, is_wide, pops, src_is, stacks, writes};
+use crate::forms::{
+    const_value, dst_is, is_bis_or_bic, is_flags, is_mov, is_wide, pops, stacks, writes_reg,
+};
 use crate::guards::is_guarded;
 use crate::relocs::unrelocated;
 use crate::spot::Spot;
 use code_model::guards::GuardKind;
-use msp_encode::instr::{Cg, Instr, Op2, Src};
+use msp_encode::instr::{Instr, Src};
 use object_form::marks::Marks;
 use object_form::object::Object;
 
@@ -58,24 +60,6 @@ pub fn breaks_push(o: &Object, starts: &Marks, spot: &Spot) -> bool
     is_push_or_call(spot.instr) && !is_guarded(o, starts, spot, GuardKind::Growth)
 }
 
-/// Tells whether an instruction is RETI.
-pub fn is_reti(i: Instr) -> bool
-    ensures { IsTrue result ↔ IsReti i }
-{
-    matches!(i, Instr::Reti)
-}
-
-/// Tells whether an operation's destination, or the operand that it changes, is this register.
-fn writes_reg(i: Instr, register: u8) -> bool
-    ensures { IsTrue result ↔ WritesReg i register }
-{
-    match i {
-        Instr::Two { op, dst, .. } => writes(op) && dst_is(dst, register),
-        Instr::One { op, src, .. } => changes(op) && src_is(src, register),
-        _ => false,
-    }
-}
-
 /// Tells whether an instruction is `MOV #imm,PC`.
 pub fn is_branch(i: Instr) -> bool
     ensures { IsTrue result ↔ IsBranch i }
@@ -111,13 +95,6 @@ fn changes_flags(o: &Object, at: usize, i: Instr) -> bool
     }
 }
 
-/// Tells whether an operation is BIS or BIC.
-fn is_bis_or_bic(op: Op2) -> bool
-    ensures { IsTrue result ↔ IsBisOrBic op }
-{
-    matches!(op, Op2::Bis | Op2::Bic)
-}
-
 /// Tells whether the source of an instruction at a place is a constant or an unrelocated immediate within the flags.
 fn names_flags(o: &Object, at: usize, src: Src) -> bool
     requires { at < 8192 }
@@ -127,27 +104,6 @@ fn names_flags(o: &Object, at: usize, src: Src) -> bool
         Src::Const(constant) => is_flags(const_value(constant)),
         Src::Immediate(x) => unrelocated(o, at + 1) && is_flags(x),
         _ => false,
-    }
-}
-
-/// Tells whether a word has no bit but those of C, Z, N and V.
-fn is_flags(x: u16) -> bool
-    ensures { IsTrue result ↔ IsFlags x }
-{
-    x & 0xFEF8 == 0
-}
-
-/// The value of a generated constant.
-fn const_value(constant: Cg) -> u16
-    ensures { result ≡ const_value constant }
-{
-    match constant {
-        Cg::Zero => 0,
-        Cg::One => 1,
-        Cg::Two => 2,
-        Cg::Four => 4,
-        Cg::Eight => 8,
-        Cg::AllOnes => 0xFFFF,
     }
 }
 

@@ -8,9 +8,10 @@ ghost use Rattle.static_checker.specs.Spots.{IsStartSpot};
 ghost use Rattle.static_checker.specs.Places.{ArePlaces};
 ghost use Rattle.static_checker.specs.Refusals.{IsSpotAt, IsFirstRule};
 
+use crate::forms::is_reti;
 use crate::marking::is_marked;
 use crate::operand_words::has_wrong_reloc;
-use crate::registers::{breaks_pc, breaks_pop, breaks_push, breaks_sp, breaks_sr, is_reti};
+use crate::registers::{breaks_pc, breaks_pop, breaks_push, breaks_sp, breaks_sr};
 use crate::spot::{Spot, spot_at};
 use crate::stores::{breaks_store, writes_wild};
 use crate::targets::{goes_astray, jumps_astray, runs_off};

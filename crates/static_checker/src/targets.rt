@@ -1,15 +1,16 @@
 //! The rules on where code goes: targets of branches, calls and jumps, and the code's end.
 
-ghost use Rattle.std.specs.Prelude.{◌≡◌, ℕ, ◌+◌, ◌*◌, ◌<◌, ◌≤◌, ◌↔◌, IsTrue, length, pos, ◌+ℤ◌, MatchOption};
+ghost use Rattle.std.specs.Prelude.{◌≡◌, ℕ, ◌+◌, ◌*◌, ◌<◌, ◌≤◌, ◌↔◌, IsTrue, length};
 ghost use Rattle.object_form.specs.declared.parts.RelKind.TheVariants.{Code};
 ghost use Rattle.code_model.specs.Relocs.{HasReloc};
 ghost use Rattle.code_model.specs.Guards.{UnitStart, AreUnits};
-ghost use Rattle.code_model.specs.Rules.{IsJumpEntry, IsCallEntry, IsUnitOffset, IsBranchTarget, IsCallTarget, IsCall, GoesAstray, IsJumpTarget, JumpsAstray, IsAlways, IsJmp, RunsOff};
+ghost use Rattle.code_model.specs.Rules.{IsJumpEntry, IsCallEntry, IsUnitOffset, IsBranchTarget, IsCallTarget, GoesAstray, IsJumpTarget, JumpsAstray, RunsOff};
 
-use crate::marking::is_marked;
+use crate::forms::{is_call, is_jmp};
+use crate::marking::{is_marked, jump_place};
 use crate::registers::is_branch;
 use crate::relocs::{has_reloc, unrelocated};
-use msp_encode::instr::{Cond, Instr, Op1, Src};
+use msp_encode::instr::{Instr, Src};
 use object_form::marks::Marks;
 use object_form::object::Object;
 use object_form::parts::{Kind, RelKind};
@@ -108,20 +109,6 @@ fn is_jump_target(o: &Object, units: &Marks, at: usize, offset: i16) -> bool
     }
 }
 
-/// Where a jump at a place goes, by its offset in words from the place behind it. None exactly where that is no place
-/// below 8,192.
-fn jump_place(at: usize, offset: i16) -> Option<usize>
-    requires { at < 8192 }
-    ensures { MatchOption result ((t : ℕ) → t < 8192 → pos t ≡ (pos (at + 1) +ℤ offset) → ⊥) (λ t. (t < 8192) × (pos t ≡ (pos (at + 1) +ℤ offset))) }
-{
-    let target = at as i32 + 1 + i32::from(offset);
-    if 0 <= target && target < 8192 {
-        Some(target as usize)
-    } else {
-        None
-    }
-}
-
 /// Tells whether a branch may go to this kernel entry.
 fn is_jump_entry(kind: Kind, entry: u16) -> bool
     ensures { IsTrue result ↔ IsJumpEntry kind entry }
@@ -140,28 +127,4 @@ fn is_call_entry(kind: Kind, entry: u16) -> bool
         Kind::App => 0xF006 <= entry && entry <= 0xF024 && entry % 2 == 0,
         Kind::Module => entry == 0xF006 || entry == 0xF014,
     }
-}
-
-/// Tells whether an operation is CALL.
-fn is_call(op: Op1) -> bool
-    ensures { IsTrue result ↔ IsCall op }
-{
-    matches!(op, Op1::Call)
-}
-
-/// Tells whether an instruction is JMP.
-fn is_jmp(i: Instr) -> bool
-    ensures { IsTrue result ↔ IsJmp i }
-{
-    match i {
-        Instr::Jump { cond, .. } => is_always(cond),
-        _ => false,
-    }
-}
-
-/// Tells whether a jump is always taken.
-fn is_always(cond: Cond) -> bool
-    ensures { IsTrue result ↔ IsAlways cond }
-{
-    matches!(cond, Cond::Always)
 }
