@@ -18,6 +18,7 @@ mod guards;
 mod inserter;
 mod laying;
 mod moving;
+mod operands;
 mod size;
 mod source;
 mod starts;

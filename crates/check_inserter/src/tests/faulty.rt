@@ -1,6 +1,7 @@
 //! Source objects with a fault.
 
-use super::{CODE, DATA, Faulty, HI, LO};
+use super::faults::Faulty;
+use super::{CODE, DATA, HI, LO};
 use crate::InsertKind;
 
 pub(super) const UNDECODED: [Faulty; 3] = [
