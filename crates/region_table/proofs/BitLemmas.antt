@@ -2,11 +2,11 @@
 use Rattle.std.proofs.Common.{◌≡◌, ◌≢◌, ℕ, ◌+◌, ◌-◌, ◌*◌, ◌/◌, ◌%◌, ◌<◌, ◌≤◌, ◌⊎◌, ◌↔◌, Bool, true, List, length, get_or, set, refl, ap, sym, ◌∙◌, subst, inl, inr, ⊎_elim, arith, length-set, get_or-set_same, get_or-set_other}
 use Rattle.std.proofs.lemmas.Bool.{cases_eq}
 use Rattle.std.specs.Int.{bit_at}
+use Rattle.kernel_model.specs.Layout.{tables}
 use Rattle.object_form.specs.Bitmap.{Has}
 use Rattle.place_model.specs.declared.places.Regions.{Regions}
 use Rattle.place_model.specs.Marking.{IsCodeWord, IsMarkBit, Marked}
 use Rattle.region_table.specs.Bits.{BitPut}
-use Rattle.region_table.proofs.TableLemmas.{tables_set}
 
 abbrev pub byte_of : ℕ → ℕ
 byte_of at = 0x1100 + (at - 0x6000) / 16
@@ -21,9 +21,13 @@ same_bit a b i e = (λ h. ap (λ n. bit_at n i) (sym e) ∙ h, λ h. ap (λ n. b
 bits_apart : (x at : ℕ) → IsCodeWord x → IsCodeWord at → x ≢ at → byte_of x ≡ byte_of at → bit_of x ≢ bit_of at
 bits_apart x at w v n e = λ q. n (omega (arith, w.even, w.above, v.even, v.above))
 
-pub bit_put : (m : List ℕ) (at b : ℕ) (v : Bool) → length m ≡ 65536 → IsCodeWord at → (bit_at b (bit_of at) ≡ 1) ↔ (v ≡ true)
+-- a byte above the tables leaves them
+abbrev pub TablesLaw : Type 0
+TablesLaw = (m : List ℕ) (a v : ℕ) → 4096 ≤ a → tables (set m a v) ≡ tables m
+
+pub bit_put : TablesLaw → (m : List ℕ) (at b : ℕ) (v : Bool) → length m ≡ 65536 → IsCodeWord at → (bit_at b (bit_of at) ≡ 1) ↔ (v ≡ true)
     → ((k : ℕ) → k < 8 → k ≢ bit_of at → bit_at b k ≡ bit_at (get_or m (byte_of at) 0) k) → BitPut m (set m (byte_of at) b) at v
-bit_put m at b v size w bit others =
+bit_put law m at b v size w bit others =
     let within : byte_of at < length m = omega (arith, w.above, w.below) in
     let now : get_or (set m (byte_of at) b) (byte_of at) 0 ≡ b = get_or-set_same m (byte_of at) b 0 within in
     record {
@@ -46,7 +50,7 @@ bit_put m at b v size w bit others =
           (λ (l : a < 0x1100). omega arith)
           (λ (g : 0x1900 ≤ a). omega (arith, w.above, w.below))
           away);
-      tables = tables_set m (byte_of at) b (omega arith);
+      tables = law m (byte_of at) b (omega arith);
     }
 
 -- ---- the words of a code, one by one

@@ -10,6 +10,7 @@ ghost use Rattle.region_table.specs.Bits.{BitPut};
 
 use crate::rows::domain_at;
 use flat_mem::FlatMem;
+use kernel_model::laws::tables_stay;
 use object_form::marks::Marks;
 use place_model::places::Regions;
 
@@ -80,6 +81,7 @@ fn put_bit_at(m: &mut FlatMem, at: u16, value: bool)
     requires word { IsCodeWord at }
     ensures { BitPut m.old m.new at value }
 {
+    tables_stay();
     m.is_flat();
     let byte_at = BITMAP + (at - CODE_POOL) / 16;
     let byte = with_bit(m.byte(byte_at), (at - CODE_POOL) / 2 % 8, value);
