@@ -12,11 +12,12 @@ use Rattle.msp_encode.specs.declared.instr.Instr.TheVariants as instr
 use Rattle.msp_encode.specs.Spelling.{SrcFits}
 use Rattle.unit_laws.specs.Running.{held, IsInside, Runs, RunsUnit}
 use Rattle.unit_laws.specs.Frame.{spread_effect}
-use Rattle.unit_laws.specs.Rows.{SrcFree, IsAtFirst, ended, entering, CalleeLaw}
+use Rattle.unit_laws.specs.Rows.{SrcFree, IsAtFirst, ended, entering, CalleeUnitLaw}
 use Rattle.unit_laws.proofs.Running.{follow}
 use Rattle.unit_laws.proofs.Contexts.{as_held, held-context}
 use Rattle.unit_laws.proofs.Frame.{effect_of}
 use Rattle.unit_laws.proofs.Guarded.{after-other}
+use Rattle.unit_laws.proofs.Flags.{same-self}
 use Rattle.unit_laws.proofs.Guards.{growth-ends}
 use Rattle.unit_laws.proofs.Sizes.{source-small, after-context}
 use Rattle.unit_laws.proofs.IntoR4.{source-held, after-held, passed-held, moves}
@@ -69,7 +70,7 @@ calls-end m r q first past at n k s x y h f a e g b fetched run =
     out : IsInside first past 0xF006 → ⊥
     out i = omega (arith, i.1, h.below)
 
-pub callee-unit : CalleeLaw
+pub callee-unit : CalleeUnitLaw
 callee-unit m r first past s n h fetched some words last e f a steps =
     let even-first = first-even m r first past h in
     let b = after_source Wide s r in
@@ -84,5 +85,5 @@ callee-unit m r first past s n h fetched some words last e f a steps =
     let call-at : IsFetched m (at + 14) (instr.One Call Wide (src.Immediate 0xF006)) 2 = subst (λ (p : ℕ). IsFetched m p (instr.One Call Wide (src.Immediate 0xF006)) 2) (omega arith) last in
     record {
       goes = λ p. record { y = reg r 2; runs = follow m first past 1 r q _ run (calls-end m r q first past (at + 14) n 4 s v (reg r 2) h f a (omega (arith, even-first)) (omega (arith, e)) (omega (arith, e)) call-at (guard.passes (omega (arith, p, sp)))) };
-      halts = λ p. halted m r q first past 1 0xF002 v run (guard.stops (omega (arith, p, sp)));
+      halts = λ p. halted m r b first past 1 at (reg r 2) v (reg r 5) 0xF002 v (same-self (reg r 2)) run (guard.stops (omega (arith, p, sp)));
     }

@@ -3,6 +3,7 @@ use Rattle.std.proofs.Common.{◌≡◌, ℕ, zero, suc, ◌+◌, ◌-◌, ◌*�
 use Rattle.machine_model.specs.Memory.{IsMemory}
 use Rattle.machine_model.specs.Context.{reg, set_reg, IsContext}
 use Rattle.machine_model.specs.Operands.{source_value, after_source}
+use Rattle.machine_model.specs.Status.{with_flags}
 use Rattle.machine_model.specs.Alu.{alu}
 use Rattle.machine_model.specs.Does.{does, Effect}
 use Rattle.machine_model.specs.Fetching.{IsFetched}
@@ -14,13 +15,15 @@ use Rattle.msp_encode.specs.declared.instr.Dst.TheVariants as dst
 use Rattle.msp_encode.specs.declared.instr.Instr.{Instr}
 use Rattle.msp_encode.specs.declared.instr.Instr.TheVariants as instr
 use Rattle.msp_encode.specs.Spelling.{SrcFits}
-use Rattle.unit_laws.specs.Running.{held, silent, Runs, Stays, RunsUnit}
+use Rattle.unit_laws.specs.Running.{held, silent, Runs, RunsUnit}
 use Rattle.unit_laws.specs.Guards.{WordsAt, pop_words, IsAtGuard, Stops}
 use Rattle.unit_laws.specs.Frame.{spread_effect}
-use Rattle.unit_laws.specs.Rows.{SrcFree, IsAtFirst, Halts, branch, ended, entering, ComputedLaw, ReturnLaw}
+use Rattle.unit_laws.specs.Rows.{SrcFree, IsAtFirst, Halts, branch, ended, entering, ComputedUnitLaw, ReturnUnitLaw}
 use Rattle.unit_laws.proofs.Running.{follow}
 use Rattle.unit_laws.proofs.Contexts.{as_held, branch-ends}
+use Rattle.unit_laws.proofs.Flags.{SameButFlags}
 use Rattle.unit_laws.proofs.Guards.{pop-ends}
+use Rattle.unit_laws.proofs.GuardedUnits.{stopped}
 use Rattle.unit_laws.proofs.Sizes.{source-small, after-context}
 use Rattle.unit_laws.proofs.IntoR4.{to-register, moves}
 
@@ -37,14 +40,12 @@ first-even m r first past h = omega (arith, h.pc, h.context.pc_even)
 pub guard-first : (m r : List ℕ) (first past : ℕ) (ws : List ℕ) → IsAtFirst m r first past → WordsAt m first 0 ws → first + 2 * length ws < past → IsAtGuard m r first past first ws
 guard-first m r first past ws h w l = record { memory = h.memory; context = h.context; pc = h.pc; words = w; begins = omega arith; within = l; below = h.below }
 
--- a guard that stops halts the unit
-pub halted : (m r q : List ℕ) (first past k entry x : ℕ) → Runs m first past k r q → Stops m q first past entry x → Halts m r first past entry
-halted m r q first past k entry x run h = record {
-  effect = silent (held q entry h.status x (reg q 2));
-  runs = follow m first past k r q (silent (held q entry h.status x (reg q 2))) run h.ends;
-  pc = refl;
-  written = refl;
-}
+-- a guard that stops halts the unit, behind steps that lead to the registers of b with other flags at most
+pub halted : (m r b : List ℕ) (first past k at sr v y entry x : ℕ) → SameButFlags sr (reg r 2) → Runs m first past k r (held b at sr v y) → Stops m (held b at sr v y) first past entry x → Halts m r first past entry b
+halted m r b first past k at sr v y entry x same run h =
+    let f = h.flags in
+    let ends = follow m first past k r (held b at sr v y) (silent (held b entry (with_flags sr f.c f.z f.n f.v) x sr)) run h.ends in
+    record { x = x; y = sr; flags = f; runs = subst (λ (s : ℕ). RunsUnit m first past r (silent (held b entry s x sr))) (same f.c f.z f.n f.v) ends }
 
 -- ---- a jump to what is in R4
 
@@ -76,7 +77,7 @@ computed-runs m r first past at next n s x y h mem b e g j l u w f a fetched las
     branch-ends 0xF004 m (after_source Wide s r) first past 1 next (reg r 2) (source_value Wide s 0 m r) y (held r at (reg r 2) x y) (after-context Wide s r h) refl (omega arith) (omega (arith, l))
     (omega (arith, e, g)) (omega (arith, j)) (h.small 2) (source-small Wide s 0 m r mem) w last run
 
-pub computed-unit : ComputedLaw
+pub computed-unit : ComputedUnitLaw
 computed-unit m r first past s n h fetched last e f a =
     let even-first = first-even m r first past h in
     let run = computed-runs m r first past first (first + 2 * n) n s (reg r 4) (reg r 5) h.context h.memory (omega arith) even-first refl (omega (arith, e)) h.below (h.context.small 4) (h.context.small 5) f a fetched last in
@@ -94,7 +95,7 @@ popped-fits = (omega arith, (omega arith, omega arith, omega arith))
 pub popped-free : SrcFree (src.AutoInc 1)
 popped-free = (omega arith, (omega arith, omega arith))
 
-pub return-unit : ReturnLaw
+pub return-unit : ReturnUnitLaw
 return-unit m r first past h words fetched last e =
     let even-first = first-even m r first past h in
     let guard = pop-ends m r first past first (guard-first m r first past pop_words h words (omega (arith, e))) in
@@ -104,5 +105,5 @@ return-unit m r first past h words fetched last e =
     let same = entered m r past 1 (src.AutoInc 1) 0xF004 target (reg r 2) h.context popped-fits popped-free (omega (arith, e, even-first)) (omega (arith, e)) (omega (arith, h.below)) refl in
     record {
       goes = λ p. record { y = reg r 2; runs = follow m first past 4 r (held r (first + 14) (reg r 2) (reg r 4) (reg r 2)) _ (guard.passes p) (subst (RunsUnit m first past (held r (first + 14) (reg r 2) (reg r 4) (reg r 2))) same run) };
-      halts = λ p. halted m r r first past 0 0xF002 (reg r 4) (Stays r) (guard.stops p);
+      halts = λ p. stopped m r first past 0xF002 (reg r 4) (guard.stops p);
     }

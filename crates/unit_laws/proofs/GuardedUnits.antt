@@ -1,5 +1,5 @@
 -- Units with a growth guard, a pop guard or a store guard.
-use Rattle.std.proofs.Common.{◌≡◌, ◌≢◌, ℕ, zero, suc, ◌+◌, ◌-◌, ◌*◌, ◌%◌, ◌<◌, ◌≤◌, true, List, length, refl, sym, ◌∙◌, subst, inl, inr, arith}
+use Rattle.std.proofs.Common.{◌≡◌, ◌≢◌, ℕ, zero, suc, ◌+◌, ◌-◌, ◌*◌, ◌%◌, ◌<◌, ◌≤◌, true, List, length, sym, ◌∙◌, subst, inl, inr, arith}
 use Rattle.std.proofs.lemmas.Bool.{false≢true}
 use Rattle.machine_model.specs.Context.{reg, set_reg, IsContext}
 use Rattle.machine_model.specs.Operands.{sum_of}
@@ -15,12 +15,12 @@ use Rattle.msp_encode.specs.declared.instr.Dst.{Dst}
 use Rattle.msp_encode.specs.declared.instr.Dst.TheVariants as dst
 use Rattle.msp_encode.specs.declared.instr.Instr.{Instr}
 use Rattle.msp_encode.specs.declared.instr.Instr.TheVariants as instr
-use Rattle.unit_laws.specs.Running.{held, silent, IsInside, Runs, RunsUnit}
+use Rattle.unit_laws.specs.Running.{IsInside, Runs, RunsUnit}
 use Rattle.unit_laws.specs.Lines.{IsIndexed}
 use Rattle.unit_laws.specs.Guards.{WordsAt, store_words, IsAtGuard, Passes, Stops}
 use Rattle.unit_laws.specs.Frame.{SrcAvoids, InstrAvoids, spread, spread_effect}
 use Rattle.unit_laws.specs.Guarded.{IsCell, IsCellOperand}
-use Rattle.unit_laws.specs.Rows.{IsFree, SrcFree, DstFree, GoesOn, ended, Follows, Halts, IsAtFirst, GrowthLaw, PopLaw, StoreLaw, ChangeLaw}
+use Rattle.unit_laws.specs.Rows.{IsFree, SrcFree, DstFree, GoesOn, ended, Follows, Halts, IsAtFirst, GrowthUnitLaw, PopUnitLaw, StoreUnitLaw, ChangeUnitLaw}
 use Rattle.unit_laws.proofs.Frame.{spread-reg, none}
 use Rattle.unit_laws.proofs.Guards.{store-ends, growth-ends, pop-ends}
 use Rattle.unit_laws.proofs.Guarded.{set-length, reg-other, held-spread, guarded, through}
@@ -28,8 +28,8 @@ use Rattle.unit_laws.proofs.AtR4.{at-r4}
 use Rattle.unit_laws.proofs.GoingOn.{pc-set, goes-on}
 
 -- a guard that stops ends the unit at its entry
-stopped : (m r : List ℕ) (first past entry x : ℕ) → Stops m r first past entry x → Halts m r first past entry
-stopped m r first past entry x s = record { effect = silent (held r entry s.status x (reg r 2)); runs = s.ends; pc = refl; written = refl }
+pub stopped : (m r : List ℕ) (first past entry x : ℕ) → Stops m r first past entry x → Halts m r first past entry r
+stopped m r first past entry x s = record { x = x; y = reg r 2; flags = s.flags; runs = s.ends }
 
 -- the guard at a unit's first word
 at-guard : (m r : List ℕ) (first past : ℕ) (ws : List ℕ) → IsAtFirst m r first past → WordsAt m first 0 ws → first + 2 * length ws < past → IsAtGuard m r first past first ws
@@ -49,7 +49,7 @@ followed m r first past steps next x i n h e p run a f out =
       runs = subst (λ (z : ℕ). RunsUnit m first past r (spread_effect (does m (set_reg r 0 z) i n) x (reg r 2))) (sym there) (guarded m r first past steps next x i n h e run a f gone);
     }
 
-pub growth-unit : GrowthLaw
+pub growth-unit : GrowthUnitLaw
 growth-unit m r first past i n g w f e b a out =
     let ends = growth-ends m r first past first (at-guard m r first past _ g w (omega (arith, e, b))) in
     record {
@@ -57,7 +57,7 @@ growth-unit m r first past i n g w f e b a out =
       halts = λ p. stopped m r first past 0xF002 (reg r 4) (ends.stops p);
     }
 
-pub pop-unit : PopLaw
+pub pop-unit : PopUnitLaw
 pop-unit m r first past i n g w f e b a out =
     let ends = pop-ends m r first past first (at-guard m r first past _ g w (omega (arith, e, b))) in
     record {
@@ -151,7 +151,7 @@ replaced m r first past steps next x i j n k h e t b l run f last g =
       };
     }
 
-pub store-unit : StoreLaw
+pub store-unit : StoreUnitLaw
 store-unit m r first past n x lo hi op w s d k g f e free cell steps =
     let h = g.at.context in
     let a = sum_of x (reg r n) in
@@ -170,7 +170,7 @@ store-unit m r first past n x lo hi op w s d k g f e free cell steps =
       halts = λ p. stopped m r first past 0xF000 a (ends.stops p);
     }
 
-pub change-unit : ChangeLaw
+pub change-unit : ChangeUnitLaw
 change-unit m r first past n x lo hi op w s k g f e c cell b t =
     let h = g.at.context in
     let a = sum_of x (reg r n) in

@@ -12,10 +12,10 @@ use Rattle.msp_encode.specs.declared.instr.Width.TheVariants.{Wide}
 use Rattle.msp_encode.specs.declared.instr.Op2.TheVariants.{Add}
 use Rattle.msp_encode.specs.declared.instr.Cond.TheVariants.{Ne, Nc, C}
 use Rattle.msp_encode.specs.Spelling.{First, words_after}
-use Rattle.unit_laws.specs.Running.{held, Runs, Stays}
+use Rattle.unit_laws.specs.Running.{held, silent, Runs, Stays, RunsUnit}
 use Rattle.unit_laws.specs.Lines.{Line, Saves, Loads, Adds, Compares, ComparesSp, ComparesTop, ComparesNew, ComparesNewTop, Jumps, Branches, Restores, instr_of, words_of, IsIndexed, IsLine, compared, pc_after, sr_after, r4_after, r5_after}
 use Rattle.unit_laws.specs.Guards.{store_words, growth_words, pop_words, sp_words, IsAtGuard, Passes, Stops, StoreGuardLaw, GrowthGuardLaw, PopGuardLaw, SpGuardLaw}
-use Rattle.unit_laws.proofs.Flags.{compared-tells}
+use Rattle.unit_laws.proofs.Flags.{compared-tells, IsFlagged, same-self, operation-same, compared-same, compared-flagged}
 use Rattle.unit_laws.proofs.Fetched.{fetched-one, fetched-two, first-saves, first-loads, loads-alone, first-adds, first-compares, first-sp, first-top, first-new, first-new_top, first-nc3, first-nc2, first-c2, first-ne2, first-branches, first-restores}
 use Rattle.unit_laws.proofs.Contexts.{as_held, word-small, compared-small, added-small, line-runs, branch-ends, jump-taken, jump-passed}
 
@@ -52,11 +52,12 @@ start : (m r : List ℕ) (first past at : ℕ) (ws : List ℕ) (g : IsAtGuard m 
 start m r first past at ws g k d h = subst (λ (q : List ℕ). Runs m first past k q d) (as_held r (at + 0) g.context (omega (arith, g.pc))) h
 
 -- the branch of a guard to an entry
-stop : (m r : List ℕ) (first past at : ℕ) (ws : List ℕ) (g : IsAtGuard m r first past at ws) (v i k sr x y : ℕ) → v % 2 ≡ 0 → v < 65536 → 0xF000 ≤ v → i % 2 ≡ 0 → i ≤ 2 * length ws → sr < 65536 → x < 65536 → y ≡ reg r 2
+stop : (m r : List ℕ) (first past at : ℕ) (ws : List ℕ) (g : IsAtGuard m r first past at ws) (v i k sr x y : ℕ) → v % 2 ≡ 0 → v < 65536 → 0xF000 ≤ v → i % 2 ≡ 0 → i ≤ 2 * length ws → sr < 65536 → IsFlagged sr (reg r 2) → x < 65536 → y ≡ reg r 2
     → IsFetched m (at + i) (instr_of (Branches v)) 2 → Runs m first past k r (held r (at + i) sr x y) → Stops m r first past v x
-stop m r first past at ws g v i k sr x y t b z e a s u w f rest =
+stop m r first past at ws g v i k sr x y t b z e a s c u w f rest =
     let kept = subst (λ (n : ℕ). Runs m first past k r (held r (at + i) sr x n)) w rest in
-    record { status = sr; ends = branch-ends v m r first past k (at + i) sr x (reg r 2) r g.context t b (omega (arith, g.below, z)) (omega (arith, e, at-even m r first past at ws g)) (omega (arith, g.within, a)) s u (g.context.small 2) f kept }
+    let ends = branch-ends v m r first past k (at + i) sr x (reg r 2) r g.context t b (omega (arith, g.below, z)) (omega (arith, e, at-even m r first past at ws g)) (omega (arith, g.within, a)) s u (g.context.small 2) f kept in
+    record { flags = c.flags; ends = subst (λ (n : ℕ). RunsUnit m first past r (silent (held r v n x (reg r 2)))) c.is ends }
 
 -- ---- the store guard
 
@@ -81,7 +82,7 @@ store-passes m r first past at n x lo hi g indexed xb lob hib h z = start m r fi
     (Stays _)))))))))
 
 store-below : (m r : List ℕ) (first past at n x lo hi : ℕ) → IsAtGuard m r first past at (store_words n x lo hi) → IsIndexed n → x < 65536 → lo < 65536 → hi < 65536 → (sum_of x (reg r n)) < lo → Stops m r first past 0xF000 (sum_of x (reg r n))
-store-below m r first past at n x lo hi g indexed xb lob hib h = stop m r first past at (store_words n x lo hi) g 0xF000 20 5 (compared lo (sum_of x (reg r n)) ((alu Add Wide x (reg r n) (reg r 2)).status)) (sum_of x (reg r n)) (reg r 2) refl (omega arith) (omega arith) refl (omega arith) (compared-small lo (sum_of x (reg r n)) ((alu Add Wide x (reg r n) (reg r 2)).status) (added-small x (reg r n) (reg r 2) (g.context.small 2))) (omega arith) refl (two m r first past at (store_words n x lo hi) g (instr_of (Branches 0xF000)) 20 0x4030 0xF000 g.words.1.1.1.1.1.1.1.1.1.1.0 g.words.1.1.1.1.1.1.1.1.1.1.1.0 (omega arith) (first-branches 0xF000) refl)
+store-below m r first past at n x lo hi g indexed xb lob hib h = stop m r first past at (store_words n x lo hi) g 0xF000 20 5 (compared lo (sum_of x (reg r n)) ((alu Add Wide x (reg r n) (reg r 2)).status)) (sum_of x (reg r n)) (reg r 2) refl (omega arith) (omega arith) refl (omega arith) (compared-small lo (sum_of x (reg r n)) ((alu Add Wide x (reg r n) (reg r 2)).status) (added-small x (reg r n) (reg r 2) (g.context.small 2))) (compared-flagged lo (sum_of x (reg r n)) ((alu Add Wide x (reg r n) (reg r 2)).status) (reg r 2) (operation-same Add Wide x (reg r n) (reg r 2))) (omega arith) refl (two m r first past at (store_words n x lo hi) g (instr_of (Branches 0xF000)) 20 0x4030 0xF000 g.words.1.1.1.1.1.1.1.1.1.1.0 g.words.1.1.1.1.1.1.1.1.1.1.1.0 (omega arith) (first-branches 0xF000) refl)
     (start m r first past at (store_words n x lo hi) g 5 (held r (at + 20) (compared lo (sum_of x (reg r n)) ((alu Add Wide x (reg r n) (reg r 2)).status)) (sum_of x (reg r n)) (reg r 2))
     (line m r first past at (store_words n x lo hi) g Saves 0 2 4 (reg r 2) (reg r 4) (reg r 5) (held r (at + 20) (compared lo (sum_of x (reg r n)) ((alu Add Wide x (reg r n) (reg r 2)).status)) (sum_of x (reg r n)) (reg r 2)) tt refl (omega arith) (omega arith) (omega arith) (g.context.small 2) (g.context.small 4) (g.context.small 5)
     (one m r first past at (store_words n x lo hi) g (instr_of Saves) 0 0x4205 g.words.0 first-saves refl) (omega arith)
@@ -96,7 +97,7 @@ store-below m r first past at n x lo hi g indexed xb lob hib h = stop m r first 
     (Stays _)))))))
 
 store-above : (m r : List ℕ) (first past at n x lo hi : ℕ) → IsAtGuard m r first past at (store_words n x lo hi) → IsIndexed n → x < 65536 → lo < 65536 → hi < 65536 → lo ≤ (sum_of x (reg r n)) → hi ≤ (sum_of x (reg r n)) → Stops m r first past 0xF000 (sum_of x (reg r n))
-store-above m r first past at n x lo hi g indexed xb lob hib h z = stop m r first past at (store_words n x lo hi) g 0xF000 20 7 (compared hi (sum_of x (reg r n)) (compared lo (sum_of x (reg r n)) ((alu Add Wide x (reg r n) (reg r 2)).status))) (sum_of x (reg r n)) (reg r 2) refl (omega arith) (omega arith) refl (omega arith) (compared-small hi (sum_of x (reg r n)) (compared lo (sum_of x (reg r n)) ((alu Add Wide x (reg r n) (reg r 2)).status)) (compared-small lo (sum_of x (reg r n)) ((alu Add Wide x (reg r n) (reg r 2)).status) (added-small x (reg r n) (reg r 2) (g.context.small 2)))) (omega arith) refl (two m r first past at (store_words n x lo hi) g (instr_of (Branches 0xF000)) 20 0x4030 0xF000 g.words.1.1.1.1.1.1.1.1.1.1.0 g.words.1.1.1.1.1.1.1.1.1.1.1.0 (omega arith) (first-branches 0xF000) refl)
+store-above m r first past at n x lo hi g indexed xb lob hib h z = stop m r first past at (store_words n x lo hi) g 0xF000 20 7 (compared hi (sum_of x (reg r n)) (compared lo (sum_of x (reg r n)) ((alu Add Wide x (reg r n) (reg r 2)).status))) (sum_of x (reg r n)) (reg r 2) refl (omega arith) (omega arith) refl (omega arith) (compared-small hi (sum_of x (reg r n)) (compared lo (sum_of x (reg r n)) ((alu Add Wide x (reg r n) (reg r 2)).status)) (compared-small lo (sum_of x (reg r n)) ((alu Add Wide x (reg r n) (reg r 2)).status) (added-small x (reg r n) (reg r 2) (g.context.small 2)))) (compared-flagged hi (sum_of x (reg r n)) (compared lo (sum_of x (reg r n)) ((alu Add Wide x (reg r n) (reg r 2)).status)) (reg r 2) (compared-same lo (sum_of x (reg r n)) ((alu Add Wide x (reg r n) (reg r 2)).status) (reg r 2) (operation-same Add Wide x (reg r n) (reg r 2)))) (omega arith) refl (two m r first past at (store_words n x lo hi) g (instr_of (Branches 0xF000)) 20 0x4030 0xF000 g.words.1.1.1.1.1.1.1.1.1.1.0 g.words.1.1.1.1.1.1.1.1.1.1.1.0 (omega arith) (first-branches 0xF000) refl)
     (start m r first past at (store_words n x lo hi) g 7 (held r (at + 20) (compared hi (sum_of x (reg r n)) (compared lo (sum_of x (reg r n)) ((alu Add Wide x (reg r n) (reg r 2)).status))) (sum_of x (reg r n)) (reg r 2))
     (line m r first past at (store_words n x lo hi) g Saves 0 2 6 (reg r 2) (reg r 4) (reg r 5) (held r (at + 20) (compared hi (sum_of x (reg r n)) (compared lo (sum_of x (reg r n)) ((alu Add Wide x (reg r n) (reg r 2)).status))) (sum_of x (reg r n)) (reg r 2)) tt refl (omega arith) (omega arith) (omega arith) (g.context.small 2) (g.context.small 4) (g.context.small 5)
     (one m r first past at (store_words n x lo hi) g (instr_of Saves) 0 0x4205 g.words.0 first-saves refl) (omega arith)
@@ -136,7 +137,7 @@ growth-passes m r first past at g h = start m r first past at growth_words g 4 (
     (Stays _)))))
 
 growth-stops : (m r : List ℕ) (first past at : ℕ) → IsAtGuard m r first past at growth_words → reg r 1 < (word_at m 0x0200) → Stops m r first past 0xF002 (reg r 4)
-growth-stops m r first past at g h = stop m r first past at growth_words g 0xF002 8 3 (compared (word_at m 0x0200) (reg r 1) (reg r 2)) (reg r 4) (reg r 2) refl (omega arith) (omega arith) refl (omega arith) (compared-small _ _ (reg r 2) (g.context.small 2)) (g.context.small 4) refl (two m r first past at growth_words g (instr_of (Branches 0xF002)) 8 0x4030 0xF002 g.words.1.1.1.1.0 g.words.1.1.1.1.1.0 (omega arith) (first-branches 0xF002) refl)
+growth-stops m r first past at g h = stop m r first past at growth_words g 0xF002 8 3 (compared (word_at m 0x0200) (reg r 1) (reg r 2)) (reg r 4) (reg r 2) refl (omega arith) (omega arith) refl (omega arith) (compared-small _ _ (reg r 2) (g.context.small 2)) (compared-flagged (word_at m 0x0200) (reg r 1) (reg r 2) (reg r 2) (same-self (reg r 2))) (g.context.small 4) refl (two m r first past at growth_words g (instr_of (Branches 0xF002)) 8 0x4030 0xF002 g.words.1.1.1.1.0 g.words.1.1.1.1.1.0 (omega arith) (first-branches 0xF002) refl)
     (start m r first past at growth_words g 3 (held r (at + 8) (compared (word_at m 0x0200) (reg r 1) (reg r 2)) (reg r 4) (reg r 2))
     (line m r first past at growth_words g Saves 0 2 2 (reg r 2) (reg r 4) (reg r 5) (held r (at + 8) (compared (word_at m 0x0200) (reg r 1) (reg r 2)) (reg r 4) (reg r 2)) tt refl (omega arith) (omega arith) (omega arith) (g.context.small 2) (g.context.small 4) (g.context.small 5)
     (one m r first past at growth_words g (instr_of Saves) 0 0x4205 g.words.0 first-saves refl) (omega arith)
@@ -164,7 +165,7 @@ pop-passes m r first past at g h = start m r first past at pop_words g 4 (held r
     (Stays _)))))
 
 pop-stops : (m r : List ℕ) (first past at : ℕ) → IsAtGuard m r first past at pop_words → reg r 1 ≡ (word_at m 0x0202) → Stops m r first past 0xF002 (reg r 4)
-pop-stops m r first past at g h = stop m r first past at pop_words g 0xF002 8 3 (compared (reg r 1) (word_at m 0x0202) (reg r 2)) (reg r 4) (reg r 2) refl (omega arith) (omega arith) refl (omega arith) (compared-small _ _ (reg r 2) (g.context.small 2)) (g.context.small 4) refl (two m r first past at pop_words g (instr_of (Branches 0xF002)) 8 0x4030 0xF002 g.words.1.1.1.1.0 g.words.1.1.1.1.1.0 (omega arith) (first-branches 0xF002) refl)
+pop-stops m r first past at g h = stop m r first past at pop_words g 0xF002 8 3 (compared (reg r 1) (word_at m 0x0202) (reg r 2)) (reg r 4) (reg r 2) refl (omega arith) (omega arith) refl (omega arith) (compared-small _ _ (reg r 2) (g.context.small 2)) (compared-flagged (reg r 1) (word_at m 0x0202) (reg r 2) (reg r 2) (same-self (reg r 2))) (g.context.small 4) refl (two m r first past at pop_words g (instr_of (Branches 0xF002)) 8 0x4030 0xF002 g.words.1.1.1.1.0 g.words.1.1.1.1.1.0 (omega arith) (first-branches 0xF002) refl)
     (start m r first past at pop_words g 3 (held r (at + 8) (compared (reg r 1) (word_at m 0x0202) (reg r 2)) (reg r 4) (reg r 2))
     (line m r first past at pop_words g Saves 0 2 2 (reg r 2) (reg r 4) (reg r 5) (held r (at + 8) (compared (reg r 1) (word_at m 0x0202) (reg r 2)) (reg r 4) (reg r 2)) tt refl (omega arith) (omega arith) (omega arith) (g.context.small 2) (g.context.small 4) (g.context.small 5)
     (one m r first past at pop_words g (instr_of Saves) 0 0x4205 g.words.0 first-saves refl) (omega arith)
@@ -196,7 +197,7 @@ sp-passes m r first past at g h z = start m r first past at sp_words g 6 (held r
     (Stays _)))))))
 
 sp-below : (m r : List ℕ) (first past at : ℕ) → IsAtGuard m r first past at sp_words → reg r 4 < (word_at m 0x0200) → Stops m r first past 0xF002 (reg r 4)
-sp-below m r first past at g h = stop m r first past at sp_words g 0xF002 14 3 (compared (word_at m 0x0200) (reg r 4) (reg r 2)) (reg r 4) (reg r 2) refl (omega arith) (omega arith) refl (omega arith) (compared-small (word_at m 0x0200) (reg r 4) (reg r 2) (g.context.small 2)) (g.context.small 4) refl (two m r first past at sp_words g (instr_of (Branches 0xF002)) 14 0x4030 0xF002 g.words.1.1.1.1.1.1.1.0 g.words.1.1.1.1.1.1.1.1.0 (omega arith) (first-branches 0xF002) refl)
+sp-below m r first past at g h = stop m r first past at sp_words g 0xF002 14 3 (compared (word_at m 0x0200) (reg r 4) (reg r 2)) (reg r 4) (reg r 2) refl (omega arith) (omega arith) refl (omega arith) (compared-small (word_at m 0x0200) (reg r 4) (reg r 2) (g.context.small 2)) (compared-flagged (word_at m 0x0200) (reg r 4) (reg r 2) (reg r 2) (same-self (reg r 2))) (g.context.small 4) refl (two m r first past at sp_words g (instr_of (Branches 0xF002)) 14 0x4030 0xF002 g.words.1.1.1.1.1.1.1.0 g.words.1.1.1.1.1.1.1.1.0 (omega arith) (first-branches 0xF002) refl)
     (start m r first past at sp_words g 3 (held r (at + 14) (compared (word_at m 0x0200) (reg r 4) (reg r 2)) (reg r 4) (reg r 2))
     (line m r first past at sp_words g Saves 0 2 2 (reg r 2) (reg r 4) (reg r 5) (held r (at + 14) (compared (word_at m 0x0200) (reg r 4) (reg r 2)) (reg r 4) (reg r 2)) tt refl (omega arith) (omega arith) (omega arith) (g.context.small 2) (g.context.small 4) (g.context.small 5)
     (one m r first past at sp_words g (instr_of Saves) 0 0x4205 g.words.0 first-saves refl) (omega arith)
@@ -207,7 +208,7 @@ sp-below m r first past at g h = stop m r first past at sp_words g 0xF002 14 3 (
     (Stays _)))))
 
 sp-above : (m r : List ℕ) (first past at : ℕ) → IsAtGuard m r first past at sp_words → (word_at m 0x0200) ≤ reg r 4 → (word_at m 0x0202) < reg r 4 → Stops m r first past 0xF002 (reg r 4)
-sp-above m r first past at g h z = stop m r first past at sp_words g 0xF002 14 5 (compared (reg r 4) (word_at m 0x0202) (compared (word_at m 0x0200) (reg r 4) (reg r 2))) (reg r 4) (reg r 2) refl (omega arith) (omega arith) refl (omega arith) (compared-small (reg r 4) (word_at m 0x0202) (compared (word_at m 0x0200) (reg r 4) (reg r 2)) (compared-small (word_at m 0x0200) (reg r 4) (reg r 2) (g.context.small 2))) (g.context.small 4) refl (two m r first past at sp_words g (instr_of (Branches 0xF002)) 14 0x4030 0xF002 g.words.1.1.1.1.1.1.1.0 g.words.1.1.1.1.1.1.1.1.0 (omega arith) (first-branches 0xF002) refl)
+sp-above m r first past at g h z = stop m r first past at sp_words g 0xF002 14 5 (compared (reg r 4) (word_at m 0x0202) (compared (word_at m 0x0200) (reg r 4) (reg r 2))) (reg r 4) (reg r 2) refl (omega arith) (omega arith) refl (omega arith) (compared-small (reg r 4) (word_at m 0x0202) (compared (word_at m 0x0200) (reg r 4) (reg r 2)) (compared-small (word_at m 0x0200) (reg r 4) (reg r 2) (g.context.small 2))) (compared-flagged (reg r 4) (word_at m 0x0202) (compared (word_at m 0x0200) (reg r 4) (reg r 2)) (reg r 2) (compared-same (word_at m 0x0200) (reg r 4) (reg r 2) (reg r 2) (same-self (reg r 2)))) (g.context.small 4) refl (two m r first past at sp_words g (instr_of (Branches 0xF002)) 14 0x4030 0xF002 g.words.1.1.1.1.1.1.1.0 g.words.1.1.1.1.1.1.1.1.0 (omega arith) (first-branches 0xF002) refl)
     (start m r first past at sp_words g 5 (held r (at + 14) (compared (reg r 4) (word_at m 0x0202) (compared (word_at m 0x0200) (reg r 4) (reg r 2))) (reg r 4) (reg r 2))
     (line m r first past at sp_words g Saves 0 2 4 (reg r 2) (reg r 4) (reg r 5) (held r (at + 14) (compared (reg r 4) (word_at m 0x0202) (compared (word_at m 0x0200) (reg r 4) (reg r 2))) (reg r 4) (reg r 2)) tt refl (omega arith) (omega arith) (omega arith) (g.context.small 2) (g.context.small 4) (g.context.small 5)
     (one m r first past at sp_words g (instr_of Saves) 0 0x4205 g.words.0 first-saves refl) (omega arith)

@@ -13,7 +13,7 @@ use Rattle.msp_encode.specs.declared.instr.Instr.TheVariants as instr
 use Rattle.unit_laws.specs.Running.{held, silent, IsInside, Runs, Stays, RunsUnit}
 use Rattle.unit_laws.specs.Lines.{Jumps, Branches, pc_after}
 use Rattle.unit_laws.specs.Frame.{spread, spread_effect}
-use Rattle.unit_laws.specs.Rows.{ended, branch, IsAtFirst, OwnLaw, BranchLaw, JumpLaw}
+use Rattle.unit_laws.specs.Rows.{ended, branch, IsAtFirst, OwnUnitLaw, BranchUnitLaw, JumpUnitLaw}
 use Rattle.unit_laws.proofs.Lines.{line-does}
 use Rattle.unit_laws.proofs.Contexts.{as_held, held-context, line-runs, jump-taken, jump-passed}
 
@@ -29,7 +29,7 @@ spread-again r = ap (λ (q : List ℕ). set q 5 (reg r 5)) (set-get_or r 4 0) �
 effect-again : (e : Effect) → spread_effect e (reg e.context 4) (reg e.context 5) ≡ e
 effect-again e = ap (λ (c : List ℕ). record { context = c; written = e.written }) (spread-again e.context)
 
-pub own-ends : OwnLaw
+pub own-ends : OwnUnitLaw
 own-ends m r first past i n g f e out =
     let same : set_reg r 0 (past - 2 * n) ≡ r = pc-again r (past - 2 * n) g.context (omega (arith, e, g.pc)) in
     let o = ended past m r i n in
@@ -84,7 +84,7 @@ ends-alone m r first past k pc n x i h e f d rest out = subst (λ (q : List ℕ)
 branch-does : (m r : List ℕ) (pc x : ℕ) → IsContext r → pc % 2 ≡ 0 → pc < 65536 → x % 2 ≡ 0 → x < 65536 → does m (standing r pc) (branch x) 2 ≡ silent (standing r x)
 branch-does m r pc x h e b t l = line-does (Branches x) m r pc (reg r 2) (reg r 4) (reg r 5) h (standing-context r pc h e b) t l
 
-pub branch-alone : BranchLaw
+pub branch-alone : BranchUnitLaw
 branch-alone m r first past x g f e t l out =
     let even_first : first % 2 ≡ 0 = omega (arith, g.pc, g.context.pc_even) in
     let does_it = branch-does m r first x g.context even_first (omega (arith, g.below, e)) t l in
@@ -100,7 +100,7 @@ jump-leads m r first past p c g f e q a b =
     (line-runs (Jumps c 1) m r first past 0 first p (reg r 2) (reg r 4) (reg r 5) (standing r p) h tt (omega (arith, g.pc, h.pc_even)) (h.small 2) (h.small 4) (h.small 5)
     f q a b (omega (arith, e)) (omega (arith, g.below)) (Stays (standing r p)))
 
-pub jump-alone : JumpLaw
+pub jump-alone : JumpUnitLaw
 jump-alone m r first past x c g f over go e t l out = by (holds c (reg r 2)) refl
   where
     even_first : first % 2 ≡ 0

@@ -18,13 +18,14 @@ use Rattle.msp_encode.specs.declared.instr.Instr.TheVariants as instr
 use Rattle.unit_laws.specs.Running.{held, IsInside, Runs, Stays, RunsUnit}
 use Rattle.unit_laws.specs.Guards.{pop_words}
 use Rattle.unit_laws.specs.Frame.{DstAvoids, spread, spread_effect}
-use Rattle.unit_laws.specs.Rows.{DstFree, IsAtFirst, ended, PopIntoLaw}
+use Rattle.unit_laws.specs.Rows.{DstFree, IsAtFirst, ended, PopIntoUnitLaw}
 use Rattle.unit_laws.proofs.Running.{follow}
 use Rattle.unit_laws.proofs.Frame.{spread-reg, none, place-spread, place-avoids, value-spread, two_from, from-spread}
 use Rattle.unit_laws.proofs.Guarded.{reg-other}
 use Rattle.unit_laws.proofs.Guards.{pop-ends}
 use Rattle.unit_laws.proofs.IntoR4.{after-held, passed-held, moves}
-use Rattle.unit_laws.proofs.ComputedUnits.{first-even, guard-first, halted, set-held, popped-fits, popped-free}
+use Rattle.unit_laws.proofs.GuardedUnits.{stopped}
+use Rattle.unit_laws.proofs.ComputedUnits.{first-even, guard-first, set-held, popped-fits, popped-free}
 
 -- ---- an operation from its source on
 
@@ -136,7 +137,7 @@ pops-end m r first past at n op w d y h a e g fetched =
     outside : {p : ℕ} → p ≡ past → IsInside first past p → ⊥
     outside q i = omega (arith, q, i.1)
 
-pub pop-into-unit : PopIntoLaw
+pub pop-into-unit : PopIntoUnitLaw
 pop-into-unit m r first past op w d n h words popped fetched e some a =
     let even-first = first-even m r first past h in
     let v = source_value Wide (src.AutoInc 1) 0 m r in
@@ -147,5 +148,5 @@ pop-into-unit m r first past op w d n h words popped fetched e some a =
     let unit = pops-end m r first past (first + 16) n op w d (reg r 2) h a (omega (arith, even-first)) (omega (arith, e)) fetched in
     record {
       goes = λ p. record { x = v; y = reg r 2; runs = follow m first past 4 r c _ (guard.passes p) (follow m first past 1 c q _ run unit) };
-      halts = λ p. halted m r r first past 0 0xF002 (reg r 4) (Stays r) (guard.stops p);
+      halts = λ p. stopped m r first past 0xF002 (reg r 4) (guard.stops p);
     }

@@ -16,10 +16,11 @@ use Rattle.msp_encode.specs.Spelling.{SrcFits}
 use Rattle.unit_laws.specs.Running.{held, silent, IsInside, Runs, RunsUnit}
 use Rattle.unit_laws.specs.Frame.{spread_effect}
 use Rattle.unit_laws.specs.Guarded.{Steps}
-use Rattle.unit_laws.specs.Rows.{SrcFree, IsAtFirst, take_sp, give_sp, ended, new_sp, SetSpLaw}
+use Rattle.unit_laws.specs.Rows.{SrcFree, IsAtFirst, take_sp, give_sp, ended, new_sp, SetSpUnitLaw}
 use Rattle.unit_laws.proofs.Running.{join, follow}
 use Rattle.unit_laws.proofs.Contexts.{as_held, held-context}
 use Rattle.unit_laws.proofs.Guarded.{after-other}
+use Rattle.unit_laws.proofs.Flags.{operation-same}
 use Rattle.unit_laws.proofs.Guards.{sp-ends}
 use Rattle.unit_laws.proofs.Sizes.{source-small, result-small, status-small, after-context}
 use Rattle.unit_laws.proofs.IntoR4.{to-register, moves, operates}
@@ -81,7 +82,7 @@ sets-end m r c first past at n k op w s h t f a steps e g b fetched run =
     outside : IsInside first past past → ⊥
     outside i = omega (arith, i.1)
 
-pub set-sp-unit : SetSpLaw
+pub set-sp-unit : SetSpUnitLaw
 set-sp-unit m r first past op w s n h taken fetched some words given e t f a steps =
     let even-first = first-even m r first past h in
     let b = after_source w s r in
@@ -100,5 +101,5 @@ set-sp-unit m r first past op w s n h taken fetched some words given e t f a ste
     let give : IsFetched m (at + 20) give_sp 1 = subst (λ (p : ℕ). IsFetched m p give_sp 1) (omega arith) given in
     record {
       goes = λ p. record { x = v; y = sr; runs = follow m first past 2 r q _ run (sets-end m r q first past (at + 20) n 6 op w s h t f a steps (omega (arith, even-first)) (omega (arith, e)) (omega (arith, e)) give (guard.passes p.0 p.1)) };
-      halts = λ p. halted m r q first past 2 0xF002 v run (guard.stops p);
+      halts = λ p. halted m r b first past 2 at sr v (reg r 5) 0xF002 v (operation-same op w (source_value w s 0 m r) (low w (reg r 1)) (reg r 2)) run (guard.stops p);
     }

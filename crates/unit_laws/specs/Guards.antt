@@ -3,6 +3,7 @@ use Rattle.std.specs.Prelude.{◌≡◌, ◌≢◌, ℕ, ◌+◌, ◌*◌, ◌<�
 use Rattle.machine_model.specs.Memory.{word_at, IsMemory}
 use Rattle.machine_model.specs.Context.{reg, IsContext}
 use Rattle.machine_model.specs.Operands.{sum_of}
+use Rattle.machine_model.specs.Status.{Flags, with_flags}
 use Rattle.unit_laws.specs.Running.{held, silent, Runs, RunsUnit}
 use Rattle.unit_laws.specs.Lines.{IsIndexed}
 
@@ -45,10 +46,10 @@ pub record IsAtGuard (m r : List ℕ) (first past at : ℕ) (ws : List ℕ) : Ty
 abbrev pub Passes : (m r : List ℕ) → (first past steps next x : ℕ) → Type 0
 Passes m r first past steps next x = Runs m first past steps r (held r next (reg r 2) x (reg r 2))
 
--- The run ends at an entry, and nothing was written. Flags in SR are free.
+-- The run ends at an entry, and nothing was written. R4 has x and R5 the status as it was; of SR the four flags are free
 pub record Stops (m r : List ℕ) (first past entry x : ℕ) : Type 0 where
-  pub status : ℕ
-  pub ends : RunsUnit m first past r (silent (held r entry status x (reg r 2)))
+  pub flags : Flags
+  pub ends : RunsUnit m first past r (silent (held r entry (with_flags (reg r 2) flags.c flags.z flags.n flags.v) x (reg r 2)))
 
 -- the address a was tested
 pub record StoreEnds (m r : List ℕ) (first past at lo hi a : ℕ) : Type 0 where

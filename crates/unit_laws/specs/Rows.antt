@@ -1,8 +1,9 @@
 -- Where a run of each unit ends, over numbers: the rows of the unit table.
-use Rattle.std.specs.Prelude.{◌≡◌, ◌≢◌, ℕ, ◌+◌, ◌-◌, ◌*◌, ◌%◌, ◌<◌, ◌≤◌, ◌⊎◌, true, List, [], pos, if◌then◌else◌}
+use Rattle.std.specs.Prelude.{◌≡◌, ◌≢◌, ℕ, ◌+◌, ◌-◌, ◌*◌, ◌%◌, ◌<◌, ◌≤◌, ◌⊎◌, true, List, pos, if◌then◌else◌}
 use Rattle.machine_model.specs.Memory.{word_at, even, IsMemory}
 use Rattle.machine_model.specs.Context.{reg, set_reg, IsContext}
-use Rattle.machine_model.specs.Operands.{sum_of, low, source_value}
+use Rattle.machine_model.specs.Operands.{sum_of, low, source_value, after_source}
+use Rattle.machine_model.specs.Status.{Flags, with_flags}
 use Rattle.machine_model.specs.Alu.{alu, writes, changes}
 use Rattle.machine_model.specs.Does.{does, Effect, holds}
 use Rattle.machine_model.specs.Fetching.{IsFetched}
@@ -21,7 +22,7 @@ use Rattle.msp_encode.specs.declared.instr.Dst.TheVariants as dst
 use Rattle.msp_encode.specs.declared.instr.Instr.{Instr}
 use Rattle.msp_encode.specs.declared.instr.Instr.TheVariants as instr
 use Rattle.msp_encode.specs.Spelling.{SrcFits}
-use Rattle.unit_laws.specs.Running.{silent, IsInside, RunsUnit}
+use Rattle.unit_laws.specs.Running.{held, silent, IsInside, RunsUnit}
 use Rattle.unit_laws.specs.Lines.{IsIndexed}
 use Rattle.unit_laws.specs.Guards.{WordsAt, store_words, growth_words, pop_words, sp_words}
 use Rattle.unit_laws.specs.Frame.{Avoids, InstrAvoids, spread_effect}
@@ -82,17 +83,17 @@ pub record Hands (m r : List ℕ) (first past : ℕ) (e : Effect) (entry target 
   pub y : ℕ
   pub runs : RunsUnit m first past r (spread_effect (entering e entry) target y)
 
--- PC is at an entry, and nothing was written
-pub record Halts (m r : List ℕ) (first past entry : ℕ) : Type 0 where
-  pub effect : Effect
-  pub runs : RunsUnit m first past r effect
-  pub pc : reg effect.context 0 ≡ entry
-  pub written : effect.written ≡ []
+-- PC is at an entry, and nothing was written. R4, R5 and the four flags of SR are free, and all else is as in a context
+pub record Halts (m r : List ℕ) (first past entry : ℕ) (q : List ℕ) : Type 0 where
+  pub x : ℕ
+  pub y : ℕ
+  pub flags : Flags
+  pub runs : RunsUnit m first past r (silent (held q entry (with_flags (reg r 2) flags.c flags.z flags.n flags.v) x y))
 
 -- the unit halts where its check fails
-pub record Checked (m r : List ℕ) (first past entry : ℕ) (Passes Fails End : Type 0) : Type 0 where
+pub record Checked (m r : List ℕ) (first past entry : ℕ) (q : List ℕ) (Passes Fails End : Type 0) : Type 0 where
   pub goes : Passes → End
-  pub halts : Fails → Halts m r first past entry
+  pub halts : Fails → Halts m r first past entry q
 
 -- ---- where a unit stands
 
@@ -132,24 +133,24 @@ GoesToLaw = (m r : List ℕ) (x : ℕ) → IsContext r → x < 65536 → GoesTo 
 -- ---- units without a check
 
 -- an instruction of its own
-abbrev pub OwnLaw : Type 0
-OwnLaw = (m r : List ℕ) (first past : ℕ) (i : Instr) (n : ℕ) → IsAtFirst m r first past → IsFetched m first i n → past ≡ first + 2 * n
+abbrev pub OwnUnitLaw : Type 0
+OwnUnitLaw = (m r : List ℕ) (first past : ℕ) (i : Instr) (n : ℕ) → IsAtFirst m r first past → IsFetched m first i n → past ≡ first + 2 * n
     → (IsInside first past (reg (ended past m r i n).context 0) → ⊥) → Follows m r first past (ended past m r i n)
 
 -- a branch
-abbrev pub BranchLaw : Type 0
-BranchLaw = (m r : List ℕ) (first past x : ℕ) → IsAtFirst m r first past → IsFetched m first (branch x) 2 → past ≡ first + 4 → x % 2 ≡ 0 → x < 65536
+abbrev pub BranchUnitLaw : Type 0
+BranchUnitLaw = (m r : List ℕ) (first past x : ℕ) → IsAtFirst m r first past → IsFetched m first (branch x) 2 → past ≡ first + 4 → x % 2 ≡ 0 → x < 65536
     → (IsInside first past x → ⊥) → RunsUnit m first past r (silent (set_reg r 0 x))
 
 -- a jump over a branch
-abbrev pub JumpLaw : Type 0
-JumpLaw = (m r : List ℕ) (first past x : ℕ) (c : Cond) → IsAtFirst m r first past → IsFetched m first (instr.Jump c (pos 1)) 1 → IsFetched m (first + 2) (instr.Jump Always (pos 2)) 1
+abbrev pub JumpUnitLaw : Type 0
+JumpUnitLaw = (m r : List ℕ) (first past x : ℕ) (c : Cond) → IsAtFirst m r first past → IsFetched m first (instr.Jump c (pos 1)) 1 → IsFetched m (first + 2) (instr.Jump Always (pos 2)) 1
     → IsFetched m (first + 4) (branch x) 2 → past ≡ first + 8 → x % 2 ≡ 0 → x < 65536 → (IsInside first past x → ⊥)
     → RunsUnit m first past r (silent (set_reg r 0 (if holds c (reg r 2) then x else past)))
 
 -- a computed jump
-abbrev pub ComputedLaw : Type 0
-ComputedLaw = (m r : List ℕ) (first past : ℕ) (s : Src) (n : ℕ) → IsAtFirst m r first past → IsFetched m first (instr.Two Mov Wide s (dst.Reg 4)) n → IsFetched m (first + 2 * n) (branch 0xF004) 2
+abbrev pub ComputedUnitLaw : Type 0
+ComputedUnitLaw = (m r : List ℕ) (first past : ℕ) (s : Src) (n : ℕ) → IsAtFirst m r first past → IsFetched m first (instr.Two Mov Wide s (dst.Reg 4)) n → IsFetched m (first + 2 * n) (branch 0xF004) 2
     → past ≡ first + (4 + 2 * n) → SrcFits s → SrcFree s → Hands m r first past (ended past m r (instr.Two Mov Wide s (dst.Reg 0)) n) 0xF004 (source_value Wide s 0 m r)
 
 -- ---- a store guard
@@ -171,49 +172,49 @@ pub record IsAtStore (m r : List ℕ) (first past n x lo hi : ℕ) : Type 0 wher
   pub hi_word : hi < 65536
 
 -- `op src,x(Rn)`
-abbrev pub StoreLaw : Type 0
-StoreLaw = (m r : List ℕ) (first past n x lo hi : ℕ) (op : Op2) (w : Width) (s : Src) (d : Dst) (k : ℕ) → IsAtStore m r first past n x lo hi
+abbrev pub StoreUnitLaw : Type 0
+StoreUnitLaw = (m r : List ℕ) (first past n x lo hi : ℕ) (op : Op2) (w : Width) (s : Src) (d : Dst) (k : ℕ) → IsAtStore m r first past n x lo hi
     → IsFetched m (first + 26) (instr.Two op w s (dst.Indexed 4 0)) k → past ≡ first + (26 + 2 * k) → SrcFree s → IsCell d n x → (Steps s n → ⊥)
-    → Checked m r first past 0xF000 (IsIn lo hi (sum_of x (reg r n))) (IsOut lo hi (sum_of x (reg r n))) (Follows m r first past (ended past m r (instr.Two op w s d) k))
+    → Checked m r first past 0xF000 r (IsIn lo hi (sum_of x (reg r n))) (IsOut lo hi (sum_of x (reg r n))) (Follows m r first past (ended past m r (instr.Two op w s d) k))
 
 -- RRC, RRA, SWPB and SXT
-abbrev pub ChangeLaw : Type 0
-ChangeLaw = (m r : List ℕ) (first past n x lo hi : ℕ) (op : Op1) (w : Width) (s : Src) (k : ℕ) → IsAtStore m r first past n x lo hi
+abbrev pub ChangeUnitLaw : Type 0
+ChangeUnitLaw = (m r : List ℕ) (first past n x lo hi : ℕ) (op : Op1) (w : Width) (s : Src) (k : ℕ) → IsAtStore m r first past n x lo hi
     → IsFetched m (first + 26) (instr.One op w (src.Indirect 4)) 1 → past ≡ first + 28 → changes op ≡ true → IsCellOperand s n x → 1 ≤ k → k ≤ 2
-    → Checked m r first past 0xF000 (IsIn lo hi (sum_of x (reg r n))) (IsOut lo hi (sum_of x (reg r n))) (Follows m r first past (ended past m r (instr.One op w s) k))
+    → Checked m r first past 0xF000 r (IsIn lo hi (sum_of x (reg r n))) (IsOut lo hi (sum_of x (reg r n))) (Follows m r first past (ended past m r (instr.One op w s) k))
 
 -- ---- a growth guard
 
 -- PUSH, and CALL of a place
-abbrev pub GrowthLaw : Type 0
-GrowthLaw = (m r : List ℕ) (first past : ℕ) (i : Instr) (n : ℕ) → IsAtFirst m r first past → WordsAt m first 0 growth_words → IsFetched m (first + 14) i n → past ≡ first + (14 + 2 * n) → 1 ≤ n
+abbrev pub GrowthUnitLaw : Type 0
+GrowthUnitLaw = (m r : List ℕ) (first past : ℕ) (i : Instr) (n : ℕ) → IsAtFirst m r first past → WordsAt m first 0 growth_words → IsFetched m (first + 14) i n → past ≡ first + (14 + 2 * n) → 1 ≤ n
     → InstrAvoids i → (IsInside first past (reg (ended past m r i n).context 0) → ⊥)
-    → Checked m r first past 0xF002 (word_at m 0x0200 ≤ reg r 1) (reg r 1 < word_at m 0x0200) (Follows m r first past (ended past m r i n))
+    → Checked m r first past 0xF002 r (word_at m 0x0200 ≤ reg r 1) (reg r 1 < word_at m 0x0200) (Follows m r first past (ended past m r i n))
 
 -- a computed call
-abbrev pub CalleeLaw : Type 0
-CalleeLaw = (m r : List ℕ) (first past : ℕ) (s : Src) (n : ℕ) → IsAtFirst m r first past → IsFetched m first (instr.Two Mov Wide s (dst.Reg 4)) n → 1 ≤ n → WordsAt m (first + 2 * n) 0 growth_words
+abbrev pub CalleeUnitLaw : Type 0
+CalleeUnitLaw = (m r : List ℕ) (first past : ℕ) (s : Src) (n : ℕ) → IsAtFirst m r first past → IsFetched m first (instr.Two Mov Wide s (dst.Reg 4)) n → 1 ≤ n → WordsAt m (first + 2 * n) 0 growth_words
     → IsFetched m (first + (14 + 2 * n)) (instr.One Call Wide (src.Immediate 0xF006)) 2 → past ≡ first + (18 + 2 * n) → SrcFits s → SrcFree s → (Steps s 1 → ⊥)
-    → Checked m r first past 0xF002 (word_at m 0x0200 ≤ reg r 1) (reg r 1 < word_at m 0x0200) (Hands m r first past (ended past m r (instr.One Call Wide s) n) 0xF006 (source_value Wide s 0 m r))
+    → Checked m r first past 0xF002 (after_source Wide s r) (word_at m 0x0200 ≤ reg r 1) (reg r 1 < word_at m 0x0200) (Hands m r first past (ended past m r (instr.One Call Wide s) n) 0xF006 (source_value Wide s 0 m r))
 
 -- ---- a pop guard
 
 -- `MOV @SP+,Rn` of a word
-abbrev pub PopLaw : Type 0
-PopLaw = (m r : List ℕ) (first past : ℕ) (i : Instr) (n : ℕ) → IsAtFirst m r first past → WordsAt m first 0 pop_words → IsFetched m (first + 14) i n → past ≡ first + (14 + 2 * n) → 1 ≤ n
+abbrev pub PopUnitLaw : Type 0
+PopUnitLaw = (m r : List ℕ) (first past : ℕ) (i : Instr) (n : ℕ) → IsAtFirst m r first past → WordsAt m first 0 pop_words → IsFetched m (first + 14) i n → past ≡ first + (14 + 2 * n) → 1 ≤ n
     → InstrAvoids i → (IsInside first past (reg (ended past m r i n).context 0) → ⊥)
-    → Checked m r first past 0xF002 (reg r 1 ≢ word_at m 0x0202) (reg r 1 ≡ word_at m 0x0202) (Follows m r first past (ended past m r i n))
+    → Checked m r first past 0xF002 r (reg r 1 ≢ word_at m 0x0202) (reg r 1 ≡ word_at m 0x0202) (Follows m r first past (ended past m r i n))
 
 -- `op @SP+,dst` otherwise
-abbrev pub PopIntoLaw : Type 0
-PopIntoLaw = (m r : List ℕ) (first past : ℕ) (op : Op2) (w : Width) (d : Dst) (n : ℕ) → IsAtFirst m r first past → WordsAt m first 0 pop_words → IsFetched m (first + 14) pop_r4 1
+abbrev pub PopIntoUnitLaw : Type 0
+PopIntoUnitLaw = (m r : List ℕ) (first past : ℕ) (op : Op2) (w : Width) (d : Dst) (n : ℕ) → IsAtFirst m r first past → WordsAt m first 0 pop_words → IsFetched m (first + 14) pop_r4 1
     → IsFetched m (first + 16) (instr.Two op w (src.Reg 4) d) n → past ≡ first + (16 + 2 * n) → 1 ≤ n → DstFree d
-    → Checked m r first past 0xF002 (reg r 1 ≢ word_at m 0x0202) (reg r 1 ≡ word_at m 0x0202) (Follows m r first past (ended past m r (instr.Two op w (src.AutoInc 1) d) n))
+    → Checked m r first past 0xF002 r (reg r 1 ≢ word_at m 0x0202) (reg r 1 ≡ word_at m 0x0202) (Follows m r first past (ended past m r (instr.Two op w (src.AutoInc 1) d) n))
 
 -- a return
-abbrev pub ReturnLaw : Type 0
-ReturnLaw = (m r : List ℕ) (first past : ℕ) → IsAtFirst m r first past → WordsAt m first 0 pop_words → IsFetched m (first + 14) pop_r4 1 → IsFetched m (first + 16) (branch 0xF004) 2 → past ≡ first + 20
-    → Checked m r first past 0xF002 (reg r 1 ≢ word_at m 0x0202) (reg r 1 ≡ word_at m 0x0202)
+abbrev pub ReturnUnitLaw : Type 0
+ReturnUnitLaw = (m r : List ℕ) (first past : ℕ) → IsAtFirst m r first past → WordsAt m first 0 pop_words → IsFetched m (first + 14) pop_r4 1 → IsFetched m (first + 16) (branch 0xF004) 2 → past ≡ first + 20
+    → Checked m r first past 0xF002 r (reg r 1 ≢ word_at m 0x0202) (reg r 1 ≡ word_at m 0x0202)
     (Hands m r first past (ended past m r (instr.Two Mov Wide (src.AutoInc 1) (dst.Reg 0)) 1) 0xF004 (source_value Wide (src.AutoInc 1) 0 m r))
 
 -- ---- an SP guard
@@ -230,10 +231,10 @@ abbrev pub IsBeyond : (m : List ℕ) → ℕ → Type 0
 IsBeyond m v = (v < word_at m 0x0200) ⊎ (word_at m 0x0202 < v)
 
 -- `op src,SP`
-abbrev pub SetSpLaw : Type 0
-SetSpLaw = (m r : List ℕ) (first past : ℕ) (op : Op2) (w : Width) (s : Src) (n : ℕ) → IsAtFirst m r first past → IsFetched m first take_sp 1 → IsFetched m (first + 2) (instr.Two op w s (dst.Reg 4)) n → 1 ≤ n
+abbrev pub SetSpUnitLaw : Type 0
+SetSpUnitLaw = (m r : List ℕ) (first past : ℕ) (op : Op2) (w : Width) (s : Src) (n : ℕ) → IsAtFirst m r first past → IsFetched m first take_sp 1 → IsFetched m (first + 2) (instr.Two op w s (dst.Reg 4)) n → 1 ≤ n
     → WordsAt m (first + (2 + 2 * n)) 0 sp_words → IsFetched m (first + (22 + 2 * n)) give_sp 1 → past ≡ first + (24 + 2 * n) → writes op ≡ true → SrcFits s → SrcFree s → (Steps s 1 → ⊥)
-    → Checked m r first past 0xF002 (IsWithin m (new_sp m r op w s)) (IsBeyond m (new_sp m r op w s)) (Follows m r first past (ended past m r (instr.Two op w s (dst.Reg 1)) n))
+    → Checked m r first past 0xF002 (after_source w s r) (IsWithin m (new_sp m r op w s)) (IsBeyond m (new_sp m r op w s)) (Follows m r first past (ended past m r (instr.Two op w s (dst.Reg 1)) n))
 
 -- ---- a context with another PC
 

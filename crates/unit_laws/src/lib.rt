@@ -11,7 +11,7 @@ ghost use Rattle.unit_laws.specs.Guarded.{AtR4Law, GuardedLaw, ThroughLaw};
 ghost use Rattle.unit_laws.specs.Guards.{GrowthGuardLaw, PopGuardLaw, SpGuardLaw, StoreGuardLaw};
 ghost use Rattle.unit_laws.specs.Lines.{ComparedLaw, LineLaw};
 ghost use Rattle.unit_laws.specs.Running.{FollowLaw, JoinLaw, OnceLaw};
-ghost use Rattle.unit_laws.specs.Rows.{BranchLaw, CalleeLaw, ChangeLaw, ComputedLaw, GoesOnLaw, GoesToLaw, GrowthLaw, JumpLaw, OwnLaw, PcMovesLaw, PlaceLaw, PopIntoLaw, PopLaw, ReturnLaw, SetSpLaw, StoreLaw};
+ghost use Rattle.unit_laws.specs.Rows.{BranchUnitLaw, CalleeUnitLaw, ChangeUnitLaw, ComputedUnitLaw, GoesOnLaw, GoesToLaw, GrowthUnitLaw, JumpUnitLaw, OwnUnitLaw, PcMovesLaw, PlaceLaw, PopIntoUnitLaw, PopUnitLaw, ReturnUnitLaw, SetSpUnitLaw, StoreUnitLaw};
 
 use msp_decode::laws::{first_word_decides, one_instruction};
 
@@ -100,62 +100,62 @@ pub fn goes_to()
 
 /// An instruction that is its own unit ends it, with all but R4 and R5 as it leaves them.
 pub fn own_unit_ends()
-    ensures { OwnLaw }
+    ensures { OwnUnitLaw }
 {}
 
 /// A branch that is a unit changes PC alone.
 pub fn branch_unit_ends()
-    ensures { BranchLaw }
+    ensures { BranchUnitLaw }
 {}
 
 /// A jump over a branch changes PC alone: it leads to the branch's target where the condition holds, and behind the unit elsewhere.
 pub fn jump_unit_ends()
-    ensures { JumpLaw }
+    ensures { JumpUnitLaw }
 {}
 
 /// A computed jump ends at F004 with its target in R4.
 pub fn computed_unit_ends()
-    ensures { ComputedLaw }
+    ensures { ComputedUnitLaw }
 {}
 
 /// A guarded operation on memory does what the source's does where its address is in the region, and ends at F000 elsewhere.
 pub fn store_unit_ends()
-    ensures { StoreLaw }
+    ensures { StoreUnitLaw }
 {}
 
 /// So does a guarded RRC, RRA, SWPB or SXT.
 pub fn change_unit_ends()
-    ensures { ChangeLaw }
+    ensures { ChangeUnitLaw }
 {}
 
 /// A guarded PUSH or CALL of a place does what the source's does where SP is at least the current limit, and ends at F002 elsewhere.
 pub fn growth_unit_ends()
-    ensures { GrowthLaw }
+    ensures { GrowthUnitLaw }
 {}
 
 /// A guarded computed call ends at F006 with its target in R4 where SP is at least the current limit, and at F002 elsewhere.
 pub fn callee_unit_ends()
-    ensures { CalleeLaw }
+    ensures { CalleeUnitLaw }
 {}
 
 /// A guarded pop does what the source's does where SP isn't the current top, and ends at F002 elsewhere.
 pub fn pop_unit_ends()
-    ensures { PopLaw }
+    ensures { PopUnitLaw }
 {}
 
 /// So does a guarded pop by way of R4.
 pub fn pop_into_unit_ends()
-    ensures { PopIntoLaw }
+    ensures { PopIntoUnitLaw }
 {}
 
 /// A guarded return ends at F004 with its target in R4 where SP isn't the current top, and at F002 elsewhere.
 pub fn return_unit_ends()
-    ensures { ReturnLaw }
+    ensures { ReturnUnitLaw }
 {}
 
 /// A guarded operation on SP does what the source's does where the result is from the current limit to the current top, and ends at F002 elsewhere.
 pub fn set_sp_unit_ends()
-    ensures { SetSpLaw }
+    ensures { SetSpUnitLaw }
 {}
 
 /// Where an instruction that goes on stands doesn't show in what it does, but for PC.
