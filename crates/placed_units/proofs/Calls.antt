@@ -11,6 +11,7 @@ use Rattle.msp_encode.specs.declared.instr.Instr.{Instr}
 use Rattle.msp_encode.specs.declared.instr.Instr.TheVariants as instr
 use Rattle.msp_encode.specs.Spelling.{TakesWidth}
 use Rattle.machine_model.specs.Context.{reg}
+use Rattle.machine_model.specs.Operands.{after_source}
 use Rattle.machine_model.specs.Alu.{changes}
 use Rattle.machine_model.specs.Does.{Effect}
 use Rattle.object_form.specs.declared.object.Object.{Object}
@@ -29,7 +30,7 @@ use Rattle.placed_units.specs.Given.{RowLaws}
 use Rattle.placed_units.proofs.Pieces.{Stands}
 use Rattle.placed_units.proofs.Clean.{IsOneLine, one-fits}
 use Rattle.placed_units.proofs.Targets.{call-target}
-use Rattle.placed_units.proofs.Results.{Result, leads-behind, goes-behind}
+use Rattle.placed_units.proofs.Results.{Result, Row, leads-behind, goes-behind}
 use Rattle.placed_units.proofs.Landing.{IsGoal, start-word, entry-word, call-leads}
 use Rattle.placed_units.proofs.WritingRows.{indexed}
 use Rattle.placed_units.proofs.OneUnits.{here, size, source-is, free-source, few, row-own, change-row, growth-row, callee-row}
@@ -41,7 +42,7 @@ module _ (g : RowLaws) (o : Object) (d : Domain) (low top : ℕ) (m r : List ℕ
   abbrev past : ℕ
   past = unit_behind o d l
 
-  push-row : (s : Src) → IsOneLine o l Push w s → Stands o d m first past (guard_piece.growth_guard ++ own l ∷ []) → Result o d low top m r l OfGrowth None
+  push-row : (s : Src) → IsOneLine o l Push w s → Stands o d m first past (guard_piece.growth_guard ++ own l ∷ []) → Result o d low top m r l OfGrowth r None
   push-row s is h =
       let source = here g o d low top m r l a st Push w s is in
       let n = size g o d low top m r l a st Push w s is in
@@ -76,7 +77,7 @@ module _ (g : RowLaws) (o : Object) (d : Domain) (low top : ℕ) (m r : List ℕ
         by Wide q = refl
         by Byte q = absurd q
 
-    place-row : Stands o d m first past (guard_piece.growth_guard ++ own l ∷ []) → Result o d low top m r l OfGrowth None
+    place-row : Stands o d m first past (guard_piece.growth_guard ++ own l ∷ []) → Result o d low top m r l OfGrowth r None
     place-row h =
         let source = here g o d low top m r l a st Call w (src.Immediate x) is in
         let does = source-is g o d low top m r l a st Call w (src.Immediate x) is in
@@ -85,7 +86,8 @@ module _ (g : RowLaws) (o : Object) (d : Domain) (low top : ℕ) (m r : List ℕ
         (λ z f e. record { follows = subst (Follows m r first past) (e ∙ sym does) f; lands = subst (Lands o d l) (sym (ap (λ (y : Effect). reg y.context 0) does ∙ there)) goal.lands })
         (λ i. goal.outside (subst (λ (p : ℕ). (first < p) × (p < past)) there i)) h
 
-  call-row : (s : Src) → IsOneLine o l Call w s → Stands o d m first past (calling s (own l)) → Result o d low top m r l OfGrowth (handed (instr.One Call w s))
+  call-row : (s : Src) → IsOneLine o l Call w s → Stands o d m first past (calling s (own l)) → Row o d low top m r l OfGrowth (instr.One Call w s) (handed (instr.One Call w s))
+  unfolding after_source
   call-row (src.Immediate x) is h = place-row x is h
   call-row (src.Reg n) is h = callee-row g o d low top m r l a st Call w (src.Reg n) is refl h
   call-row (src.Indexed n x) is h = callee-row g o d low top m r l a st Call w (src.Indexed n x) is refl h
@@ -98,7 +100,7 @@ module _ (g : RowLaws) (o : Object) (d : Domain) (low top : ℕ) (m r : List ℕ
   -- ---- operations that change their operand
 
   changing-row : (bytes : ℕ) (op : Op1) (s : Src) → changes op ≡ true → IsOneLine o l op w s → Stands o d m first past (changing op w (own l) (aim_one bytes s (own l).source))
-      → Result o d low top m r l (check_of_operand (aim_one bytes s (own l).source)) None
+      → Row o d low top m r l (check_of_operand (aim_one bytes s (own l).source)) (instr.One op w s) None
   changing-row bytes op (src.Reg n) e is h = inr ((λ q. q), row-own g o d low top m r l a st op w (src.Reg n) is e h)
   changing-row bytes op (src.Indexed n x) e is h =
       let fits = (one-fits o l op w (src.Indexed n x) is).0 in
@@ -107,7 +109,7 @@ module _ (g : RowLaws) (o : Object) (d : Domain) (low top : ℕ) (m r : List ℕ
   changing-row bytes op (src.Symbolic x) e is h = inr ((λ q. q), row-own g o d low top m r l a st op w (src.Symbolic x) is e h)
   changing-row bytes op (src.Absolute x) e is h = by (is_static bytes x (own l).source) h
     where
-      by : (b : Bool) → Stands o d m first past (changing op w (own l) (if b then Elsewhere else ToMemory 3 x (own l).source)) → Result o d low top m r l (check_of_operand (if b then Elsewhere else ToMemory 3 x (own l).source)) None
+      by : (b : Bool) → Stands o d m first past (changing op w (own l) (if b then Elsewhere else ToMemory 3 x (own l).source)) → Row o d low top m r l (check_of_operand (if b then Elsewhere else ToMemory 3 x (own l).source)) (instr.One op w (src.Absolute x)) None
       by true k = inr ((λ q. q), row-own g o d low top m r l a st op w (src.Absolute x) is e k)
       by false k = change-row g o d low top m r l a st op w (src.Absolute x) is 3 x (own l).source e (inr (inl refl)) (refl, refl) k
   changing-row bytes op (src.Indirect n) e is h =
@@ -118,7 +120,7 @@ module _ (g : RowLaws) (o : Object) (d : Domain) (low top : ℕ) (m r : List ℕ
   changing-row bytes op (src.Immediate x) e is h = inr ((λ q. q), row-own g o d low top m r l a st op w (src.Immediate x) is e h)
   changing-row bytes op (src.Const c) e is h = inr ((λ q. q), row-own g o d low top m r l a st op w (src.Const c) is e h)
 
-  pub one-row : (bytes : ℕ) (op : Op1) (s : Src) → IsOneLine o l op w s → Stands o d m first past (one_unit bytes op w s (own l)) → Result o d low top m r l (check_of_one bytes op s (own l)) (handed (instr.One op w s))
+  pub one-row : (bytes : ℕ) (op : Op1) (s : Src) → IsOneLine o l op w s → Stands o d m first past (one_unit bytes op w s (own l)) → Row o d low top m r l (check_of_one bytes op s (own l)) (instr.One op w s) (handed (instr.One op w s))
   one-row bytes Rrc s is h = changing-row bytes Rrc s refl is h
   one-row bytes Swpb s is h = changing-row bytes Swpb s refl is h
   one-row bytes Rra s is h = changing-row bytes Rra s refl is h

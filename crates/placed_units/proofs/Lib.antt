@@ -15,3 +15,4 @@ pub mod Calls
 pub mod Jumps
 pub mod Ending
 pub mod Worked
+pub mod Anywhere

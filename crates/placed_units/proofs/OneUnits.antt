@@ -14,7 +14,7 @@ use Rattle.std.proofs.lemmas.List.{length-append}
 use Rattle.msp_encode.specs.Spelling.{InstrFits, TakesWidth, src_words}
 use Rattle.machine_model.specs.Memory.{word_at}
 use Rattle.machine_model.specs.Context.{reg}
-use Rattle.machine_model.specs.Operands.{sum_of, source_value}
+use Rattle.machine_model.specs.Operands.{sum_of, source_value, after_source}
 use Rattle.machine_model.specs.Alu.{changes}
 use Rattle.machine_model.specs.Does.{Effect}
 use Rattle.machine_model.specs.Fetching.{IsFetched}
@@ -114,7 +114,7 @@ module _ (g : RowLaws) (o : Object) (d : Domain) (low top : ℕ) (m r : List ℕ
 
   -- behind a store guard
   pub change-row : (n x : ℕ) (k : Option RelKind) → changes op ≡ true → IsIndexed n → IsCellOperand s_here n (word_in_place o d x k)
-      → Stands o d m first past (guard_piece.store_guard n x k ++ guard_piece.plain (instr.One op w (src.Indirect 4)) ∷ []) → Result o d low top m r l (OfStore n x k) None
+      → Stands o d m first past (guard_piece.store_guard n x k ++ guard_piece.plain (instr.One op w (src.Indirect 4)) ∷ []) → Result o d low top m r l (OfStore n x k) r None
   unfolding piece_words
   change-row n x k e i cell h =
       let last = guard_piece.plain (instr.One op w (src.Indirect 4)) in
@@ -127,7 +127,7 @@ module _ (g : RowLaws) (o : Object) (d : Domain) (low top : ℕ) (m r : List ℕ
       let v = word_in_place o d x k in
       let at : IsAtStore m r first past n v d.lo d.hi = record { at = at-first g o d low top m r l a st; words = words; register = i; index = omega (arith, words.1.1.1.0, word-small m (first + 6) a.memory); lo_word = lo-word; hi_word = hi-word } in
       let law = g.change m r first past n v d.lo d.hi op w s_here size at f.0 z e cell (omega arith) few in
-      checked g o d low top m r l a st (OfStore n x k) None (IsIn d.lo d.hi (sum_of v (reg r n))) (IsOut d.lo d.hi (sum_of v (reg r n))) (Follows m r first past (ended past m r here size)) law
+      checked g o d low top m r l a st (OfStore n x k) r None (IsIn d.lo d.hi (sum_of v (reg r n))) (IsOut d.lo d.hi (sum_of v (reg r n))) (Follows m r first past (ended past m r here size)) law
       (of-store d.lo d.hi (sum_of v (reg r n))) (λ q. q) (λ q. q) (goes-behind g o d low top m r l a st here size source-is goes (omega (arith, few)))
 
   -- ---- a growth guard
@@ -139,17 +139,17 @@ module _ (g : RowLaws) (o : Object) (d : Domain) (low top : ℕ) (m r : List ℕ
 
   -- behind it the source's own instruction
   pub growth-row : ((z : Effect) → Follows m r first past z → z ≡ ended past m r here size → EndsWell o d m r l) → ((first < reg (ended past m r here size).context 0) × (reg (ended past m r here size).context 0 < past) → ⊥)
-      → Stands o d m first past (guard_piece.growth_guard ++ own l ∷ []) → Result o d low top m r l OfGrowth None
+      → Stands o d m first past (guard_piece.growth_guard ++ own l ∷ []) → Result o d low top m r l OfGrowth r None
   growth-row ends out h =
       let c = guard-words first (own l ∷ []) h in
       let f = own-head (first + 14) [] c.1 in
       let z = end o d m (first + 14 + 2 * size) past f.1 in
       let law = g.growth m r first past here size (at-first g o d low top m r l a st) c.0 f.0 (omega (arith, z)) (omega arith) (src-avoids s_here free-source) out in
-      checked g o d low top m r l a st OfGrowth None (word_at m 0x0200 ≤ reg r 1) (reg r 1 < word_at m 0x0200) (Follows m r first past (ended past m r here size)) law (of-growth (word_at m 0x0200) (reg r 1))
+      checked g o d low top m r l a st OfGrowth r None (word_at m 0x0200 ≤ reg r 1) (reg r 1 < word_at m 0x0200) (Follows m r first past (ended past m r here size)) law (of-growth (word_at m 0x0200) (reg r 1))
       (λ q. omega (arith, q, a.limit)) (λ q. omega (arith, q, a.limit)) (λ q. ends (ended past m r here size) q refl)
 
   -- a computed call
-  pub callee-row : op ≡ Call → Stands o d m first past (calling_value s (own l).source) → Result o d low top m r l OfGrowth (Some (0xF006, s))
+  pub callee-row : op ≡ Call → Stands o d m first past (calling_value s (own l).source) → Result o d low top m r l OfGrowth (after_source Wide s_here r) (Some (0xF006, s))
   unfolding piece_words
   callee-row e h =
       let last = guard_piece.plain (instr.One Call Wide (src.Immediate 0xF006)) in
@@ -165,7 +165,7 @@ module _ (g : RowLaws) (o : Object) (d : Domain) (low top : ℕ) (m r : List ℕ
       (λ q. one-pops-not o l op w s is stacks (steps-pops s 1 (steps-placed o d (own l).source s 1 q))) in
       let wide : w ≡ Wide = call-wide w (subst (λ (p : Op1). InstrFits (instr.One p w s)) e (one-fits o l op w s is)).1 in
       let same : source_does o d m r l ≡ ended past m r (instr.One Call Wide s_here) size = source-is ∙ (λ j. ended past m r (instr.One (e j) (wide j) s_here) size) in
-      checked g o d low top m r l a st OfGrowth (Some (0xF006, s)) (word_at m 0x0200 ≤ reg r 1) (reg r 1 < word_at m 0x0200) (Hands m r first past (ended past m r (instr.One Call Wide s_here) size) 0xF006 (source_value Wide s_here 0 m r)) law
+      checked g o d low top m r l a st OfGrowth (after_source Wide s_here r) (Some (0xF006, s)) (word_at m 0x0200 ≤ reg r 1) (reg r 1 < word_at m 0x0200) (Hands m r first past (ended past m r (instr.One Call Wide s_here) size) 0xF006 (source_value Wide s_here 0 m r)) law
       (of-growth (word_at m 0x0200) (reg r 1)) (λ q. omega (arith, q, a.limit)) (λ q. omega (arith, q, a.limit)) (subst (λ (y : Effect). Hands m r first past y 0xF006 (source_value Wide s_here 0 m r)) (sym same))
     where
       into-words : length (src_words s_here ++ []) ≡ length (src_words s_here)

@@ -13,13 +13,17 @@ use Rattle.insert_model.specs.declared.line.Line.{Line}
 use Rattle.insert_model.specs.Words.{count}
 use Rattle.unit_laws.specs.Rows.{GoesOn, ended, Follows, Halts, Checked, IsAtFirst, IsIn, IsOut}
 use Rattle.placed_units.specs.Placed.{word_in_place, unit_address, unit_at, unit_behind, source_does}
-use Rattle.placed_units.specs.Checks.{Check, Fails, entry_of}
+use Rattle.placed_units.specs.Checks.{Check, Fails, entry_of, before_check}
 use Rattle.placed_units.specs.Ends.{IsAtUnit, EndsWell, EndsBy, UnitStands}
 use Rattle.placed_units.specs.Given.{RowLaws}
 
--- what the law says of a check and of an entry that takes over
-abbrev pub Result : Object → Domain → (low top : ℕ) → (m r : List ℕ) → Line → Check → Option (ℕ × Src) → Type 0
-Result o d low top m r l c h = (Fails o d low top m r c × Halts m r (unit_at o d l) (unit_behind o d l) (entry_of c)) ⊎ ((Fails o d low top m r c → ⊥) × EndsBy o d m r l h)
+-- what the law says of a check, of the registers before it and of an entry that takes over
+abbrev pub Result : Object → Domain → (low top : ℕ) → (m r : List ℕ) → Line → Check → List ℕ → Option (ℕ × Src) → Type 0
+Result o d low top m r l c q h = (Fails o d low top m r c × Halts m r (unit_at o d l) (unit_behind o d l) (entry_of c) q) ⊎ ((Fails o d low top m r c → ⊥) × EndsBy o d m r l h)
+
+-- and of the check of an instruction
+abbrev pub Row : Object → Domain → (low top : ℕ) → (m r : List ℕ) → Line → Check → Instr → Option (ℕ × Src) → Type 0
+Row o d low top m r l c i h = Result o d low top m r l c (before_check o d r l c i) h
 
 -- ---- checks are decided
 
@@ -90,7 +94,7 @@ module _ (g : RowLaws) (o : Object) (d : Domain) (low top : ℕ) (m r : List ℕ
   }
 
   -- the result of a unit with a check
-  pub checked : (c : Check) (h : Option (ℕ × Src)) (P F E : Type 0) → Checked m r (unit_at o d l) (unit_behind o d l) (entry_of c) P F E → Outcome P F → (F → Fails o d low top m r c) → (Fails o d low top m r c → F)
-      → (E → EndsBy o d m r l h) → Result o d low top m r l c h
-  checked c h P F E run (inl f) to from ends = inl (to f, run.halts f)
-  checked c h P F E run (inr p) to from ends = inr ((λ f. p.1 (from f)), ends (run.goes p.0))
+  pub checked : (c : Check) (q : List ℕ) (h : Option (ℕ × Src)) (P F E : Type 0) → Checked m r (unit_at o d l) (unit_behind o d l) (entry_of c) q P F E → Outcome P F → (F → Fails o d low top m r c) → (Fails o d low top m r c → F)
+      → (E → EndsBy o d m r l h) → Result o d low top m r l c q h
+  checked c q h P F E run (inl f) to from ends = inl (to f, run.halts f)
+  checked c q h P F E run (inr p) to from ends = inr ((λ f. p.1 (from f)), ends (run.goes p.0))

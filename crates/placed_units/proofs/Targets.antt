@@ -1,5 +1,5 @@
 -- What a clean branch, call or jump names is found: whether it is named is decided.
-use Rattle.std.proofs.Common.{◌≡◌, ◌≢◌, ℕ, ◌+◌, ◌-◌, ◌*◌, ◌/◌, ◌%◌, ◌<◌, ◌≤◌, ◌⊎◌, List, ℤ, pos, negsuc, ◌+ℤ◌, Option, None, Some, refl, subst, inl, inr, arith}
+use Rattle.std.proofs.Common.{◌≡◌, ◌≢◌, ℕ, ◌+◌, ◌-◌, ◌*◌, ◌/◌, ◌%◌, ◌<◌, ◌≤◌, ◌⊎◌, List, ℤ, pos, negsuc, ◌+ℤ◌, ◌≤ℤ◌, Option, None, Some, refl, subst, inl, inr, arith}
 use Rattle.std.proofs.lemmas.Bool.{cases_order, cases_lt}
 use Rattle.std.proofs.lemmas.Int.{ints}
 use Rattle.object_form.specs.declared.object.Object.{Object}
@@ -8,6 +8,7 @@ use Rattle.object_form.specs.declared.parts.Kind.TheVariants.{App, Module}
 use Rattle.object_form.specs.declared.parts.RelKind.{RelKind}
 use Rattle.object_form.specs.declared.parts.RelKind.TheVariants.{Code, Data, Lo, Hi}
 use Rattle.code_model.specs.Starts.{Start}
+use Rattle.machine_model.specs.Does.{target}
 use Rattle.insert_model.specs.Units.{target_offset}
 use Rattle.insert_model.specs.Faults.{IsStartOffset, IsJumpStart, IsSourceJump, IsSourceCall, NamesStart, IsSourceTarget, IsSourceCallee}
 
@@ -134,3 +135,8 @@ jump-entry Module x h = elim h.0 [
 pub call-entry : (k : Kind) (x : ℕ) → IsSourceCall k x → (0xF000 ≤ x) × (x % 2 ≡ 0) × (x < 65536)
 call-entry App x h = (omega (arith, h.0.0), h.0.2, omega (arith, h.0.1))
 call-entry Module x h = elim h.0 [ inl e ↦ (omega (arith, e), omega (arith, e), omega (arith, e)) | inr e ↦ (omega (arith, e), omega (arith, e), omega (arith, e)) ]
+
+-- so is the offset that the machine takes from the jump's own
+pub jump-goes : (at : ℕ) (k : ℤ) (t : ℕ) → t < 8192 → negsuc 511 ≤ℤ k → pos t ≡ pos (at + 1) +ℤ k → target (2 * at) k ≡ target_offset at k
+jump-goes at (pos n) t b few e = omega (arith, ints, b, e)
+jump-goes at (negsuc n) t b few e = omega (arith, ints, b, few, e)

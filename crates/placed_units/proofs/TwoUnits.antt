@@ -11,6 +11,7 @@ use Rattle.msp_encode.specs.declared.instr.Dst.TheVariants as dst
 use Rattle.msp_encode.specs.declared.instr.Instr.{Instr}
 use Rattle.msp_encode.specs.declared.instr.Instr.TheVariants as instr
 use Rattle.machine_model.specs.Context.{reg}
+use Rattle.machine_model.specs.Alu as alu
 use Rattle.machine_model.specs.Does.{Effect}
 use Rattle.object_form.specs.declared.object.Object.{Object}
 use Rattle.code_model.specs.Guards.{IsMov, IsWide, DstIs, Pops}
@@ -29,7 +30,7 @@ use Rattle.placed_units.specs.Given.{RowLaws}
 use Rattle.placed_units.proofs.Pieces.{Stands, end}
 use Rattle.placed_units.proofs.Clean.{IsTwoLine, two-fits, two-target, reads-no-pc, stores-aright}
 use Rattle.placed_units.proofs.Targets.{branch-target}
-use Rattle.placed_units.proofs.Results.{Result, at-first}
+use Rattle.placed_units.proofs.Results.{Result, Row, at-first}
 use Rattle.placed_units.proofs.Landing.{IsGoal, start-word, entry-word, branch-leads}
 use Rattle.placed_units.proofs.TwoRows.{here, size, source-is, own-head, row-own}
 use Rattle.placed_units.proofs.PoppingRows.{IsWideMove, pc-not, pc-so, pc-moves, popping-row}
@@ -78,11 +79,26 @@ module _ (g : RowLaws) (o : Object) (d : Domain) (low top : ℕ) (m r : List ℕ
         lands = subst (Lands o d l) (sym leads) goal.lands;
       }
 
+-- the operations that write are the machine's
+same-writes : (op : Op2) → writes op ≡ alu.writes op
+same-writes Mov = refl
+same-writes Add = refl
+same-writes Addc = refl
+same-writes Subc = refl
+same-writes Sub = refl
+same-writes Cmp = refl
+same-writes Dadd = refl
+same-writes Bit = refl
+same-writes Bic = refl
+same-writes Bis = refl
+same-writes Xor = refl
+same-writes And = refl
+
 -- ---- by the destination
 
 module _ (g : RowLaws) (o : Object) (d : Domain) (low top : ℕ) (m r : List ℕ) (l : Line) (a : IsAtUnit o d low top m r l) (st : UnitStands o d m l) (op : Op2) (w : Width) where
   -- PC
-  pc-row : (s : Src) (t : Dst) → IsTwoLine o l op w s t → t ≡ dst.Reg 0 → Stands o d m (unit_at o d l) (unit_behind o d l) (writing op w s (own l) ToPc) → Result o d low top m r l Unchecked (if not (is_immediate s) then Some (0xF004, s) else None)
+  pc-row : (s : Src) (t : Dst) → IsTwoLine o l op w s t → t ≡ dst.Reg 0 → Stands o d m (unit_at o d l) (unit_behind o d l) (writing op w s (own l) ToPc) → Result o d low top m r l Unchecked r (if not (is_immediate s) then Some (0xF004, s) else None)
   pc-row (src.Immediate x) t is e h = inr ((λ q. q), branch-row g o d low top m r l a st op w x t is e h)
   pc-row (src.Reg n) t is e h = computed-row g o d low top m r l a st op w (src.Reg n) t is e h
   pc-row (src.Indexed n x) t is e h = computed-row g o d low top m r l a st op w (src.Indexed n x) t is e h
@@ -100,11 +116,11 @@ module _ (g : RowLaws) (o : Object) (d : Domain) (low top : ℕ) (m r : List ℕ
 
   writing-row : (bytes : ℕ) (s : Src) (t : Dst) → IsTwoLine o l op w s t → (Pops s 1 → ⊥) → writes op ≡ true
       → Stands o d m (unit_at o d l) (unit_behind o d l) (writing op w s (own l) (aim bytes t (own l).destination))
-      → Result o d low top m r l (check_of_aim op w s (own l).source (aim bytes t (own l).destination)) (handed (instr.Two op w s t))
+      → Row o d low top m r l (check_of_aim op w s (own l).source (aim bytes t (own l).destination)) (instr.Two op w s t) (handed (instr.Two op w s t))
   writing-row bytes s (dst.Reg n) is pops wr h = by (nat_eq n 0) (nat_eq n 1) refl refl h
     where
       by : (b c : Bool) → nat_eq n 0 ≡ b → nat_eq n 1 ≡ c → Stands o d m (unit_at o d l) (unit_behind o d l) (writing op w s (own l) (if b then ToPc else (if c then ToSp else Elsewhere)))
-          → Result o d low top m r l (check_of_aim op w s (own l).source (if b then ToPc else (if c then ToSp else Elsewhere))) (if b && not (is_immediate s) then Some (0xF004, s) else None)
+          → Row o d low top m r l (check_of_aim op w s (own l).source (if b then ToPc else (if c then ToSp else Elsewhere))) (instr.Two op w s (dst.Reg n)) (if b && not (is_immediate s) then Some (0xF004, s) else None)
       by true c e f h = pc-row s (dst.Reg n) is (ap (λ (k : ℕ). dst.Reg k) (eq-one n 0 e)) h
       by false true e f h = sp-row g o d low top m r l a st op w s (dst.Reg n) is (ap (λ (k : ℕ). dst.Reg k) (eq-one n 1 f)) wr pops h
       by false false e f h = inr ((λ q. q), row-own g o d low top m r l a st op w s (dst.Reg n) is (two-target o l op w s (dst.Reg n) is (ne-one n 0 e)) h)
@@ -117,13 +133,13 @@ module _ (g : RowLaws) (o : Object) (d : Domain) (low top : ℕ) (m r : List ℕ
   writing-row bytes s (dst.Absolute x) is pops wr h = by (is_static bytes x (own l).destination) h
     where
       by : (b : Bool) → Stands o d m (unit_at o d l) (unit_behind o d l) (writing op w s (own l) (if b then Elsewhere else ToMemory 3 x (own l).destination))
-          → Result o d low top m r l (check_of_aim op w s (own l).source (if b then Elsewhere else ToMemory 3 x (own l).destination)) None
+          → Row o d low top m r l (check_of_aim op w s (own l).source (if b then Elsewhere else ToMemory 3 x (own l).destination)) (instr.Two op w s (dst.Absolute x)) None
       by true h = inr ((λ q. q), row-own g o d low top m r l a st op w s (dst.Absolute x) is tt h)
       by false h =
           store-row g o d low top m r l a st op w s (dst.Absolute x) is 3 x (own l).destination (inr (inl refl)) refl (refl, refl) (steps-not-three s (two-fits o l op w s (dst.Absolute x) is).0) tt h
 
   -- CMP and BIT
-  reading-row : (s : Src) (t : Dst) → IsTwoLine o l op w s t → writes op ≡ false → Stands o d m (unit_at o d l) (unit_behind o d l) (own l ∷ []) → Result o d low top m r l Unchecked (handed (instr.Two op w s t))
+  reading-row : (s : Src) (t : Dst) → IsTwoLine o l op w s t → writes op ≡ false → Stands o d m (unit_at o d l) (unit_behind o d l) (own l ∷ []) → Result o d low top m r l Unchecked r (handed (instr.Two op w s t))
   reading-row s t is wr h = by (is_pc t) refl
     where
       not-move : (p : Op2) → writes p ≡ false → IsMov p → ⊥
@@ -140,7 +156,7 @@ module _ (g : RowLaws) (o : Object) (d : Domain) (low top : ℕ) (m r : List ℕ
       not-move Xor e q = q
       not-move And e q = q
 
-      by : (b : Bool) → is_pc t ≡ b → Result o d low top m r l Unchecked (if b && not (is_immediate s) then Some (0xF004, s) else None)
+      by : (b : Bool) → is_pc t ≡ b → Result o d low top m r l Unchecked r (if b && not (is_immediate s) then Some (0xF004, s) else None)
       by true e = absurd (reads-no-pc o l op w s t is (subst (λ (y : Dst). DstIs y 0) (sym (pc-so t e)) refl) (not-move op wr))
       by false e = inr ((λ q. q), row-own g o d low top m r l a st op w s t is (two-target o l op w s t is (pc-not t e)) h)
 
@@ -167,16 +183,18 @@ module _ (g : RowLaws) (o : Object) (d : Domain) (low top : ℕ) (m r : List ℕ
   popped-not (src.Const c) e h = h
 
   pub two-row : (bytes : ℕ) (s : Src) (t : Dst) → IsTwoLine o l op w s t → Stands o d m (unit_at o d l) (unit_behind o d l) (two_unit bytes op w s t (own l))
-      → Result o d low top m r l (check_of_two bytes op w s t (own l)) (handed (instr.Two op w s t))
-  two-row bytes s t is = by (is_popped s) (writes op) refl refl
+      → Row o d low top m r l (check_of_two bytes op w s t (own l)) (instr.Two op w s t) (handed (instr.Two op w s t))
+  two-row bytes s t is h =
+      subst (λ (c : Bool). Row o d low top m r l (if is_popped s then OfPop else (if c then check_of_aim op w s (own l).source (aim bytes t (own l).destination) else Unchecked)) (instr.Two op w s t) (handed (instr.Two op w s t))) (same-writes op)
+      (by (is_popped s) (writes op) refl refl h)
     where
-      popped : s ≡ src.AutoInc 1 → Stands o d m (unit_at o d l) (unit_behind o d l) (popping op w t (own l)) → Result o d low top m r l OfPop (handed (instr.Two op w s t))
-      popped e = subst (λ (y : Src). IsTwoLine o l op w y t → Stands o d m (unit_at o d l) (unit_behind o d l) (popping op w t (own l)) → Result o d low top m r l OfPop (handed (instr.Two op w y t))) (sym e)
+      popped : s ≡ src.AutoInc 1 → Stands o d m (unit_at o d l) (unit_behind o d l) (popping op w t (own l)) → Result o d low top m r l OfPop r (handed (instr.Two op w s t))
+      popped e = subst (λ (y : Src). IsTwoLine o l op w y t → Stands o d m (unit_at o d l) (unit_behind o d l) (popping op w t (own l)) → Result o d low top m r l OfPop r (handed (instr.Two op w y t))) (sym e)
           (λ i h. popping-row g o d low top m r l a st op w t i h) is
 
       by : (b c : Bool) → is_popped s ≡ b → writes op ≡ c
           → Stands o d m (unit_at o d l) (unit_behind o d l) (if b then popping op w t (own l) else (if c then writing op w s (own l) (aim bytes t (own l).destination) else own l ∷ []))
-          → Result o d low top m r l (if b then OfPop else (if c then check_of_aim op w s (own l).source (aim bytes t (own l).destination) else Unchecked)) (handed (instr.Two op w s t))
+          → Row o d low top m r l (if b then OfPop else (if c then check_of_aim op w s (own l).source (aim bytes t (own l).destination) else Unchecked)) (instr.Two op w s t) (handed (instr.Two op w s t))
       by true c e f h = popped (popped-so s e) h
       by false true e f h = writing-row bytes s t is (popped-not s e) f h
       by false false e f h = reading-row s t is f h

@@ -1,5 +1,5 @@
 -- Checks and entries of single instructions, worked by hand.
-use Rattle.std.proofs.Common.{◌≡◌, ℕ, Option, None, Some, refl}
+use Rattle.std.proofs.Common.{◌≡◌, Option, None, Some, refl}
 use Rattle.msp_encode.specs.declared.instr.Op2.TheVariants.{Mov, Add, Cmp}
 use Rattle.msp_encode.specs.declared.instr.Op1.TheVariants.{Rra, Push, Call}
 use Rattle.msp_encode.specs.declared.instr.Width.TheVariants.{Wide, Byte}

@@ -15,7 +15,7 @@ use Rattle.msp_encode.specs.declared.instr.Instr.TheVariants as instr
 use Rattle.msp_encode.specs.Spelling.{IsBase, SrcFits, InstrFits, src_words, dst_words}
 use Rattle.machine_model.specs.Memory.{word_at, IsMemory}
 use Rattle.machine_model.specs.Context.{reg}
-use Rattle.machine_model.specs.Operands.{sum_of, source_value}
+use Rattle.machine_model.specs.Operands.{sum_of, source_value, after_source}
 use Rattle.machine_model.specs.Alu as alu
 use Rattle.machine_model.specs.Does.{Effect}
 use Rattle.machine_model.specs.Fetching.{IsFetched}
@@ -142,7 +142,7 @@ module _ (g : RowLaws) (o : Object) (d : Domain) (low top : ℕ) (m r : List ℕ
       ∙ omega (arith, length-append (src_words s_here) (0 ∷ []), length-append (src_words s) (dst_words t), src-count o d (own l).source s, e)
 
   pub store-row : (n x : ℕ) (k : Option RelKind) → IsIndexed n → length (dst_words t) ≡ 1 → IsCell (placed_dst o d (own l).destination t) n (word_in_place o d x k) → (Steps s n → ⊥) → DstFree t
-      → Stands o d m first past (guard_piece.store_guard n x k ++ through_r4 op w s (own l).source ∷ []) → Result o d low top m r l (OfStore n x k) None
+      → Stands o d m first past (guard_piece.store_guard n x k ++ through_r4 op w s (own l).source ∷ []) → Result o d low top m r l (OfStore n x k) r None
   store-row n x k i one cell steps free h =
       let c = cut o d m first past (guard_piece.store_guard n x k) (through_r4 op w s (own l).source ∷ []) h in
       let words = subst (WordsAt m first 0) (store-stands o d n x k lo-word hi-word) c.0 in
@@ -156,7 +156,7 @@ module _ (g : RowLaws) (o : Object) (d : Domain) (low top : ℕ) (m r : List ℕ
       let v = word_in_place o d x k in
       let at : IsAtStore m r first past n v d.lo d.hi = record { at = at-first g o d low top m r l a st; words = words; register = i; index = omega (arith, words.1.1.1.0, word-small m (first + 6) a.memory); lo_word = lo-word; hi_word = hi-word } in
       let law = g.store m r first past n v d.lo d.hi op w s_here (placed_dst o d (own l).destination t) n_here at fetched (omega (arith, e, through-size one)) goes.0 cell (λ q. steps (steps-placed o d (own l).source s n q)) in
-      checked g o d low top m r l a st (OfStore n x k) None (IsIn d.lo d.hi (sum_of v (reg r n))) (IsOut d.lo d.hi (sum_of v (reg r n))) (Follows m r first past (ended past m r source n_here)) law
+      checked g o d low top m r l a st (OfStore n x k) r None (IsIn d.lo d.hi (sum_of v (reg r n))) (IsOut d.lo d.hi (sum_of v (reg r n))) (Follows m r first past (ended past m r source n_here)) law
       (of-store d.lo d.hi (sum_of v (reg r n))) (λ q. q) (λ q. q) (goes-behind g o d low top m r l a st source n_here (source-is g o d low top m r l a st op w s t is) goes tiny)
 
   -- ---- SP
@@ -175,7 +175,7 @@ module _ (g : RowLaws) (o : Object) (d : Domain) (low top : ℕ) (m r : List ℕ
         subst (λ (k : ℕ). Stands o d m (at + 2 * k) past ps) (into-size e p v) f.1,
       )
 
-  pub sp-row : t ≡ dst.Reg 1 → writes op ≡ true → (Pops s 1 → ⊥) → Stands o d m first past (setting_sp op w s (own l).source) → Result o d low top m r l (OfSp op w s (own l).source) None
+  pub sp-row : t ≡ dst.Reg 1 → writes op ≡ true → (Pops s 1 → ⊥) → Stands o d m first past (setting_sp op w s (own l).source) → Result o d low top m r l (OfSp op w s (own l).source) (after_source w s_here r) None
   unfolding piece_words
   sp-row e wr pops h =
       let none : length (dst_words t) ≡ 0 = ap (λ (y : Dst). length (dst_words y)) e in
@@ -193,14 +193,14 @@ module _ (g : RowLaws) (o : Object) (d : Domain) (low top : ℕ) (m r : List ℕ
       let law = g.set_sp m r first past op w s_here n_here (at-first g o d low top m r l a st) f1.0 f2.0 (omega arith) words f3.0 z (alu-writes op wr) (src-fits o d (own l).source s (two-fits o l op w s t is).0) goes.0
       (λ q. pops (steps-pops s 1 (steps-placed o d (own l).source s 1 q))) in
       let tiny = few g o d low top m r l a st op w s t is in
-      checked g o d low top m r l a st (OfSp op w s (own l).source) None (IsWithin m v) (IsBeyond m v) (Follows m r first past (ended past m r (instr.Two op w s_here (dst.Reg 1)) n_here)) law (of-sp (word_at m 0x0200) (word_at m 0x0202) v)
+      checked g o d low top m r l a st (OfSp op w s (own l).source) (after_source w s_here r) None (IsWithin m v) (IsBeyond m v) (Follows m r first past (ended past m r (instr.Two op w s_here (dst.Reg 1)) n_here)) law (of-sp (word_at m 0x0200) (word_at m 0x0202) v)
       (λ q. elim q [ inl x ↦ inl (omega (arith, x, a.limit)) | inr x ↦ inr (omega (arith, x, a.last)) ]) (λ q. elim q [ inl x ↦ inl (omega (arith, x, a.limit)) | inr x ↦ inr (omega (arith, x, a.last)) ])
       (λ q. goes-behind g o d low top m r l a st source n_here (source-is g o d low top m r l a st op w s t is) goes tiny (subst (λ (y : Instr). Follows m r first past (ended past m r y n_here)) same q))
 
   -- ---- PC
 
   -- a computed jump
-  pub computed-row : t ≡ dst.Reg 0 → Stands o d m first past (into_r4 Mov Wide s (own l).source ∷ guard_piece.branch 0xF004 None ∷ []) → Result o d low top m r l Unchecked (Some (0xF004, s))
+  pub computed-row : t ≡ dst.Reg 0 → Stands o d m first past (into_r4 Mov Wide s (own l).source ∷ guard_piece.branch 0xF004 None ∷ []) → Result o d low top m r l Unchecked r (Some (0xF004, s))
   unfolding piece_words
   computed-row e h =
       let none : length (dst_words t) ≡ 0 = ap (λ (y : Dst). length (dst_words y)) e in

@@ -4,12 +4,14 @@ use Rattle.msp_encode.specs.declared.instr.Op2.{Op2}
 use Rattle.msp_encode.specs.declared.instr.Op1.{Op1}
 use Rattle.msp_encode.specs.declared.instr.Op1.TheVariants.{Rrc, Swpb, Rra, Sxt, Push, Call}
 use Rattle.msp_encode.specs.declared.instr.Width.{Width}
+use Rattle.msp_encode.specs.declared.instr.Width.TheVariants.{Wide}
 use Rattle.msp_encode.specs.declared.instr.Src.{Src}
 use Rattle.msp_encode.specs.declared.instr.Dst.{Dst}
 use Rattle.msp_encode.specs.declared.instr.Instr.{Instr}
 use Rattle.msp_encode.specs.declared.instr.Instr.TheVariants as instr
 use Rattle.machine_model.specs.Context.{reg}
-use Rattle.machine_model.specs.Operands.{sum_of}
+use Rattle.machine_model.specs.Operands.{sum_of, after_source}
+use Rattle.machine_model.specs.Alu.{writes}
 use Rattle.object_form.specs.declared.object.Object.{Object}
 use Rattle.object_form.specs.declared.parts.RelKind.{RelKind}
 use Rattle.object_form.specs.Spelling.{fields}
@@ -19,7 +21,7 @@ use Rattle.insert_model.specs.declared.aim.Aim.TheVariants.{ToPc, ToSp, ToMemory
 use Rattle.insert_model.specs.declared.line.Line.{Line}
 use Rattle.insert_model.specs.declared.piece.Piece.{Piece}
 use Rattle.insert_model.specs.Source.{own}
-use Rattle.insert_model.specs.Units.{static_bytes, aim, aim_one, writes, is_popped, is_immediate, is_pc}
+use Rattle.insert_model.specs.Units.{static_bytes, aim, aim_one, is_popped, is_immediate, is_pc}
 use Rattle.unit_laws.specs.Rows.{IsOut, new_sp}
 use Rattle.placed_units.specs.Placed.{word_in_place, placed_src}
 
@@ -81,6 +83,22 @@ entry_of (OfStore n x k) = 0xF000
 entry_of OfGrowth = 0xF002
 entry_of OfPop = 0xF002
 entry_of (OfSp op w s k) = 0xF002
+
+-- the registers as they are before the check: a source that is read before it has stepped its register
+abbrev pub before_check : Object → Domain → List ℕ → Line → Check → Instr → List ℕ
+before_check o d r l Unchecked i = r
+before_check o d r l (OfStore n x k) i = r
+before_check o d r l OfGrowth (instr.Two op w s t) = r
+before_check o d r l OfGrowth (instr.One Rrc w s) = r
+before_check o d r l OfGrowth (instr.One Swpb w s) = r
+before_check o d r l OfGrowth (instr.One Rra w s) = r
+before_check o d r l OfGrowth (instr.One Sxt w s) = r
+before_check o d r l OfGrowth (instr.One Push w s) = r
+before_check o d r l OfGrowth (instr.One Call w s) = after_source Wide (placed_src o d (own l).source s) r
+before_check o d r l OfGrowth instr.Reti = r
+before_check o d r l OfGrowth (instr.Jump c k) = r
+before_check o d r l OfPop i = r
+before_check o d r l (OfSp op w s k) i = after_source w (placed_src o d k s) r
 
 -- the entry that takes a return, a computed jump or a computed call over, and the operand whose value is its target
 abbrev pub handed : Instr → Option (ℕ × Src)

@@ -9,26 +9,29 @@ use Rattle.msp_encode.specs.declared.instr.Src.TheVariants as src
 use Rattle.msp_encode.specs.declared.instr.Instr.{Instr}
 use Rattle.msp_encode.specs.declared.instr.Instr.TheVariants as instr
 use Rattle.machine_model.specs.Memory.{word_at, IsMemory}
-use Rattle.machine_model.specs.Context.{reg, IsContext}
+use Rattle.machine_model.specs.Context.{reg, set_reg, IsContext}
+use Rattle.machine_model.specs.Does.{does, target}
 use Rattle.machine_model.specs.Operands.{source_value, stored}
 use Rattle.object_form.specs.declared.object.Object.{Object}
 use Rattle.object_form.specs.Spelling.{fields}
 use Rattle.code_model.specs.Starts.{Start}
+use Rattle.code_model.specs.Guards.{DstIs}
+use Rattle.code_model.specs.Rules.{IsCall}
 use Rattle.image_model.specs.Domains.{Domain}
 use Rattle.image_model.specs.Images.{code_image}
 use Rattle.image_model.specs.Standing.{HasBytes}
 use Rattle.accepted_code.specs.Placed.{IsWellPlaced}
 use Rattle.insert_model.specs.declared.line.Line.{Line}
-use Rattle.insert_model.specs.Words.{unit_words}
+use Rattle.insert_model.specs.Words.{count, unit_words}
 use Rattle.insert_model.specs.Source.{lines, own}
-use Rattle.insert_model.specs.Units.{static_bytes, unit, target_offset}
+use Rattle.insert_model.specs.Units.{static_bytes, unit}
 use Rattle.insert_model.specs.Faults.{IsInserted, IsSourceJump, IsSourceCall}
 use Rattle.insert_laws.specs.Shapes.{IsCleanLine}
 use Rattle.unit_laws.specs.Guards.{WordsAt}
 use Rattle.unit_laws.specs.Running.{IsInside}
-use Rattle.unit_laws.specs.Rows.{Follows, Hands, Halts}
-use Rattle.placed_units.specs.Placed.{unit_address, unit_at, unit_behind, placed_word, placed_src, source_does}
-use Rattle.placed_units.specs.Checks.{check_of, Fails, entry_of, handed}
+use Rattle.unit_laws.specs.Rows.{Follows, Hands, Halts, SameButPc}
+use Rattle.placed_units.specs.Placed.{unit_address, unit_at, unit_behind, placed_word, placed_src, placed, source_does}
+use Rattle.placed_units.specs.Checks.{check_of, Fails, entry_of, before_check, handed}
 
 -- An object with guards was placed, its code's bytes are in memory with the two limit words of a stack [low, top), and PC is at the unit
 -- of a source instruction. Each context that is good for the domain is a context.
@@ -60,7 +63,7 @@ abbrev pub Names : (at : ℕ) → Instr → ℕ → Type 0
 Names at (instr.Two op w s t) x = SrcNames s x
 Names at (instr.One op w s) x = SrcNames s x
 Names at instr.Reti x = ⊥
-Names at (instr.Jump c k) x = target_offset at k ≡ x
+Names at (instr.Jump c k) x = target (2 * at) k ≡ x
 
 -- a start that the instruction names, and the address of its unit
 unfoldable pub IsTargetUnit : Object → Domain → Line → ℕ → Type 0
@@ -86,15 +89,15 @@ abbrev pub EndsBy : Object → Domain → (m r : List ℕ) → Line → Option (
 EndsBy o d m r l None = EndsWell o d m r l
 EndsBy o d m r l (Some h) = Hands m r (unit_at o d l) (unit_behind o d l) (source_does o d m r l) h.0 (source_value Wide (placed_src o d (own l).source h.1) 0 m r)
 
--- the check fails and the unit ends at its entry with nothing written, or it doesn't fail
+-- the check fails and the unit ends at its entry with nothing written, and all but PC, R4, R5 and the four flags as before the check, or it doesn't fail
 pub data UnitEnds (o : Object) (d : Domain) (low top : ℕ) (m r : List ℕ) (l : Line) : Type 0 where
-  Stops : Fails o d low top m r (check_of o l) → Halts m r (unit_at o d l) (unit_behind o d l) (entry_of (check_of o l)) → UnitEnds o d low top m r l
-  Ends : (Fails o d low top m r (check_of o l) → ⊥) → EndsBy o d m r l (handed l.instr) → UnitEnds o d low top m r l
+  Halted : Fails o d low top m r (check_of o l) → Halts m r (unit_at o d l) (unit_behind o d l) (entry_of (check_of o l)) (before_check o d r l (check_of o l) l.instr) → UnitEnds o d low top m r l
+  Done : (Fails o d low top m r (check_of o l) → ⊥) → EndsBy o d m r l (handed l.instr) → UnitEnds o d low top m r l
 
 -- ---- the laws
 
-abbrev pub UnitLaw : Type 0
-UnitLaw = (o : Object) (d : Domain) (low top : ℕ) (m r : List ℕ) (l : Line) → IsAtUnit o d low top m r l → UnitEnds o d low top m r l
+abbrev pub UnitEndsLaw : Type 0
+UnitEndsLaw = (o : Object) (d : Domain) (low top : ℕ) (m r : List ℕ) (l : Line) → IsAtUnit o d low top m r l → UnitEnds o d low top m r l
 
 -- what a call pushes is the address of the next unit
 abbrev pub PushedLaw : Type 0
@@ -113,3 +116,17 @@ pub record UnitStands (o : Object) (d : Domain) (m : List ℕ) (l : Line) : Type
 
 abbrev pub UnitStandsLaw : Type 0
 UnitStandsLaw = (o : Object) (d : Domain) (low top : ℕ) (m r : List ℕ) (l : Line) → IsAtUnit o d low top m r l → UnitStands o d m l
+
+-- ---- where a source instruction stands
+
+-- an instruction that leads to the next one, and pushes no address
+abbrev pub StaysInLine : Instr → Type 0
+StaysInLine (instr.Two op w s t) = DstIs t 0 → ⊥
+StaysInLine (instr.One op w s) = IsCall op → ⊥
+StaysInLine instr.Reti = ⊥
+StaysInLine (instr.Jump c k) = ⊥
+
+-- it does the same wherever it stands, but for PC
+abbrev pub SourcePlaceLaw : Type 0
+SourcePlaceLaw = (o : Object) (d : Domain) (low top : ℕ) (m r : List ℕ) (l : Line) (p : ℕ) → IsAtUnit o d low top m r l → StaysInLine l.instr
+    → SameButPc (source_does o d m r l) (does m (set_reg r 0 p) (placed o d (own l)) (count l.instr))

@@ -1,5 +1,5 @@
 -- The laws that the unit law rests on.
-use Rattle.unit_laws.specs.Rows.{GoesOnLaw, GoesToLaw, PcMovesLaw, OwnLaw, BranchLaw, JumpLaw, ComputedLaw, StoreLaw, ChangeLaw, GrowthLaw, CalleeLaw, PopLaw, PopIntoLaw, ReturnLaw, SetSpLaw}
+use Rattle.unit_laws.specs.Rows.{GoesOnLaw, GoesToLaw, PcMovesLaw, OwnUnitLaw, BranchUnitLaw, JumpUnitLaw, ComputedUnitLaw, StoreUnitLaw, ChangeUnitLaw, GrowthUnitLaw, CalleeUnitLaw, PopUnitLaw, PopIntoUnitLaw, ReturnUnitLaw, SetSpUnitLaw}
 use Rattle.insert_laws.specs.Source.{SpellingLaw, StartsDecided}
 use Rattle.insert_laws.specs.Lines.{PlacesWithin}
 
@@ -8,18 +8,18 @@ pub record RowLaws : Type 0 where
   pub goes_on : GoesOnLaw
   pub goes_to : GoesToLaw
   pub pc_moves : PcMovesLaw
-  pub own : OwnLaw
-  pub branch : BranchLaw
-  pub jump : JumpLaw
-  pub computed : ComputedLaw
-  pub store : StoreLaw
-  pub change : ChangeLaw
-  pub growth : GrowthLaw
-  pub callee : CalleeLaw
-  pub pop : PopLaw
-  pub pop_into : PopIntoLaw
-  pub returns : ReturnLaw
-  pub set_sp : SetSpLaw
+  pub own : OwnUnitLaw
+  pub branch : BranchUnitLaw
+  pub jump : JumpUnitLaw
+  pub computed : ComputedUnitLaw
+  pub store : StoreUnitLaw
+  pub change : ChangeUnitLaw
+  pub growth : GrowthUnitLaw
+  pub callee : CalleeUnitLaw
+  pub pop : PopUnitLaw
+  pub pop_into : PopIntoUnitLaw
+  pub returns : ReturnUnitLaw
+  pub set_sp : SetSpUnitLaw
   pub spelling : SpellingLaw
   pub decided : StartsDecided
   pub places : PlacesWithin

@@ -7,7 +7,7 @@ use Rattle.msp_encode.specs.declared.instr.Dst.TheVariants as dst
 use Rattle.msp_encode.specs.declared.instr.Instr.{Instr}
 use Rattle.msp_encode.specs.declared.instr.Instr.TheVariants as instr
 use Rattle.machine_model.specs.Context.{reg, set_reg}
-use Rattle.machine_model.specs.Does.{Effect, holds}
+use Rattle.machine_model.specs.Does.{Effect, holds, target}
 use Rattle.object_form.specs.declared.object.Object.{Object}
 use Rattle.object_form.specs.declared.parts.RelKind.{RelKind}
 use Rattle.object_form.specs.Spelling.{fields}
@@ -17,7 +17,6 @@ use Rattle.insert_model.specs.declared.piece.Piece.{Piece}
 use Rattle.insert_model.specs.declared.piece.Word.{Word}
 use Rattle.insert_model.specs.Words.{count}
 use Rattle.insert_model.specs.Source.{own}
-use Rattle.insert_model.specs.Units.{target_offset}
 use Rattle.insert_model.specs.Inserted.{moved_value, place_map}
 use Rattle.unit_laws.specs.Running.{silent}
 use Rattle.unit_laws.specs.Rows.{ended}
@@ -73,13 +72,13 @@ placed o d p = placed_instr o d p.source p.destination p.instr
 
 -- ---- what a source instruction does
 
--- A jump leads to the unit of its target, or to the next unit. Any other instruction does what it does with its words in place, where it
+-- A jump leads to the unit of its target, the offset that the machine takes from the jump's own, or to the next unit. Any other instruction does what it does with its words in place, where it
 -- stands just before the next unit: there it goes on, and that address a call pushes.
 abbrev pub instr_does : Object → Domain → (m r : List ℕ) → Line → Instr → Effect
 instr_does o d m r l (instr.Two op w s t) = ended (unit_behind o d l) m r (placed o d (own l)) (count l.instr)
 instr_does o d m r l (instr.One op w s) = ended (unit_behind o d l) m r (placed o d (own l)) (count l.instr)
 instr_does o d m r l instr.Reti = ended (unit_behind o d l) m r (placed o d (own l)) (count l.instr)
-instr_does o d m r l (instr.Jump c k) = silent (set_reg r 0 (if holds c (reg r 2) then unit_address o d (target_offset l.at k) else unit_behind o d l))
+instr_does o d m r l (instr.Jump c k) = silent (set_reg r 0 (if holds c (reg r 2) then unit_address o d (target (2 * l.at) k) else unit_behind o d l))
 
 unfoldable pub source_does : Object → Domain → (m r : List ℕ) → Line → Effect
 source_does o d m r l = instr_does o d m r l l.instr
