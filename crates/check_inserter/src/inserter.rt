@@ -1,6 +1,8 @@
 //! The object with its guards.
 
-ghost use Rattle.std.specs.Prelude.{Result, MatchResult};
+ghost use Rattle.std.specs.Prelude.{Result, MatchResult, IfOk};
+ghost use Rattle.code_model.specs.declared.verdict.Verdict.{Verdict};
+ghost use Rattle.code_model.specs.Verdicts.{IsAcceptance, IsVerdict};
 ghost use Rattle.object_form.specs.declared.object.Object.{Object};
 ghost use Rattle.insert_model.specs.declared.fault.InsertFault.{InsertFault};
 ghost use Rattle.insert_model.specs.Faults.{NoHit, IsAnswer, SameAnswer};
@@ -15,6 +17,7 @@ use crate::moving::{all_relocs, moved_bytes, moved_exports, moved_words, place_o
 use crate::source::read_lines;
 use crate::starts::starts;
 use checker_laws::one_verdict;
+use insert_laws::verdict_accepts;
 use insert_model::fault::InsertFault;
 use insert_model::line::Line;
 use object_form::laws::one_object_has_a_text;
@@ -23,13 +26,15 @@ use std::alloc::Global;
 
 /// The object with guards for an object without, or the first fault of the source object: where an instruction isn't spelled
 /// that alone, else the least offset and there the least kind, and only where nothing else is wrong that it would be too
-/// large. `Memory` may come at any time.
+/// large. `Memory` may come at any time. The checker accepts the object: each verdict on it is an acceptance.
 pub fn insert(alloc: Global, o: &Object) -> Result<Object, InsertFault>
     ensures right { IsAnswer o.now result }
     ensures only { (answer : Result Object InsertFault) → IsAnswer o.now answer → SameAnswer result answer }
+    ensures accepted { IfOk result (λ q. (v : Verdict) → IsVerdict q v → IsAcceptance v) }
 {
     one_verdict();
     one_object_has_a_text();
+    verdict_accepts();
     inserted(alloc, o)
 }
 
