@@ -1,0 +1,13 @@
+pub mod ContextLemmas
+pub mod StackLemmas
+pub mod ChainLemmas
+pub mod ChoiceLemmas
+pub mod RangeLemmas
+pub mod EntryLemmas
+pub mod LeavingLemmas
+pub mod LeavingSteps
+pub mod LineLemmas
+pub mod FoldLemmas
+pub mod EndingLemmas
+pub mod ExitLemmas
+pub mod FixtureLemmas

@@ -1,0 +1,25 @@
+-- Where the running domain may go on.
+use Rattle.std.specs.Prelude.{◌≡◌, ℕ, List, Result, Ok, Err}
+use Rattle.machine_model.specs.Context.{reg, set_reg}
+use Rattle.machine_model.specs.Operands.{sum_of}
+use Rattle.kernel_model.specs.Layout.{kernel_of}
+use Rattle.place_model.specs.Placing.{domain_at}
+use Rattle.place_model.specs.Marking.{IsMarkOf}
+use Rattle.thread_model.specs.Running.{running_domain}
+
+-- the address is a mark of the domain that runs
+abbrev pub IsOwnMark : (m : List ℕ) → (at : ℕ) → Type 0
+IsOwnMark m at = let code = (domain_at (kernel_of m) (running_domain (kernel_of m))).code in IsMarkOf m code.from code.to at
+
+-- the registers that go on at an address
+abbrev pub gone_to : (registers : List ℕ) → (at : ℕ) → List ℕ
+gone_to r at = set_reg r 0 at
+
+-- those that take the return address off the stack, too
+abbrev pub returned_to : (registers : List ℕ) → (at : ℕ) → List ℕ
+returned_to r at = gone_to (set_reg r 1 (sum_of (reg r 1) 2)) at
+
+-- where the address is a mark of the running domain, the registers go on there; else the address is told, and they are as before
+abbrev pub GoesOn : (m before after : List ℕ) → (at : ℕ) → (going : List ℕ) → Result (Unit {0}) ℕ → Type 0
+GoesOn m r r' at going (Ok _) = IsOwnMark m at × (r' ≡ going)
+GoesOn m r r' at going (Err told) = (told ≡ at) × (IsOwnMark m at → ⊥) × (r' ≡ r)
