@@ -1,11 +1,12 @@
 -- An object has one answer.
 use Rattle.std.proofs.Common.{◌≡◌, ◌≢◌, ℕ, ◌*◌, ◌≤◌, ◌<◌, List, [], ◌∷◌, ◌++◌, ◌⊎◌, inl, inr, length, Result, Ok, Err, refl, sym, ap, ◌∙◌, arith}
 use Rattle.std.proofs.lemmas.List.{append_assoc, length-append}
-use Rattle.object_form.specs.declared.object.Object.{Object}
-use Rattle.object_form.specs.Spelling.{fields, text_of, object_bytes}
+use Rattle.code_model.specs.declared.object.Object.{Object}
+use Rattle.object_form.specs.Spelling.{text_of, object_bytes}
+use Rattle.code_model.specs.Fields.{fields}
 use Rattle.code_model.specs.declared.verdict.Verdict.TheVariants.{Refused}
 use Rattle.code_model.specs.Verdicts.{AllSpelled, IsVerdict}
-use Rattle.checker_laws.specs.Laws.{OneVerdict}
+use Rattle.code_laws.specs.Laws.{OneVerdict}
 use Rattle.insert_model.specs.declared.fault.InsertKind.{InsertKind}
 use Rattle.insert_model.specs.declared.fault.InsertKind.TheVariants.{NotDecoded, UsesCheckRegister, Forbidden, BadTarget, TooLarge}
 use Rattle.insert_model.specs.declared.fault.InsertFault.{InsertFault}

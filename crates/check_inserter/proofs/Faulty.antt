@@ -1,10 +1,10 @@
 -- The faults of the lines, the exports and the relocations so far.
 use Rattle.std.proofs.Common.{◌≡◌, ◌↔◌, ℕ, ◌+◌, ◌*◌, ◌≤◌, ◌<◌, List, [], ◌⊎◌, inl, inr, length, take, get_or, Option, subst}
 use Rattle.std.proofs.lemmas.List.{take_all}
-use Rattle.object_form.specs.declared.object.Object.{Object}
-use Rattle.object_form.specs.declared.parts.Export.{Export}
-use Rattle.object_form.specs.declared.parts.Reloc.{Reloc}
-use Rattle.object_form.specs.Spelling.{fields}
+use Rattle.code_model.specs.declared.object.Object.{Object}
+use Rattle.code_model.specs.declared.parts.Export.{Export}
+use Rattle.code_model.specs.declared.parts.Reloc.{Reloc}
+use Rattle.code_model.specs.Fields.{fields}
 use Rattle.insert_model.specs.declared.fault.InsertKind.{InsertKind}
 use Rattle.insert_model.specs.declared.fault.InsertKind.TheVariants.{BadTarget}
 use Rattle.insert_model.specs.declared.line.Line.{Line}

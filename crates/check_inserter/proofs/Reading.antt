@@ -4,10 +4,10 @@ use Rattle.std.proofs.lemmas.Bool.{cases_order, cases_lt}
 use Rattle.std.proofs.lemmas.List.{append_assoc, append-nil, drop_all, length_push, get_or_append_left, get_or_at}
 use Rattle.msp_encode.specs.declared.instr.Instr.{Instr}
 use Rattle.msp_encode.specs.Laws.{LegalByCases}
-use Rattle.object_form.specs.declared.object.Object.{Object}
-use Rattle.object_form.specs.Spelling.{fields}
+use Rattle.code_model.specs.declared.object.Object.{Object}
+use Rattle.code_model.specs.Fields.{fields}
 use Rattle.code_model.specs.Starts.{Stands, NoneStands, Reached, Start, IsSpelled, Bad}
-use Rattle.checker_laws.specs.Laws.{StartsApart}
+use Rattle.code_laws.specs.Laws.{StartsApart}
 use Rattle.static_checker.specs.declared.spot.Spot.{Spot}
 use Rattle.static_checker.specs.Spots.{IsSpot}
 use Rattle.insert_model.specs.declared.line.Line.{Line}

@@ -3,8 +3,8 @@ use Rattle.std.proofs.Common.{◌≡◌, ℕ, ◌+◌, ◌≤◌, ◌<◌, nat_l
 use Rattle.std.proofs.lemmas.Bool.{cases_lt}
 use Rattle.std.proofs.lemmas.List.{take_all}
 use Rattle.msp_encode.specs.declared.instr.Instr.{Instr}
-use Rattle.object_form.specs.declared.object.Object.{Object}
-use Rattle.object_form.specs.declared.parts.RelKind.{RelKind}
+use Rattle.code_model.specs.declared.object.Object.{Object}
+use Rattle.code_model.specs.declared.parts.RelKind.{RelKind}
 use Rattle.insert_model.specs.declared.line.Line.{Line}
 use Rattle.insert_model.specs.Words.{count}
 use Rattle.insert_model.specs.Source.{on_word, kind_at, kind_within, line_at}

@@ -1,7 +1,7 @@
 -- The units one after another.
 use Rattle.std.specs.Prelude.{◌≡◌, ℕ, ◌+◌, ◌<◌, ◌≤◌, List, length, slice_index}
-use Rattle.object_form.specs.declared.object.Object.{Object}
-use Rattle.object_form.specs.Spelling.{fields}
+use Rattle.code_model.specs.declared.object.Object.{Object}
+use Rattle.code_model.specs.Fields.{fields}
 use Rattle.insert_model.specs.declared.fault.InsertFault.{InsertFault}
 use Rattle.insert_model.specs.declared.fault.InsertFault.TheVariants.{At, Memory}
 use Rattle.insert_model.specs.declared.fault.InsertKind.TheVariants.{TooLarge}

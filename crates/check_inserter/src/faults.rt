@@ -1,9 +1,9 @@
 //! The first fault of a source object whose instructions are all spelled.
 
 ghost use Rattle.std.specs.Prelude.{◌≡◌, ℕ, ◌+◌, ◌*◌, ◌<◌, ◌≤◌, ◌⊎◌, ◌↔◌, length, IsTrue, MatchOption, false, slice_index_or};
-ghost use Rattle.object_form.specs.declared.parts.Export.{Export};
-ghost use Rattle.object_form.specs.declared.parts.Reloc.{Reloc};
-ghost use Rattle.object_form.specs.Form.{RelocFits};
+ghost use Rattle.code_model.specs.declared.parts.Export.{Export};
+ghost use Rattle.code_model.specs.declared.parts.Reloc.{Reloc};
+ghost use Rattle.code_model.specs.Form.{RelocFits};
 ghost use Rattle.code_model.specs.Starts.{AreStarts};
 ghost use Rattle.insert_model.specs.declared.fault.InsertKind.{InsertKind};
 ghost use Rattle.insert_model.specs.Faults.{number, LineHas, LinesHave, DatumMisses, DataMiss, EntryMisses, ExportMisses, ExportsMiss, Hits};
@@ -14,11 +14,11 @@ use crate::forbidden::{is_forbidden, uses_check};
 use crate::moving::word_in;
 use crate::starts::is_start_offset;
 use crate::targets::goes_wrong;
+use code_model::marks::Marks;
+use code_model::object::Object;
+use code_model::parts::{Export, Kind, RelKind, Reloc};
 use insert_model::fault::InsertKind;
 use insert_model::line::Line;
-use object_form::marks::Marks;
-use object_form::object::Object;
-use object_form::parts::{Export, Kind, RelKind, Reloc};
 
 /// A fault and its offset in bytes.
 #[derive(Clone, Copy, Drop)]

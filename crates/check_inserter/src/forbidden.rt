@@ -6,9 +6,9 @@ ghost use Rattle.insert_model.specs.Faults.{IsCheck, SrcUsesCheck, DstUsesCheck,
 
 use crate::forms::{is_auto_inc, is_memory, is_symbolic_dst, is_symbolic_src, sets_pc};
 use crate::size::word_count;
+use code_model::parts::RelKind;
 use insert_model::line::Line;
 use msp_encode::instr::{Dst, Instr, Src};
-use object_form::parts::RelKind;
 use static_checker::forms::{
     changes, const_value, dst_is, is_bis_or_bic, is_flags, is_mov, is_reti, is_wide, pops, src_is,
     stacks, writes, writes_reg,

@@ -5,9 +5,9 @@ ghost use Rattle.msp_encode.specs.Spelling.{SrcFits, DstFits};
 ghost use Rattle.insert_model.specs.Guards.{plain, mov, cmp, jump, on_r4, branch, save, restore, take_sp, pop_r4, give_sp, base, store_guard, growth_guard, pop_guard, sp_guard};
 ghost use Rattle.check_inserter.specs.Fitting.{AllFit};
 
+use code_model::parts::RelKind;
 use insert_model::piece::Piece;
 use msp_encode::instr::{Cg, Cond, Dst, Instr, Op2, Src, Width};
-use object_form::parts::RelKind;
 
 /// The entry that faults for a store out of the region.
 const STORE_FAULT: u16 = 0xF000;

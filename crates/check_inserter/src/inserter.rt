@@ -3,10 +3,10 @@
 ghost use Rattle.std.specs.Prelude.{Result, MatchResult, IfOk};
 ghost use Rattle.code_model.specs.declared.verdict.Verdict.{Verdict};
 ghost use Rattle.code_model.specs.Verdicts.{IsAcceptance, IsVerdict};
-ghost use Rattle.object_form.specs.declared.object.Object.{Object};
+ghost use Rattle.code_model.specs.declared.object.Object.{Object};
 ghost use Rattle.insert_model.specs.declared.fault.InsertFault.{InsertFault};
 ghost use Rattle.insert_model.specs.Faults.{NoHit, IsAnswer, SameAnswer};
-ghost use Rattle.object_form.specs.Spelling.{fields};
+ghost use Rattle.code_model.specs.Fields.{fields};
 ghost use Rattle.insert_model.specs.Source.{lines};
 ghost use Rattle.check_inserter.specs.Read.{IsSource};
 ghost use Rattle.check_inserter.specs.Places.{IsLaid};
@@ -16,12 +16,12 @@ use crate::laying::{Laid, lay};
 use crate::moving::{all_relocs, moved_bytes, moved_exports, moved_words, place_of};
 use crate::source::read_lines;
 use crate::starts::starts;
-use checker_laws::one_verdict;
+use code_laws::one_verdict;
+use code_model::object::Object;
 use insert_laws::verdict_accepts;
 use insert_model::fault::InsertFault;
 use insert_model::line::Line;
 use object_form::laws::one_object_has_a_text;
-use object_form::object::Object;
 use std::alloc::Global;
 
 /// The object with guards for an object without, or the first fault of the source object: where an instruction isn't spelled

@@ -6,10 +6,10 @@ ghost use Rattle.check_inserter.specs.Places.{IsLaid, IsUnlaid};
 
 use crate::size::word_count;
 use crate::units::put_unit;
+use code_model::object::{CODE_WORDS_MAX, Object};
 use insert_model::fault::{InsertFault, InsertKind};
 use insert_model::line::Line;
 use insert_model::piece::Word;
-use object_form::object::{CODE_WORDS_MAX, Object};
 use std::alloc::{AllocError, Global};
 
 /// The words of the units, and for each source word and the place behind the last how many of them stand before its line's

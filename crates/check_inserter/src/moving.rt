@@ -2,19 +2,19 @@
 
 ghost use Rattle.std.specs.Prelude.{◌≡◌, ℕ, ◌+◌, ◌*◌, ◌/◌, ◌%◌, ◌^◌, ◌<◌, ◌≤◌, [], ◌∷◌, ◌++◌, length, map, false, IfOk, OnOk, IsTrue, slice_index, slice_index_or};
 ghost use Rattle.std.specs.List.{fold};
-ghost use Rattle.object_form.specs.declared.parts.Reloc.{Reloc};
-ghost use Rattle.object_form.specs.declared.parts.Export.{Export};
-ghost use Rattle.object_form.specs.Spelling.{fields};
+ghost use Rattle.code_model.specs.declared.parts.Reloc.{Reloc};
+ghost use Rattle.code_model.specs.declared.parts.Export.{Export};
+ghost use Rattle.code_model.specs.Fields.{fields};
 ghost use Rattle.insert_model.specs.declared.piece.Word.{Word};
 ghost use Rattle.insert_model.specs.Inserted.{place_map, moved_value, moved, with_reloc, relocs_from, word_in, with_word, moved_at, moved_data, of_data, moved_export};
 ghost use Rattle.check_inserter.specs.Places.{IsLaid};
 
 use crate::laying::Laid;
+use code_model::lists::{CodeWords, Exports, Relocs};
+use code_model::object::Object;
+use code_model::parts::{Export, RelKind, Reloc};
 use edge_io::lists::Bytes;
 use insert_model::piece::Word;
-use object_form::lists::{CodeWords, Exports, Relocs};
-use object_form::object::Object;
-use object_form::parts::{Export, RelKind, Reloc};
 use std::alloc::{AllocError, Global};
 
 /// Where a source offset went.

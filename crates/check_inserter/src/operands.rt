@@ -5,10 +5,10 @@ ghost use Rattle.msp_encode.specs.Spelling.{SrcFits, DstFits};
 ghost use Rattle.insert_model.specs.Units.{is_static, absolute_aim, aim, aim_one, writes, is_popped, is_immediate, is_pc, is_wide_move, is_free, is_plain_pop, into_r4, through_r4, from_r4};
 ghost use Rattle.check_inserter.specs.Fitting.{AimFits};
 
+use code_model::parts::RelKind;
 use insert_model::aim::Aim;
 use insert_model::piece::Piece;
 use msp_encode::instr::{Dst, Instr, Op2, Src, Width};
-use object_form::parts::RelKind;
 
 /// What a destination asks for.
 pub(crate) fn aim(size: usize, dst: Dst, kind: Option<RelKind>) -> Aim

@@ -1,21 +1,21 @@
 //! Reading the source instructions.
 
 ghost use Rattle.std.specs.Prelude.{◌≡◌, ◌<◌, ◌≤◌, ◌*◌, ◌+◌, ◌%◌, ◌^◌, ℕ, [], ◌∷◌, ◌++◌, true, nat_lt, if◌then◌else◌, length, slice_index_or, None, IfOk, OnOk, MatchResult};
-ghost use Rattle.object_form.specs.declared.parts.Reloc.{Reloc};
-ghost use Rattle.object_form.specs.Form.{RelocFits};
+ghost use Rattle.code_model.specs.declared.parts.Reloc.{Reloc};
+ghost use Rattle.code_model.specs.Form.{RelocFits};
 ghost use Rattle.insert_model.specs.declared.line.Line.{Line};
 ghost use Rattle.insert_model.specs.Words.{count};
 ghost use Rattle.insert_model.specs.Source.{on_word, line_at};
 ghost use Rattle.check_inserter.specs.Read.{AreKinds, IsSource, IsUnread};
 ghost use Rattle.static_checker.specs.Spots.{IsSpot};
 
-use checker_laws::starts_apart;
+use code_laws::starts_apart;
+use code_model::object::Object;
+use code_model::parts::{RelKind, Reloc};
 use insert_model::fault::{InsertFault, InsertKind};
 use insert_model::laws::{instruction_size, line_stands};
 use insert_model::line::Line;
 use msp_encode::laws::legal_by_cases;
-use object_form::object::Object;
-use object_form::parts::{RelKind, Reloc};
 use static_checker::spot::{Spot, spot_at};
 use std::alloc::{AllocError, Global};
 

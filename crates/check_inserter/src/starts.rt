@@ -5,9 +5,9 @@ ghost use Rattle.code_model.specs.Starts.{AreStarts};
 ghost use Rattle.insert_model.specs.Faults.{IsStartOffset, IsJumpStart};
 ghost use Rattle.check_inserter.specs.Read.{StartsIn, AreWhole, IsSource};
 
+use code_model::marks::Marks;
+use code_model::object::Object;
 use insert_model::line::Line;
-use object_form::marks::Marks;
-use object_form::object::Object;
 use static_checker::marking::{jump_place, mark};
 
 /// The places where lines start, as marks.

@@ -12,12 +12,12 @@ ghost use Rattle.check_inserter.specs.Read.{IsWhole};
 use crate::forms::sets_pc;
 use crate::size::word_count;
 use crate::starts::{is_jump_start, is_start_offset};
+use code_model::marks::Marks;
+use code_model::object::Object;
+use code_model::parts::{Kind, RelKind};
 use insert_model::line::Line;
 use insert_model::piece::Piece;
 use msp_encode::instr::{Dst, Instr, Src};
-use object_form::marks::Marks;
-use object_form::object::Object;
-use object_form::parts::{Kind, RelKind};
 use static_checker::forms::{is_call, is_jmp, src_size};
 
 /// Tells whether a line has a target that isn't one, or the code could run on behind it where it ends.

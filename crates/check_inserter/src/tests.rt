@@ -2,8 +2,8 @@
 //! looks at, and `faulty` those of `faults`.
 
 use super::{InsertFault, InsertKind, insert};
-use object_form::object::Object;
-use object_form::parts::RelKind;
+use code_model::object::Object;
+use code_model::parts::RelKind;
 use object_form::reading::read_object;
 use std::alloc::{AllocError, Global};
 

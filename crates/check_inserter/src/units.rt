@@ -15,11 +15,11 @@ use crate::operands::{
 };
 use crate::targets::own;
 use crate::words::{put_both, put_pieces};
+use code_model::parts::RelKind;
 use insert_model::aim::Aim;
 use insert_model::line::Line;
 use insert_model::piece::{Piece, Word};
 use msp_encode::instr::{Cond, Dst, Instr, Op1, Op2, Src, Width};
-use object_form::parts::RelKind;
 use std::alloc::AllocError;
 
 /// The entry that jumps to R4.

@@ -5,11 +5,11 @@ ghost use Rattle.msp_encode.specs.Spelling.{InstrFits, First, src_words, dst_wor
 ghost use Rattle.insert_model.specs.Words.{first_word, with_kind, operand_words, piece_words, unit_words};
 ghost use Rattle.check_inserter.specs.Fitting.{AllFit};
 
+use code_model::parts::RelKind;
 use insert_model::piece::{Piece, Word};
 use msp_encode::encode;
 use msp_encode::instr::{Dst, Instr, Src};
 use msp_encode::laws::legal_by_cases;
-use object_form::parts::RelKind;
 use std::alloc::AllocError;
 
 /// Appends the words of pieces, one piece after another.

@@ -13,13 +13,13 @@ use Rattle.msp_encode.specs.declared.instr.Dst.TheVariants as dst
 use Rattle.msp_encode.specs.declared.instr.Instr.{Instr}
 use Rattle.msp_encode.specs.declared.instr.Instr.TheVariants as instr
 use Rattle.msp_encode.specs.Spelling.{src_words}
-use Rattle.object_form.specs.declared.object.Object.{Object}
-use Rattle.object_form.specs.declared.parts.RelKind.TheVariants.{Lo, Hi}
+use Rattle.code_model.specs.declared.object.Object.{Object}
+use Rattle.code_model.specs.declared.parts.RelKind.TheVariants.{Lo, Hi}
 use Rattle.code_model.specs.declared.guards.GuardKind.{GuardKind}
 use Rattle.code_model.specs.declared.guards.GuardKind.TheVariants as guard
 use Rattle.code_model.specs.declared.guards.Slot.{Slot}
 use Rattle.code_model.specs.declared.guards.Slot.TheVariants as slot
-use Rattle.object_form.specs.Bitmap.{Has}
+use Rattle.kernel_model.specs.Bitmap.{Has}
 use Rattle.code_model.specs.Starts.{Stands, Start}
 use Rattle.code_model.specs.Relocs.{HasReloc, Unrelocated}
 

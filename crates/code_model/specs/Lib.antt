@@ -1,3 +1,5 @@
+pub mod Form
+pub mod Fields
 pub mod Starts
 pub mod Relocs
 pub mod Guards

@@ -1,8 +1,8 @@
 -- The relocations of code words.
 use Rattle.std.specs.Prelude.{ℕ, ◌*◌, List, true}
 use Rattle.std.specs.List.{Contains}
-use Rattle.object_form.specs.declared.parts.Reloc.{Reloc}
-use Rattle.object_form.specs.declared.parts.RelKind.{RelKind}
+use Rattle.code_model.specs.declared.parts.Reloc.{Reloc}
+use Rattle.code_model.specs.declared.parts.RelKind.{RelKind}
 
 -- the code word at a place has a relocation of this kind
 unfoldable pub HasReloc : List Reloc → ℕ → RelKind → Type 0

@@ -1,11 +1,11 @@
 -- The verdict on an object.
 use Rattle.std.specs.Prelude.{◌≡◌, ℕ, ◌*◌, ◌<◌, ◌≤◌, ◌⊎◌, ◌↔◌, List}
-use Rattle.object_form.specs.declared.object.Object.{Object}
+use Rattle.code_model.specs.declared.object.Object.{Object}
 use Rattle.code_model.specs.declared.rules.Rule.{Rule}
 use Rattle.code_model.specs.declared.verdict.Verdict.{Verdict}
 use Rattle.code_model.specs.declared.verdict.Verdict.TheVariants.{Accepted, Refused}
 use Rattle.code_model.specs.Starts.{Start, IsSpelled, Bad}
-use Rattle.object_form.specs.Bitmap.{Has}
+use Rattle.kernel_model.specs.Bitmap.{Has}
 use Rattle.code_model.specs.Guards.{Interior, UnitStart}
 use Rattle.code_model.specs.Rules.{number, Refuses}
 

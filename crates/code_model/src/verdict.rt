@@ -1,6 +1,6 @@
 //! What the checker answers.
 
-use object_form::marks::Marks;
+use super::marks::Marks;
 
 /// An object is accepted, with the marks of its unit starts, or refused by a rule, 1 to 14, at a place: an offset in bytes.
 #[derive(Drop)]

@@ -1,6 +1,6 @@
 -- Objects with guards are accepted.
 use Rattle.std.proofs.Common.{ℕ, inl, inr}
-use Rattle.object_form.specs.declared.object.Object.{Object}
+use Rattle.code_model.specs.declared.object.Object.{Object}
 use Rattle.code_model.specs.declared.rules.Rule.{Rule}
 use Rattle.code_model.specs.declared.rules.Rule.TheVariants as rule
 use Rattle.code_model.specs.declared.verdict.Verdict.TheVariants.{Accepted, Refused}

@@ -2,10 +2,10 @@
 use Rattle.std.proofs.Common.{◌≡◌, ℕ, zero, suc, ◌+◌, ◌≤◌, ◌<◌, List, ◌⊎◌, inl, inr, length, refl, subst, arith}
 use Rattle.std.proofs.lemmas.Bool.{cases_lt}
 use Rattle.msp_encode.specs.declared.instr.Instr.{Instr}
-use Rattle.object_form.specs.declared.object.Object.{Object}
+use Rattle.code_model.specs.declared.object.Object.{Object}
 use Rattle.code_model.specs.Starts.{Stands, Start, IsSpelled}
 use Rattle.code_model.specs.Verdicts.{AllSpelled}
-use Rattle.checker_laws.specs.Laws.{NextStart, StartsApart}
+use Rattle.code_laws.specs.Laws.{NextStart, StartsApart}
 use Rattle.insert_laws.specs.Source.{StartsDecided}
 
 abbrev Decided : List ℕ → ℕ → Type 0

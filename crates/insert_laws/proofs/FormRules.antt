@@ -13,11 +13,11 @@ use Rattle.msp_encode.specs.declared.instr.Instr.TheVariants as instr
 use Rattle.msp_encode.specs.Laws.{LegalByCases}
 use Rattle.msp_decode.specs.Function.{ReadingLaw}
 use Rattle.msp_decode.specs.Laws.{OneInstruction, FirstWordDecides}
-use Rattle.object_form.specs.declared.object.Object.{Object}
-use Rattle.object_form.specs.declared.parts.RelKind.{RelKind}
-use Rattle.object_form.specs.declared.parts.RelKind.TheVariants.{Data}
+use Rattle.code_model.specs.declared.object.Object.{Object}
+use Rattle.code_model.specs.declared.parts.RelKind.{RelKind}
+use Rattle.code_model.specs.declared.parts.RelKind.TheVariants.{Data}
 use Rattle.msp_encode.specs.Spelling.{src_words}
-use Rattle.object_form.specs.Spelling.{Fields, fields}
+use Rattle.code_model.specs.Fields.{Fields, fields}
 use Rattle.code_model.specs.declared.guards.GuardKind.{GuardKind}
 use Rattle.code_model.specs.declared.guards.GuardKind.TheVariants as guard
 use Rattle.code_model.specs.declared.rules.Rule.{Rule}
@@ -25,7 +25,7 @@ use Rattle.code_model.specs.declared.rules.Rule.TheVariants as rule
 use Rattle.code_model.specs.Starts.{Stands, Start, Bad}
 use Rattle.code_model.specs.Guards.{Guarded, Own}
 use Rattle.code_model.specs.Rules.{IsReti, WritesReg, IsBranch, WritesMemory, WritesWild, ReadsStack, IsPushOrCall, BreaksAt, HasWrongReloc, Refuses}
-use Rattle.checker_laws.specs.Laws.{IsSame, OneStands}
+use Rattle.code_laws.specs.Laws.{IsSame, OneStands}
 use Rattle.insert_model.specs.declared.piece.Piece.{Piece}
 use Rattle.insert_model.specs.Words.{count, unit_words}
 use Rattle.insert_model.specs.Source.{lines}

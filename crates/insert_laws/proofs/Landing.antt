@@ -7,15 +7,15 @@ use Rattle.msp_encode.specs.declared.instr.Instr.{Instr}
 use Rattle.msp_encode.specs.declared.instr.Instr.TheVariants as instr
 use Rattle.msp_encode.specs.Laws.{LegalByCases}
 use Rattle.msp_decode.specs.Function.{ReadingLaw}
-use Rattle.object_form.specs.declared.object.Object.{Object}
-use Rattle.object_form.specs.declared.parts.RelKind.{RelKind}
-use Rattle.object_form.specs.declared.parts.RelKind.TheVariants.{Code}
-use Rattle.object_form.specs.Spelling.{Fields, fields}
+use Rattle.code_model.specs.declared.object.Object.{Object}
+use Rattle.code_model.specs.declared.parts.RelKind.{RelKind}
+use Rattle.code_model.specs.declared.parts.RelKind.TheVariants.{Code}
+use Rattle.code_model.specs.Fields.{Fields, fields}
 use Rattle.code_model.specs.declared.rules.Rule.TheVariants as rule
 use Rattle.code_model.specs.Starts.{Start}
 use Rattle.code_model.specs.Relocs.{HasReloc, Unrelocated}
 use Rattle.code_model.specs.Rules.{IsUnitOffset, GoesAstray, BreaksAt}
-use Rattle.checker_laws.specs.Laws.{IsSame, OneStands}
+use Rattle.code_laws.specs.Laws.{IsSame, OneStands}
 use Rattle.insert_model.specs.declared.piece.Piece.{Piece}
 use Rattle.insert_model.specs.Words.{count, operand_words, piece_words, unit_words}
 use Rattle.insert_model.specs.Source.{lines}

@@ -4,10 +4,10 @@ use Rattle.std.proofs.lemmas.List.{map-append}
 use Rattle.msp_encode.specs.declared.instr.Instr.{Instr}
 use Rattle.msp_encode.specs.Laws.{LegalByCases}
 use Rattle.msp_decode.specs.Function.{ReadingLaw}
-use Rattle.object_form.specs.declared.object.Object.{Object}
-use Rattle.object_form.specs.Spelling.{Fields, fields}
+use Rattle.code_model.specs.declared.object.Object.{Object}
+use Rattle.code_model.specs.Fields.{Fields, fields}
 use Rattle.code_model.specs.Starts.{Stands, Start}
-use Rattle.checker_laws.specs.Laws.{OneStands}
+use Rattle.code_laws.specs.Laws.{OneStands}
 use Rattle.insert_model.specs.declared.piece.Piece.{Piece}
 use Rattle.insert_model.specs.Words.{count}
 use Rattle.insert_model.specs.Source.{lines}

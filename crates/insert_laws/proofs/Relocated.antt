@@ -1,10 +1,10 @@
 -- The relocations of pieces' words.
 use Rattle.std.proofs.Common.{◌≡◌, ℕ, zero, suc, ◌+◌, ◌*◌, ◌<◌, if◌then◌else◌, Bool, true, false, not, List, [], ◌∷◌, ◌++◌, ◌⊎◌, inl, inr, length, slice_index_or, Option, None, Some, refl, sym, subst, ap, ◌∙◌, arith}
 use Rattle.std.specs.List.{Contains}
-use Rattle.object_form.specs.declared.object.Object.{Object}
-use Rattle.object_form.specs.declared.parts.Reloc.{Reloc}
-use Rattle.object_form.specs.declared.parts.RelKind.{RelKind}
-use Rattle.object_form.specs.Spelling.{Fields, fields}
+use Rattle.code_model.specs.declared.object.Object.{Object}
+use Rattle.code_model.specs.declared.parts.Reloc.{Reloc}
+use Rattle.code_model.specs.declared.parts.RelKind.{RelKind}
+use Rattle.code_model.specs.Fields.{Fields, fields}
 use Rattle.code_model.specs.Relocs.{HasReloc, Unrelocated}
 use Rattle.insert_model.specs.declared.piece.Word.{Word}
 use Rattle.insert_model.specs.Words.{unit_words}

@@ -10,11 +10,11 @@ use Rattle.msp_encode.specs.declared.instr.Dst.TheVariants as dst
 use Rattle.msp_encode.specs.declared.instr.Instr.{Instr}
 use Rattle.msp_encode.specs.declared.instr.Instr.TheVariants as instr
 use Rattle.msp_encode.specs.Spelling.{src_words}
-use Rattle.object_form.specs.declared.object.Object.{Object}
-use Rattle.object_form.specs.declared.parts.Reloc.{Reloc}
-use Rattle.object_form.specs.declared.parts.RelKind.{RelKind}
-use Rattle.object_form.specs.declared.parts.RelKind.TheVariants.{Code, Data, Lo, Hi}
-use Rattle.object_form.specs.Spelling.{Fields, fields}
+use Rattle.code_model.specs.declared.object.Object.{Object}
+use Rattle.code_model.specs.declared.parts.Reloc.{Reloc}
+use Rattle.code_model.specs.declared.parts.RelKind.{RelKind}
+use Rattle.code_model.specs.declared.parts.RelKind.TheVariants.{Code, Data, Lo, Hi}
+use Rattle.code_model.specs.Fields.{Fields, fields}
 use Rattle.code_model.specs.Relocs.{HasReloc}
 use Rattle.code_model.specs.Rules.{static_size, InStatic, WritesWild}
 use Rattle.insert_model.specs.declared.piece.Piece.{Piece}

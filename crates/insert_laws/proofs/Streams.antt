@@ -6,7 +6,7 @@ use Rattle.std.proofs.lemmas.List.Concat.{flat_map-append}
 use Rattle.msp_encode.specs.declared.instr.Instr.{Instr}
 use Rattle.msp_encode.specs.Spelling.{Spells, InstrFits}
 use Rattle.code_model.specs.Starts.{Begins, Stands, Steps, Reached, Start}
-use Rattle.checker_laws.specs.Laws.{IsSame, OneStands}
+use Rattle.code_laws.specs.Laws.{IsSame, OneStands}
 use Rattle.insert_model.specs.Words.{count, spelling}
 use Rattle.insert_laws.specs.Pieces.{size_of}
 use Rattle.insert_laws.proofs.Spelled.{spells}

@@ -19,14 +19,14 @@ use Rattle.msp_encode.specs.declared.instr.Instr.TheVariants as instr
 use Rattle.msp_encode.specs.Laws.{LegalByCases}
 use Rattle.msp_decode.specs.Function.{reading, ReadingLaw}
 use Rattle.msp_decode.specs.Laws.{OneInstruction, FirstWordDecides}
-use Rattle.object_form.specs.declared.object.Object.{Object}
-use Rattle.object_form.specs.declared.parts.Export.{Export}
-use Rattle.object_form.specs.declared.parts.Reloc.{Reloc}
-use Rattle.object_form.specs.Spelling.{Fields, fields}
+use Rattle.code_model.specs.declared.object.Object.{Object}
+use Rattle.code_model.specs.declared.parts.Export.{Export}
+use Rattle.code_model.specs.declared.parts.Reloc.{Reloc}
+use Rattle.code_model.specs.Fields.{Fields, fields}
 use Rattle.code_model.specs.Starts.{Stands, Steps, Reached, Start}
 use Rattle.code_model.specs.Guards.{UnitStart}
 use Rattle.code_model.specs.Rules.{IsExported}
-use Rattle.checker_laws.specs.Laws.{OneStands}
+use Rattle.code_laws.specs.Laws.{OneStands}
 use Rattle.insert_model.specs.declared.fault.InsertKind.TheVariants.{BadTarget}
 use Rattle.insert_model.specs.declared.line.Line.{Line}
 use Rattle.insert_model.specs.declared.piece.Piece.{Piece}

@@ -6,8 +6,8 @@ use Rattle.msp_encode.specs.declared.instr.Src.TheVariants as src
 use Rattle.msp_encode.specs.declared.instr.Dst.{Dst}
 use Rattle.msp_encode.specs.declared.instr.Instr.{Instr}
 use Rattle.msp_encode.specs.declared.instr.Instr.TheVariants as instr
-use Rattle.object_form.specs.declared.object.Object.{Object}
-use Rattle.object_form.specs.declared.parts.RelKind.{RelKind}
+use Rattle.code_model.specs.declared.object.Object.{Object}
+use Rattle.code_model.specs.declared.parts.RelKind.{RelKind}
 use Rattle.code_model.specs.Relocs.{Unrelocated}
 use Rattle.code_model.specs.Rules as code
 use Rattle.insert_model.specs.declared.piece.Piece.{Piece}

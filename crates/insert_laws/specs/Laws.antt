@@ -1,7 +1,7 @@
 -- Laws of objects with guards.
 use Rattle.std.specs.Prelude.{◌≡◌, ℕ, ◌*◌, zero, suc, List, [], ◌∷◌, Option, None, Some}
-use Rattle.object_form.specs.declared.object.Object.{Object}
-use Rattle.object_form.specs.Spelling.{fields}
+use Rattle.code_model.specs.declared.object.Object.{Object}
+use Rattle.code_model.specs.Fields.{fields}
 use Rattle.code_model.specs.Starts.{Stands, Start}
 use Rattle.code_model.specs.declared.rules.Rule.{Rule}
 use Rattle.code_model.specs.declared.rules.Rule.TheVariants as rule
@@ -9,7 +9,7 @@ use Rattle.code_model.specs.Guards.{UnitStart}
 use Rattle.code_model.specs.Rules.{Refuses}
 use Rattle.code_model.specs.declared.verdict.Verdict.{Verdict}
 use Rattle.code_model.specs.Verdicts.{AllSpelled, IsVerdict, IsAcceptance}
-use Rattle.object_form.specs.declared.parts.RelKind.{RelKind}
+use Rattle.code_model.specs.declared.parts.RelKind.{RelKind}
 use Rattle.code_model.specs.Relocs.{HasReloc, Unrelocated}
 use Rattle.insert_model.specs.declared.piece.Word.{Word}
 use Rattle.insert_model.specs.Words.{count, unit_words}

@@ -7,12 +7,12 @@ use Rattle.msp_encode.specs.declared.instr.Src.TheVariants as src
 use Rattle.msp_encode.specs.declared.instr.Dst.TheVariants as dst
 use Rattle.msp_encode.specs.declared.instr.Instr.{Instr}
 use Rattle.msp_encode.specs.declared.instr.Instr.TheVariants as instr
-use Rattle.object_form.specs.declared.parts.RelKind.{RelKind}
+use Rattle.code_model.specs.declared.parts.RelKind.{RelKind}
 use Rattle.code_model.specs.declared.guards.GuardKind.{GuardKind}
 use Rattle.code_model.specs.declared.guards.GuardKind.TheVariants as guard
 use Rattle.code_model.specs.Guards.{Writes, Changes, IsQuiet, IsAtR4, IsGrowthForm, IsPopForm, IsSpForm}
 use Rattle.msp_encode.specs.Spelling.{InstrFits}
-use Rattle.object_form.specs.declared.object.Object.{Object}
+use Rattle.code_model.specs.declared.object.Object.{Object}
 use Rattle.code_model.specs.Rules.{IsReti, WritesReg, IsBranch, WritesMemory, ReadsStack, IsPushOrCall, IsAlways}
 use Rattle.insert_model.specs.declared.line.Line.{Line}
 use Rattle.insert_model.specs.declared.piece.Piece.{Piece}

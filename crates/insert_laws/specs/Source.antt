@@ -2,7 +2,7 @@
 use Rattle.std.specs.Prelude.{ℕ, ◌⊎◌}
 use Rattle.msp_encode.specs.declared.instr.Instr.{Instr}
 use Rattle.msp_encode.specs.Spelling.{Spells, InstrFits}
-use Rattle.object_form.specs.declared.object.Object.{Object}
+use Rattle.code_model.specs.declared.object.Object.{Object}
 use Rattle.code_model.specs.Starts.{Start}
 use Rattle.insert_model.specs.Words.{spelling}
 use Rattle.insert_model.specs.Faults.{IsInserted}

@@ -6,7 +6,7 @@ use Rattle.msp_encode.specs.Spelling.{Spells, words_after}
 use Rattle.msp_decode.specs.Reading.{NoneBegins}
 use Rattle.msp_decode.specs.Function.{reading, ReadingLaw}
 use Rattle.msp_decode.specs.Laws.{OneInstruction, FirstWordDecides}
-use Rattle.object_form.specs.declared.parts.Reloc.{Reloc}
+use Rattle.code_model.specs.declared.parts.Reloc.{Reloc}
 use Rattle.code_model.specs.Starts.{Begins}
 use Rattle.insert_model.specs.declared.line.Line.{Line}
 use Rattle.insert_model.specs.Words.{count}

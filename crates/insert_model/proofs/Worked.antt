@@ -1,10 +1,10 @@
 -- A worked object: a store through R6 and a jump back to it.
 use Rattle.std.proofs.Common.{◌≡◌, ℕ, List, [], ◌∷◌, true, refl}
 use Rattle.msp_decode.specs.Function.{reading, read_instr, read_two, read_one, read_jump}
-use Rattle.object_form.specs.declared.parts.Kind.TheVariants.{App}
-use Rattle.object_form.specs.declared.parts.Reloc.{Reloc}
-use Rattle.object_form.specs.declared.parts.RelKind.TheVariants.{Code, Lo, Hi}
-use Rattle.object_form.specs.Spelling.{Fields, fields_by}
+use Rattle.kernel_model.specs.declared.kinds.Kind.TheVariants.{App}
+use Rattle.code_model.specs.declared.parts.Reloc.{Reloc}
+use Rattle.code_model.specs.declared.parts.RelKind.TheVariants.{Code, Lo, Hi}
+use Rattle.code_model.specs.Fields.{Fields, fields_by}
 use Rattle.insert_model.specs.Words.{two_word, one_word, jump_word, piece_words, unit_words}
 use Rattle.insert_model.specs.Source.{kind_at, line_at, lines_from, lines}
 use Rattle.insert_model.specs.Units.{static_bytes, unit}

@@ -8,14 +8,14 @@ use Rattle.msp_encode.specs.declared.instr.Dst.TheVariants as dst
 use Rattle.msp_encode.specs.declared.instr.Instr.{Instr}
 use Rattle.msp_encode.specs.declared.instr.Instr.TheVariants as instr
 use Rattle.msp_encode.specs.Spelling.{src_words, dst_words}
-use Rattle.object_form.specs.declared.object.Object.{Object}
-use Rattle.object_form.specs.declared.parts.Export.{Export}
-use Rattle.object_form.specs.declared.parts.Reloc.{Reloc}
-use Rattle.object_form.specs.declared.parts.Kind.{Kind}
-use Rattle.object_form.specs.declared.parts.Kind.TheVariants.{App}
-use Rattle.object_form.specs.declared.parts.RelKind.{RelKind}
-use Rattle.object_form.specs.declared.parts.RelKind.TheVariants.{Code}
-use Rattle.object_form.specs.Spelling.{fields}
+use Rattle.code_model.specs.declared.object.Object.{Object}
+use Rattle.code_model.specs.declared.parts.Export.{Export}
+use Rattle.code_model.specs.declared.parts.Reloc.{Reloc}
+use Rattle.kernel_model.specs.declared.kinds.Kind.{Kind}
+use Rattle.kernel_model.specs.declared.kinds.Kind.TheVariants.{App}
+use Rattle.code_model.specs.declared.parts.RelKind.{RelKind}
+use Rattle.code_model.specs.declared.parts.RelKind.TheVariants.{Code}
+use Rattle.code_model.specs.Fields.{fields}
 use Rattle.code_model.specs.Starts.{Start, Bad}
 use Rattle.code_model.specs.Guards.{Writes, Changes, Stacks, IsMov, IsWide, SrcIs, DstIs, Pops}
 use Rattle.code_model.specs.Rules.{IsReti, WritesReg, IsBisOrBic, IsFlags, const_value, IsJumpEntry, IsCallEntry, IsCall, IsJmp, Carries}

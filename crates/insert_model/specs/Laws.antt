@@ -1,7 +1,7 @@
 -- Laws of the lines.
 use Rattle.std.specs.Prelude.{◌≡◌, ℕ, ◌+◌, ◌<◌, List, ◌∷◌, length, drop, slice_index}
 use Rattle.msp_encode.specs.declared.instr.Instr.{Instr}
-use Rattle.object_form.specs.declared.parts.Reloc.{Reloc}
+use Rattle.code_model.specs.declared.parts.Reloc.{Reloc}
 use Rattle.code_model.specs.Starts.{Stands}
 use Rattle.insert_model.specs.Words.{count}
 use Rattle.insert_model.specs.Source.{line_at, lines_from}

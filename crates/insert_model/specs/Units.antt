@@ -14,9 +14,9 @@ use Rattle.msp_encode.specs.declared.instr.Dst.{Dst}
 use Rattle.msp_encode.specs.declared.instr.Dst.TheVariants as dst
 use Rattle.msp_encode.specs.declared.instr.Instr.{Instr}
 use Rattle.msp_encode.specs.declared.instr.Instr.TheVariants as instr
-use Rattle.object_form.specs.declared.parts.RelKind.{RelKind}
-use Rattle.object_form.specs.declared.parts.RelKind.TheVariants.{Code, Data, Lo, Hi}
-use Rattle.object_form.specs.Spelling.{Fields}
+use Rattle.code_model.specs.declared.parts.RelKind.{RelKind}
+use Rattle.code_model.specs.declared.parts.RelKind.TheVariants.{Code, Data, Lo, Hi}
+use Rattle.code_model.specs.Fields.{Fields}
 use Rattle.insert_model.specs.declared.aim.Aim.{Aim}
 use Rattle.insert_model.specs.declared.aim.Aim.TheVariants.{ToPc, ToSp, ToMemory, Elsewhere}
 use Rattle.insert_model.specs.declared.line.Line.{Line}

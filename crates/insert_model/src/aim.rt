@@ -1,6 +1,6 @@
 //! What an instruction writes to.
 
-use object_form::parts::RelKind;
+use code_model::parts::RelKind;
 
 /// What the destination of an instruction asks of its unit.
 #[derive(Clone, Copy, PartialEq, Eq, Debug, Drop)]

@@ -1,7 +1,7 @@
 //! Source instructions.
 
+use code_model::parts::RelKind;
 use msp_encode::instr::Instr;
-use object_form::parts::RelKind;
 
 /// A source instruction: its place, which is the number of its first word, and the relocations of its words. `second` and
 /// `third` are empty where the instruction has no such word.

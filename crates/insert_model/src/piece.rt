@@ -1,7 +1,7 @@
 //! What units are made of.
 
+use code_model::parts::RelKind;
 use msp_encode::instr::Instr;
-use object_form::parts::RelKind;
 
 /// An instruction of a unit, with the relocations of its source's and its destination's word. A word that isn't there has
 /// none.

@@ -1,6 +1,13 @@
 pub mod Bytes
+pub mod Bitmap
 pub mod Kernel
 pub mod Words
 pub mod Layout
 pub mod Queues
 pub mod Orderly
+pub mod Running
+pub mod Starting
+pub mod Dispatching
+pub mod Entries
+pub mod Ending
+pub mod Waking

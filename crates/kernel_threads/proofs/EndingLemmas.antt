@@ -8,8 +8,8 @@ use Rattle.kernel_model.specs.Orderly.Spot.{OnLine}
 use Rattle.kernel_model.specs.Words.{app_of, running, none_running}
 use Rattle.kernel_model.specs.Layout.{kernel_of}
 use Rattle.kernel_model.specs.Queues.{Leaves}
-use Rattle.thread_model.specs.declared.ends.AppEnd.{AppEnd}
-use Rattle.thread_model.specs.Ending.{is_of, others, end_state, threads_ended, waits_ended, ended}
+use Rattle.kernel_model.specs.declared.ends.AppEnd.{AppEnd}
+use Rattle.kernel_model.specs.Ending.{is_of, others, end_state, threads_ended, waits_ended, ended}
 use Rattle.kernel_threads.specs.Leaving.{with_lines, rows_emptied}
 use Rattle.kernel_threads.proofs.ChainLemmas.{leaves_as, leaves_then}
 

@@ -6,10 +6,10 @@ use Rattle.kernel_model.specs.Kernel.{Kernel}
 use Rattle.kernel_model.specs.Words.{running, app_of, number_of}
 use Rattle.kernel_model.specs.Layout.{kernel_of}
 use Rattle.kernel_model.specs.Queues.{Leaves}
-use Rattle.thread_model.specs.declared.code.Code.{Code}
-use Rattle.thread_model.specs.declared.code.Code.TheVariants.{Full, BadArgument}
-use Rattle.thread_model.specs.Starting.{begun, free_threads}
-use Rattle.thread_model.specs.Entries.{spawn_code, first_code}
+use Rattle.kernel_model.specs.declared.code.Code.{Code}
+use Rattle.kernel_model.specs.declared.code.Code.TheVariants.{Full, BadArgument}
+use Rattle.kernel_model.specs.Starting.{begun, free_threads}
+use Rattle.kernel_model.specs.Entries.{spawn_code, first_code}
 use Rattle.kernel_threads.specs.Entries.{SpawnedBy}
 
 -- the first of a list is one that has some

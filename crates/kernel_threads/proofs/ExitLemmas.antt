@@ -4,8 +4,8 @@ use Rattle.kernel_model.specs.Kernel.{Kernel, with_thread, empty_row}
 use Rattle.kernel_model.specs.Words.{app_of, running, none_running}
 use Rattle.kernel_model.specs.Layout.{kernel_of}
 use Rattle.kernel_model.specs.Queues.{Leaves}
-use Rattle.thread_model.specs.declared.ends.AppEnd.TheVariants.{Done}
-use Rattle.thread_model.specs.Ending.{ended, exited, is_last}
+use Rattle.kernel_model.specs.declared.ends.AppEnd.TheVariants.{Done}
+use Rattle.kernel_model.specs.Ending.{ended, exited, is_last}
 use Rattle.kernel_threads.specs.Leaving.{is_last_thread}
 use Rattle.kernel_threads.proofs.ChainLemmas.{leaves_as, leaves_then}
 

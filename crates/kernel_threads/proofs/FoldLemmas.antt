@@ -6,7 +6,7 @@ use Rattle.kernel_model.specs.Kernel.{Kernel, with_thread, with_mutex, with_cond
 use Rattle.kernel_model.specs.Words.{app_of, identity}
 use Rattle.kernel_model.specs.Layout.{kernel_of}
 use Rattle.kernel_model.specs.Queues.{Leaves}
-use Rattle.thread_model.specs.Ending.{waits_ended}
+use Rattle.kernel_model.specs.Ending.{waits_ended}
 use Rattle.kernel_threads.specs.Leaving.{rows_emptied}
 use Rattle.kernel_threads.proofs.ChainLemmas.{leaves_as, leaves_then}
 

@@ -8,7 +8,7 @@ use Rattle.std.proofs.lemmas.List.Elements.{Contains-get_or, filter_more, filter
 use Rattle.std.proofs.lemmas.List.Edits.{remove-append_right}
 use Rattle.std.proofs.lemmas.List.Sums.{position_or_len_is}
 use Rattle.kernel_model.specs.Queues.{without}
-use Rattle.thread_model.specs.Ending.{is_of, others}
+use Rattle.kernel_model.specs.Ending.{is_of, others}
 
 unfoldable pub part_left : (a : ℕ) (xs : List ℕ) (i : ℕ) → List ℕ
 part_left a xs i = others a (take i xs) ++ drop i xs

@@ -3,7 +3,7 @@ use Rattle.std.proofs.Common.{◌≡◌, ℕ, ◌+◌, ◌<◌, ◌≤◌, true,
 use Rattle.kernel_model.specs.Kernel.{Kernel, with_ready, with_sleepers}
 use Rattle.kernel_model.specs.Layout.{kernel_of}
 use Rattle.kernel_model.specs.Queues.{Leaves, without}
-use Rattle.thread_model.specs.Ending.{is_of, others}
+use Rattle.kernel_model.specs.Ending.{is_of, others}
 use Rattle.kernel_threads.proofs.ChainLemmas.{leaves_as, leaves_same, leaves_then}
 use Rattle.kernel_threads.proofs.LeavingLemmas.{part_left, part_left_none, part_left_all, next_stands, taken_more, kept_more}
 

@@ -6,7 +6,7 @@ use Rattle.std.proofs.lemmas.List.Edits.{map_over_more}
 use Rattle.kernel_model.specs.Kernel.{Kernel, line_at, with_line}
 use Rattle.kernel_model.specs.Layout.{kernel_of}
 use Rattle.kernel_model.specs.Queues.{Leaves}
-use Rattle.thread_model.specs.Ending.{is_of, others}
+use Rattle.kernel_model.specs.Ending.{is_of, others}
 use Rattle.kernel_threads.specs.Leaving.{with_lines}
 use Rattle.kernel_threads.proofs.ChainLemmas.{leaves_as, leaves_then}
 

@@ -10,7 +10,7 @@ use Rattle.place_model.specs.declared.places.DomainRow.{DomainRow}
 use Rattle.place_model.specs.declared.places.Pool.TheVariants.{Data}
 use Rattle.place_model.specs.Placing.{app_domain, module_domain, domain_at, pool_range, range_in}
 use Rattle.place_model.specs.Settled.{IsAppPlace, IsInPool, IsSettledKernel}
-use Rattle.thread_model.specs.Starting.{MayBegin}
+use Rattle.kernel_model.specs.Starting.{MayBegin}
 use Rattle.thread_laws.specs.Facts.{IsReady}
 use Rattle.kernel_threads.specs.Stacks.{HasStack}
 

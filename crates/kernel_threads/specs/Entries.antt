@@ -3,8 +3,8 @@ use Rattle.std.specs.Prelude.{◌≡◌, ◌↔◌, ℕ, Bool, IsTrue, List, sli
 use Rattle.kernel_model.specs.Layout.{kernel_of}
 use Rattle.kernel_model.specs.Words.{number_of}
 use Rattle.kernel_model.specs.Queues.{Leaves}
-use Rattle.thread_model.specs.declared.code.Code.{Code}
-use Rattle.thread_model.specs.Entries.{next_thread, spawn_code, spawned, with_priority}
+use Rattle.kernel_model.specs.declared.code.Code.{Code}
+use Rattle.kernel_model.specs.Entries.{next_thread, spawn_code, spawned, with_priority}
 use Rattle.kernel_threads.specs.Returns.{IsOwnMark}
 
 -- with no code there is a new thread, and its number is answered; else the code is, and memory is as it was

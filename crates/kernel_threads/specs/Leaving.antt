@@ -3,7 +3,7 @@ use Rattle.std.specs.Prelude.{ℕ, ◌==◌, ◌||◌, Bool, List}
 use Rattle.std.specs.List.{fold, list_all, range_with_len}
 use Rattle.kernel_model.specs.Kernel.{Kernel, with_thread, empty_row}
 use Rattle.kernel_model.specs.Words.{app_of, identity}
-use Rattle.thread_model.specs.Starting.{is_free_thread, threads_of}
+use Rattle.kernel_model.specs.Starting.{is_free_thread, threads_of}
 
 -- the kernel with other lists of those that wait for lines
 abbrev pub with_lines : Kernel → List (List ℕ) → Kernel

@@ -5,7 +5,7 @@ use Rattle.machine_model.specs.Operands.{sum_of}
 use Rattle.kernel_model.specs.Layout.{kernel_of}
 use Rattle.place_model.specs.Placing.{domain_at}
 use Rattle.place_model.specs.Marking.{IsMarkOf}
-use Rattle.thread_model.specs.Running.{running_domain}
+use Rattle.kernel_model.specs.Running.{running_domain}
 
 -- the address is a mark of the domain that runs
 abbrev pub IsOwnMark : (m : List ℕ) → (at : ℕ) → Type 0

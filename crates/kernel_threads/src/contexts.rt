@@ -1,7 +1,7 @@
 //! Contexts: sixteen words, saved from the registers and taken by them.
 
 ghost use Rattle.std.specs.Prelude.{◌≡◌, length};
-ghost use Rattle.thread_model.specs.Running.{new_context};
+ghost use Rattle.kernel_model.specs.Running.{new_context};
 ghost use Rattle.kernel_threads.specs.Contexts.{taken};
 
 use msp_machine::Regs;

@@ -6,8 +6,8 @@ ghost use Rattle.kernel_model.specs.Layout.{kernel_of};
 ghost use Rattle.kernel_model.specs.Queues.{Leaves, without};
 ghost use Rattle.kernel_model.specs.Words.{running_state, with_running, with_state};
 ghost use Rattle.place_model.specs.Settled.{IsSettled};
-ghost use Rattle.thread_model.specs.Dispatching.{chosen_place, dispatched, dispatched_context, moved_to_end, moved_to_front, saved};
-ghost use Rattle.thread_model.specs.Running.{NoneRuns, ThreadRuns};
+ghost use Rattle.kernel_model.specs.Dispatching.{chosen_place, dispatched, dispatched_context, moved_to_end, moved_to_front, saved};
+ghost use Rattle.kernel_model.specs.Running.{NoneRuns, ThreadRuns};
 ghost use Rattle.kernel_threads.specs.Contexts.{taken};
 
 use crate::contexts::{new_context, take, words_of};

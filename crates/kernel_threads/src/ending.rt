@@ -6,8 +6,8 @@ ghost use Rattle.kernel_model.specs.Layout.{kernel_of};
 ghost use Rattle.kernel_model.specs.Queues.{Leaves, QueuesHold};
 ghost use Rattle.kernel_model.specs.Words.{app_of, live, none, running, running_module};
 ghost use Rattle.place_model.specs.Settled.{IsSettled};
-ghost use Rattle.thread_model.specs.Ending.{OwnsNone, end_state, ended, exited, is_last, is_of, threads_ended, waits_ended};
-ghost use Rattle.thread_model.specs.Running.{ThreadRuns};
+ghost use Rattle.kernel_model.specs.Ending.{OwnsNone, end_state, ended, exited, is_last, is_of, threads_ended, waits_ended};
+ghost use Rattle.kernel_model.specs.Running.{ThreadRuns};
 ghost use Rattle.kernel_threads.specs.Leaving.{is_last_thread, rows_emptied};
 
 use crate::AppEnd;

@@ -5,9 +5,9 @@ ghost use Rattle.kernel_model.specs.Kernel.{app_at};
 ghost use Rattle.kernel_model.specs.Layout.{kernel_of};
 ghost use Rattle.kernel_model.specs.Words.{live};
 ghost use Rattle.place_model.specs.Settled.{IsSettled};
-ghost use Rattle.thread_model.specs.Entries.{priority_code};
-ghost use Rattle.thread_model.specs.Running.{ThreadRuns};
-ghost use Rattle.thread_model.specs.Starting.{MayBegin, free_threads};
+ghost use Rattle.kernel_model.specs.Entries.{priority_code};
+ghost use Rattle.kernel_model.specs.Running.{ThreadRuns};
+ghost use Rattle.kernel_model.specs.Starting.{MayBegin, free_threads};
 ghost use Rattle.kernel_threads.specs.Entries.{PrioritySetBy, Spawns};
 
 use crate::Code;

@@ -5,7 +5,7 @@ ghost use Rattle.kernel_model.specs.Kernel.{line_at, with_ready, with_sleepers};
 ghost use Rattle.kernel_threads.specs.Leaving.{with_lines};
 ghost use Rattle.kernel_model.specs.Layout.{kernel_of};
 ghost use Rattle.kernel_model.specs.Queues.{Leaves, QueuesHold};
-ghost use Rattle.thread_model.specs.Ending.{others};
+ghost use Rattle.kernel_model.specs.Ending.{others};
 
 use crate::stacks::THREADS_OF_APP;
 use arrayvec::ArrayVec;

@@ -1,7 +1,7 @@
 //! The kernel's calls on threads: they begin, run, wait their turn and end, and applications with them.
 //!
 //! It stands on the rows and lists of `kernel_tables`, on the marks of `region_table`, on the registers of `msp_machine`, and on the
-//! definitions of `thread_model`, of which each call does one: contracts say `Leaves old new (rule ..)`, so the kernel is the rule's,
+//! definitions of `kernel_model`, of which each call does one: contracts say `Leaves old new (rule ..)`, so the kernel is the rule's,
 //! and the bytes outside the tables are as before. Each call stands on settled memory and leaves it settled (`thread_laws`). A rule's
 //! steps are the code's, in their order. No call takes memory.
 //!
@@ -22,10 +22,10 @@ mod starting;
 pub use dispatching::{dispatch, save, to_end, to_front};
 pub use ending::{end_app, exit};
 pub use entries::{set_priority, spawn};
+pub use kernel_model::code::Code;
+pub use kernel_model::ends::AppEnd;
 pub use returning::{jump, take_return};
 pub use starting::start;
-pub use thread_model::code::Code;
-pub use thread_model::ends::AppEnd;
 
 #[cfg(test)]
 mod tests;

@@ -4,7 +4,7 @@ ghost use Rattle.std.specs.Prelude.{◌↔◌, IsTrue};
 ghost use Rattle.machine_model.specs.Context.{reg};
 ghost use Rattle.machine_model.specs.Memory.{word_at};
 ghost use Rattle.kernel_model.specs.Layout.{kernel_of};
-ghost use Rattle.thread_model.specs.Running.{DomainRuns};
+ghost use Rattle.kernel_model.specs.Running.{DomainRuns};
 ghost use Rattle.kernel_threads.specs.Returns.{GoesOn, IsOwnMark, gone_to, returned_to};
 
 use crate::stacks::running_domain;

@@ -4,7 +4,7 @@ ghost use Rattle.std.specs.Prelude.{◌≡◌, ◌<◌};
 ghost use Rattle.kernel_model.specs.Layout.{kernel_of};
 ghost use Rattle.kernel_model.specs.Queues.{Leaves};
 ghost use Rattle.kernel_model.specs.Words.{none, none_running, running, running_module, stack_high, stack_low, with_running};
-ghost use Rattle.thread_model.specs.Running.{DomainRuns, running_domain};
+ghost use Rattle.kernel_model.specs.Running.{DomainRuns, running_domain};
 ghost use Rattle.kernel_threads.specs.Stacks.{HasStack};
 
 use flat_mem::FlatMem;

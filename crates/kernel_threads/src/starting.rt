@@ -5,7 +5,7 @@ ghost use Rattle.kernel_model.specs.Layout.{kernel_of};
 ghost use Rattle.kernel_model.specs.Queues.{Leaves, QueuesHold, to_ready_end, to_ready_front};
 ghost use Rattle.kernel_model.specs.Words.{identity, priority_of, ready_row};
 ghost use Rattle.place_model.specs.Settled.{IsSettled};
-ghost use Rattle.thread_model.specs.Starting.{MayBegin, begun, is_free_thread, started};
+ghost use Rattle.kernel_model.specs.Starting.{MayBegin, begun, is_free_thread, started};
 ghost use Rattle.thread_laws.specs.Facts.{IsUnlisted};
 
 use crate::contexts::new_context;

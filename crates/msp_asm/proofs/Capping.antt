@@ -1,7 +1,7 @@
 -- Sizes from 65,536 on count as one.
 use Rattle.std.proofs.Common.{◌≡◌, ℕ, ◌+◌, ◌*◌, ◌≤◌, ◌<◌, inl, inr, List, [], ◌∷◌, min, ap, sym, ◌∙◌, arith, length, drop, get_or, add-one, drop-cons}
 use Rattle.std.specs.Char.{digit_value}
-use Rattle.asm_text.specs.Numbers.{capped, number_from}
+use Rattle.asm_model.specs.Numbers.{capped, number_from}
 use Rattle.std.proofs.lemmas.Bool.{cases_lt}
 
 more : (base n d : ℕ) → 1 ≤ base → 65536 ≤ n → 65536 ≤ n * base + d

@@ -2,11 +2,11 @@
 use Rattle.std.proofs.Common.{◌≡◌, ℕ, ◌+◌, ◌*◌, ◌≤◌, ◌<◌, inl, inr, min, false, nat_le, refl, ap, arith}
 use Rattle.std.proofs.lemmas.Bool.{cases_lt}
 use Rattle.std.proofs.lemmas.Bool.Decides.{nat_tests}
-use Rattle.asm_text.specs.declared.piece.DataUnit.{DataUnit}
-use Rattle.asm_text.specs.declared.piece.DataUnit.TheVariants as unit
-use Rattle.asm_text.specs.declared.progress.Progress.{Progress}
-use Rattle.asm_text.specs.Drafts.{grown}
-use Rattle.asm_text.specs.Directives.{unit_size}
+use Rattle.asm_model.specs.declared.piece.DataUnit.{DataUnit}
+use Rattle.asm_model.specs.declared.piece.DataUnit.TheVariants as unit
+use Rattle.asm_model.specs.declared.progress.Progress.{Progress}
+use Rattle.asm_model.specs.Drafts.{grown}
+use Rattle.asm_model.specs.Directives.{unit_size}
 
 too_much : (a z m : ℕ) → 16384 < m → nat_le ((a + m) + (z + 0)) 16384 ≡ false
 too_much a z m h = grind (arith, nat_tests)

@@ -2,9 +2,9 @@
 use Rattle.std.proofs.Common.{◌≡◌, Bool, true, false, List, [], ◌∷◌, ◌++◌, Some, is_some, refl, ap, ◌∙◌, cond}
 use Rattle.std.specs.Map.{lookup}
 use Rattle.indexmap.specs.IndexMap.{insert_entry}
-use Rattle.asm_text.specs.declared.name.Name.{Name}
-use Rattle.asm_text.specs.declared.name.Value.{Value}
-use Rattle.asm_text.specs.Names.{is_name, value_of}
+use Rattle.asm_model.specs.declared.name.Name.{Name}
+use Rattle.asm_model.specs.declared.name.Value.{Value}
+use Rattle.asm_model.specs.Names.{is_name, value_of}
 
 put_last : (names : List (Name × Value)) (n : Name) (v : Value) → is_some (lookup (is_name n) names) ≡ false → insert_entry is_name names n v ≡ names ++ (n, v) ∷ []
 put_last [] n v h = refl

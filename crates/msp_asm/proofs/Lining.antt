@@ -1,7 +1,7 @@
 -- Lines one by one.
 use Rattle.std.proofs.Common.{◌≡◌, ℕ, List, [], ◌∷◌, Option, Some, None, Bor, refl}
 use Rattle.std.specs.List.{slice_split}
-use Rattle.asm_text.specs.Lines.{is_line_feed, without_return, ended, lines_of}
+use Rattle.asm_model.specs.Lines.{is_line_feed, without_return, ended, lines_of}
 use Rattle.msp_asm.proofs.Listing.{first_part}
 
 -- a line that isn't the last was ended by LF

@@ -2,13 +2,13 @@
 use Rattle.std.proofs.Common.{◌≡◌, ℕ, Bool, true, false, List, [], ◌∷◌, Err, refl, ap, cond}
 use Rattle.std.specs.List.{slice_split, onto_first}
 use Rattle.msp_encode.specs.declared.instr.Width.{Width}
-use Rattle.asm_text.specs.declared.fault.AsmKind.TheVariants.{BadOperand}
-use Rattle.asm_text.specs.declared.name.Name.{Name}
-use Rattle.asm_text.specs.declared.name.Value.{Value}
-use Rattle.asm_text.specs.declared.mnemonic.Form.{Form}
-use Rattle.asm_text.specs.Lines.{is_nil}
-use Rattle.asm_text.specs.Words.{is_comma, operands_of}
-use Rattle.asm_text.specs.Instructions.{instruction_of}
+use Rattle.asm_model.specs.declared.fault.AsmKind.TheVariants.{BadOperand}
+use Rattle.asm_model.specs.declared.name.Name.{Name}
+use Rattle.asm_model.specs.declared.name.Value.{Value}
+use Rattle.asm_model.specs.declared.mnemonic.Form.{Form}
+use Rattle.asm_model.specs.Lines.{is_nil}
+use Rattle.asm_model.specs.Words.{is_comma, operands_of}
+use Rattle.asm_model.specs.Instructions.{instruction_of}
 
 -- there is a first part
 pub record First (parts : List (List ℕ)) : Type 0 where

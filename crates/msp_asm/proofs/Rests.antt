@@ -1,7 +1,7 @@
 -- What is left of a text that is cut part by part.
 use Rattle.std.proofs.Common.{ℕ, ◌+◌, List, [], length, map, Option, Some, None, Bor}
 use Rattle.std.specs.List.{slice_split}
-use Rattle.asm_text.specs.Words.{is_comma, trimmed}
+use Rattle.asm_model.specs.Words.{is_comma, trimmed}
 
 -- the parts of what is left
 abbrev pub parts_left : Option (Bor (List ℕ)) → List (List ℕ)

@@ -1,10 +1,10 @@
 -- What of a sound draft the second pass needs.
 use Rattle.std.proofs.Common.{ℕ, ◌+◌, List, [], ◌∷◌}
-use Rattle.asm_text.specs.declared.piece.Piece.{Piece}
-use Rattle.asm_text.specs.declared.piece.Piece.TheVariants as piece
-use Rattle.asm_text.specs.declared.piece.Placed.{Placed}
-use Rattle.asm_text.specs.Drafts.{initialised_bytes}
-use Rattle.asm_text.specs.Sound.{IsSoundPiece, ArePieces, least_behind}
+use Rattle.asm_model.specs.declared.piece.Piece.{Piece}
+use Rattle.asm_model.specs.declared.piece.Piece.TheVariants as piece
+use Rattle.asm_model.specs.declared.piece.Placed.{Placed}
+use Rattle.asm_model.specs.Drafts.{initialised_bytes}
+use Rattle.asm_model.specs.Sound.{IsSoundPiece, ArePieces, least_behind}
 use Rattle.msp_asm.specs.Given.{IsLegalPiece}
 
 abbrev pub AreLegal : List Placed → Type 0

@@ -1,18 +1,18 @@
 -- The two passes as a whole.
 use Rattle.std.proofs.Common.{◌≡◌, ℕ, ◌<◌, true, List, [], Option, Some, None, Result, Ok, slice_index, refl, ap, sym, ◌∙◌, subst}
-use Rattle.object_form.specs.Spelling.{Meets}
-use Rattle.asm_text.specs.declared.name.Name.{Name}
-use Rattle.asm_text.specs.declared.name.Value.{Value}
-use Rattle.asm_text.specs.declared.piece.Placed.{Placed}
-use Rattle.asm_text.specs.declared.progress.Header.{Header}
-use Rattle.asm_text.specs.declared.progress.Header.TheVariants as header
-use Rattle.asm_text.specs.declared.progress.Progress.{Progress}
-use Rattle.asm_text.specs.Lines.{lines_of}
-use Rattle.asm_text.specs.Drafts.{Draft, draft_by, first_progress, empty_draft}
-use Rattle.asm_text.specs.FirstPass.{Fault, first_pass}
-use Rattle.asm_text.specs.SecondPass.{Output, known_from, second_pass, empty_output}
-use Rattle.asm_text.specs.Assembled.{is_whole, fields_for, assembled}
-use Rattle.asm_text.specs.Laws.{ResultsMeetTheForm}
+use Rattle.code_model.specs.Fields.{Meets}
+use Rattle.asm_model.specs.declared.name.Name.{Name}
+use Rattle.asm_model.specs.declared.name.Value.{Value}
+use Rattle.asm_model.specs.declared.piece.Placed.{Placed}
+use Rattle.asm_model.specs.declared.progress.Header.{Header}
+use Rattle.asm_model.specs.declared.progress.Header.TheVariants as header
+use Rattle.asm_model.specs.declared.progress.Progress.{Progress}
+use Rattle.asm_model.specs.Lines.{lines_of}
+use Rattle.asm_model.specs.Drafts.{Draft, draft_by, first_progress, empty_draft}
+use Rattle.asm_model.specs.FirstPass.{Fault, first_pass}
+use Rattle.asm_model.specs.SecondPass.{Output, known_from, second_pass, empty_output}
+use Rattle.asm_model.specs.Assembled.{is_whole, fields_for, assembled}
+use Rattle.asm_model.specs.Laws.{ResultsMeetTheForm}
 
 -- from no names and no pieces
 pub first_is : (source : List ℕ) (names : List (Name × Value)) (pieces : List Placed) (answer : Result Draft Fault) → names ≡ [] → pieces ≡ [] → first_pass 1 (lines_of source) (draft_by first_progress names pieces) ≡ answer → first_pass 1 (lines_of source) empty_draft ≡ answer

@@ -1,7 +1,7 @@
 -- What tests say of a source.
 use Rattle.std.specs.Prelude.{◌≡◌, ℕ, List, Result, Ok, Err}
-use Rattle.object_form.specs.Spelling.{Fields}
-use Rattle.asm_text.specs.FirstPass.{Fault}
+use Rattle.code_model.specs.Fields.{Fields}
+use Rattle.asm_model.specs.FirstPass.{Fault}
 
 -- these are the code words
 abbrev pub HasCode : List ℕ → Result Fields Fault → Type 0

@@ -1,10 +1,10 @@
 -- The classes of bytes by which a text is cut and tested.
 use Rattle.std.specs.Prelude.{ℕ, ◌==◌, Bool}
 use Rattle.std.specs.Char.{is_ascii_digit, is_ascii_hexdigit}
-use Rattle.asm_text.specs.Lines.{is_text_byte}
-use Rattle.asm_text.specs.Words.{is_blank, is_not_blank, is_blank_or_colon}
-use Rattle.asm_text.specs.Names.{is_name_byte}
-use Rattle.asm_text.specs.Expressions.{is_sign}
+use Rattle.asm_model.specs.Lines.{is_text_byte}
+use Rattle.asm_model.specs.Words.{is_blank, is_not_blank, is_blank_or_colon}
+use Rattle.asm_model.specs.Names.{is_name_byte}
+use Rattle.asm_model.specs.Expressions.{is_sign}
 use Rattle.msp_asm.specs.declared.bytes.Class.{Class}
 use Rattle.msp_asm.specs.declared.bytes.Class.TheVariants as class
 

@@ -1,18 +1,18 @@
 -- What the parts of the first pass give.
 use Rattle.std.specs.Prelude.{◌≡◌, ℕ, ◌≤◌, true, List, Result, Ok, Err}
-use Rattle.asm_text.specs.declared.fault.AsmKind.{AsmKind}
-use Rattle.asm_text.specs.declared.fault.AsmFault.{AsmFault}
-use Rattle.asm_text.specs.declared.fault.AsmFault.TheVariants as faults
-use Rattle.asm_text.specs.FirstPass.{Fault, fault}
-use Rattle.asm_text.specs.declared.name.Name.{Name}
-use Rattle.asm_text.specs.declared.name.Value.{Value}
-use Rattle.asm_text.specs.declared.piece.Piece.{Piece}
-use Rattle.asm_text.specs.declared.piece.Piece.TheVariants as piece
-use Rattle.asm_text.specs.declared.piece.Placed.{Placed}
-use Rattle.asm_text.specs.declared.progress.Progress.{Progress}
-use Rattle.asm_text.specs.Drafts.{Draft, draft_by}
-use Rattle.asm_text.specs.Instructions.{is_legal}
-use Rattle.asm_text.specs.SecondPass.{Output}
+use Rattle.asm_model.specs.declared.fault.AsmKind.{AsmKind}
+use Rattle.asm_model.specs.declared.fault.AsmFault.{AsmFault}
+use Rattle.asm_model.specs.declared.fault.AsmFault.TheVariants as faults
+use Rattle.asm_model.specs.FirstPass.{Fault, fault}
+use Rattle.asm_model.specs.declared.name.Name.{Name}
+use Rattle.asm_model.specs.declared.name.Value.{Value}
+use Rattle.asm_model.specs.declared.piece.Piece.{Piece}
+use Rattle.asm_model.specs.declared.piece.Piece.TheVariants as piece
+use Rattle.asm_model.specs.declared.piece.Placed.{Placed}
+use Rattle.asm_model.specs.declared.progress.Progress.{Progress}
+use Rattle.asm_model.specs.Drafts.{Draft, draft_by}
+use Rattle.asm_model.specs.Instructions.{is_legal}
+use Rattle.asm_model.specs.SecondPass.{Output}
 use Rattle.msp_asm.specs.declared.built.Built.{Built}
 use Rattle.msp_asm.specs.declared.drafts.Stop.{Stop}
 use Rattle.msp_asm.specs.declared.drafts.Stop.TheVariants.{Kind, Memory}

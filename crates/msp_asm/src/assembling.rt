@@ -1,13 +1,13 @@
 //! The two passes over a source, and the object.
 
 ghost use Rattle.std.specs.Prelude.{◌≡◌, ℕ, ◌<◌, ◌≤◌, ◌++◌, length, slice_index, IfOk};
-ghost use Rattle.object_form.specs.Spelling.{fields, Meets};
-ghost use Rattle.asm_text.specs.Lines.{lines_of};
-ghost use Rattle.asm_text.specs.Drafts.{first_progress, draft_by};
-ghost use Rattle.asm_text.specs.FirstPass.{first_pass};
-ghost use Rattle.asm_text.specs.SecondPass.{empty_output, known_from, second_pass};
-ghost use Rattle.asm_text.specs.Assembled.{has_starts, is_whole, fields_for, GivesObject};
-ghost use Rattle.asm_text.specs.Sound.{IsSound};
+ghost use Rattle.code_model.specs.Fields.{fields, Meets};
+ghost use Rattle.asm_model.specs.Lines.{lines_of};
+ghost use Rattle.asm_model.specs.Drafts.{first_progress, draft_by};
+ghost use Rattle.asm_model.specs.FirstPass.{first_pass};
+ghost use Rattle.asm_model.specs.SecondPass.{empty_output, known_from, second_pass};
+ghost use Rattle.asm_model.specs.Assembled.{has_starts, is_whole, fields_for, GivesObject};
+ghost use Rattle.asm_model.specs.Sound.{IsSound};
 ghost use Rattle.msp_asm.specs.Given.{fault_at, FirstGives, SecondGives, output_of};
 
 use crate::built::{Built, nothing};
@@ -16,12 +16,12 @@ use crate::first_pass::put_line;
 use crate::names::Names;
 use crate::second_pass::put;
 use crate::text::cut_line;
-use asm_text::fault::{AsmFault, AsmKind};
-use asm_text::laws::{drafts_are_sound, results_meet_the_form};
-use asm_text::progress::{Header, Progress};
-use object_form::lists::Relocs;
-use object_form::object::Object;
-use object_form::parts::{Kind, Reloc};
+use asm_model::fault::{AsmFault, AsmKind};
+use asm_model::laws::{drafts_are_sound, results_meet_the_form};
+use asm_model::progress::{Header, Progress};
+use code_model::lists::Relocs;
+use code_model::object::Object;
+use code_model::parts::{Kind, Reloc};
 use std::alloc::{AllocError, Global};
 
 /// The fault of a line where the assembler stops.
@@ -66,7 +66,7 @@ fn started(p: Progress) -> bool
 }
 
 /// Whether nothing is missing.
-#[tactic(auto, unfolding(asm_text::specs::Assembled::is_whole))]
+#[tactic(auto, unfolding(asm_model::specs::Assembled::is_whole))]
 fn whole(p: Progress) -> bool
     ensures { result ≡ is_whole p }
 {
@@ -137,7 +137,7 @@ fn object(p: Progress, out: Built) -> Result<Object, AllocError>
 
 /// The object of a source of at most 1,048,576 bytes, or exactly its first fault with its line. The
 /// source is gone over once, and what it defines once more.
-#[tactic(auto, unfolding(asm_text::specs::Assembled::assembled))]
+#[tactic(auto, unfolding(asm_model::specs::Assembled::assembled))]
 pub fn assemble(alloc: Global, source: &[u8]) -> Result<Object, AsmFault>
     requires { length source.now ≤ 1048576 }
     ensures { GivesObject source.now result }

@@ -1,11 +1,11 @@
 //! What the second pass builds.
 
 ghost use Rattle.std.specs.Prelude.{◌≡◌};
-ghost use Rattle.asm_text.specs.SecondPass.{empty_output};
+ghost use Rattle.asm_model.specs.SecondPass.{empty_output};
 ghost use Rattle.msp_asm.specs.Given.{output_of};
 
+use code_model::lists::{CodeWords, Exports, Relocs};
 use edge_io::lists::Bytes;
-use object_form::lists::{CodeWords, Exports, Relocs};
 use std::alloc::Global;
 
 /// The parts of an object so far.

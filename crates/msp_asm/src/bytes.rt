@@ -2,8 +2,8 @@
 
 ghost use Rattle.std.specs.Prelude.{◌≡◌, ◌≤◌, length};
 ghost use Rattle.std.specs.List.{position_or_len, suffix_len, list_all, slice_index_or};
-ghost use Rattle.asm_text.specs.Lines.{is_nil, last_byte};
-ghost use Rattle.asm_text.specs.Numbers.{first_byte};
+ghost use Rattle.asm_model.specs.Lines.{is_nil, last_byte};
+ghost use Rattle.asm_model.specs.Numbers.{first_byte};
 ghost use Rattle.msp_asm.specs.Classes.{passes};
 
 /// A class of bytes.

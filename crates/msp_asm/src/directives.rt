@@ -1,10 +1,10 @@
 //! What each directive does.
 
 ghost use Rattle.std.specs.Prelude.{◌≡◌, true, false, is_some, IfOk};
-ghost use Rattle.asm_text.specs.Drafts.{by_progress};
+ghost use Rattle.asm_model.specs.Drafts.{by_progress};
 ghost use Rattle.msp_asm.specs.Given.{HasSmallNumber};
-ghost use Rattle.asm_text.specs.Names.{is_taken, name_of, value_of};
-ghost use Rattle.asm_text.specs.Directives.{application, application_of, module_of, with_header, headed, only_header, number_named, named_by, equate, is_application, is_module, entry_by, entry_of, export_by, export_of, told, section_from, is_code, is_data, is_zero, space_by, space_of};
+ghost use Rattle.asm_model.specs.Names.{is_taken, name_of, value_of};
+ghost use Rattle.asm_model.specs.Directives.{application, application_of, module_of, with_header, headed, only_header, number_named, named_by, equate, is_application, is_module, entry_by, entry_of, export_by, export_of, told, section_from, is_code, is_data, is_zero, space_by, space_of};
 
 use crate::bytes::is_empty;
 use crate::drafts::grow;
@@ -12,11 +12,11 @@ use crate::instructions::label;
 use crate::names::{Names, has_form, name, taken};
 use crate::numbers::{between, fits, numeral, word as numeral_word};
 use crate::text::{rest as behind_word, word as first_word};
-use asm_text::expression::Numeral;
-use asm_text::fault::AsmKind;
-use asm_text::name::{Name, Value};
-use asm_text::piece::Piece;
-use asm_text::progress::{Header, Progress, Section};
+use asm_model::expression::Numeral;
+use asm_model::fault::AsmKind;
+use asm_model::name::{Name, Value};
+use asm_model::piece::Piece;
+use asm_model::progress::{Header, Progress, Section};
 
 /// An application's header.
 fn application(stack: Option<Numeral>, threads: Option<Numeral>) -> Result<Header, AsmKind>
@@ -36,7 +36,7 @@ fn application(stack: Option<Numeral>, threads: Option<Numeral>) -> Result<Heade
 }
 
 /// The header of `.app`.
-#[tactic(auto, unfolding(asm_text::specs::Directives::application_of))]
+#[tactic(auto, unfolding(asm_model::specs::Directives::application_of))]
 pub(crate) fn app_header(rest: &[u8]) -> Result<Header, AsmKind>
     ensures { result ≡ application_of rest.now }
 {
@@ -44,7 +44,7 @@ pub(crate) fn app_header(rest: &[u8]) -> Result<Header, AsmKind>
 }
 
 /// The header of `.module`.
-#[tactic(auto, unfolding(asm_text::specs::Directives::module_of))]
+#[tactic(auto, unfolding(asm_model::specs::Directives::module_of))]
 pub(crate) fn module_header(rest: &[u8]) -> Result<Header, AsmKind>
     ensures { result ≡ module_of rest.now }
 {
@@ -89,7 +89,7 @@ fn named_number(n: Option<Numeral>) -> Result<Value, AsmKind>
 }
 
 /// The name and the number of `.equ`, where it may stand.
-#[tactic(auto, unfolding(asm_text::specs::Directives::equate, asm_text::specs::Names::is_taken))]
+#[tactic(auto, unfolding(asm_model::specs::Directives::equate, asm_model::specs::Names::is_taken))]
 pub(crate) fn equated(names: &Names, allowed: bool, rest: &[u8]) -> Result<(Name, Value), AsmKind>
     ensures value { result ≡ equate names.now allowed rest.now }
     ensures new { IfOk result (λ entry. is_some (value_of names.now entry.0) ≡ false) }
@@ -122,7 +122,7 @@ fn of_module(header: Option<Header>) -> bool
 }
 
 /// The entry of an application.
-#[tactic(auto, unfolding(asm_text::specs::Directives::entry_of))]
+#[tactic(auto, unfolding(asm_model::specs::Directives::entry_of))]
 pub(crate) fn entry(names: &Names, p: Progress, rest: &[u8]) -> Result<Piece, AsmKind>
     ensures value { result ≡ entry_of names.now p rest.now }
     ensures small { IfOk result HasSmallNumber }
@@ -155,7 +155,7 @@ fn exported(least: u8, number: Option<Numeral>, label: Option<Name>) -> Result<P
 }
 
 /// An export of a module.
-#[tactic(auto, unfolding(asm_text::specs::Directives::export_of))]
+#[tactic(auto, unfolding(asm_model::specs::Directives::export_of))]
 pub(crate) fn export(names: &Names, p: Progress, rest: &[u8]) -> Result<Piece, AsmKind>
     ensures value { result ≡ export_of names.now p rest.now }
     ensures small { IfOk result HasSmallNumber }
@@ -199,7 +199,7 @@ pub(crate) fn tell(p: Progress, piece: &Piece) -> Progress
 }
 
 /// In a section from here on.
-#[tactic(auto, unfolding(asm_text::specs::Directives::section_from))]
+#[tactic(auto, unfolding(asm_model::specs::Directives::section_from))]
 pub(crate) fn enter(p: Progress, section: Section, rest: &[u8]) -> Result<Progress, AsmKind>
     ensures { result ≡ section_from p section rest.now }
 {
@@ -243,7 +243,7 @@ fn spaced(p: Progress, n: Option<Numeral>) -> Result<Progress, AsmKind>
 }
 
 /// With zeroed bytes, where they may stand.
-#[tactic(auto, unfolding(asm_text::specs::Directives::space_of))]
+#[tactic(auto, unfolding(asm_model::specs::Directives::space_of))]
 pub(crate) fn space(p: Progress, rest: &[u8]) -> Result<Progress, AsmKind>
     ensures { result ≡ space_of p rest.now }
 {

@@ -2,13 +2,13 @@
 
 ghost use Rattle.std.specs.Prelude.{◌≡◌, ◌+◌, ◌<◌, ◌≤◌, ◌++◌, [], ◌∷◌, length, ◌*◌, OnOk};
 ghost use Rattle.msp_encode.specs.Spelling.{words_after, src_words, dst_words};
-ghost use Rattle.asm_text.specs.Drafts.{first_progress, placed, place_in, code_words, grown};
+ghost use Rattle.asm_model.specs.Drafts.{first_progress, placed, place_in, code_words, grown};
 ghost use Rattle.msp_asm.specs.declared.drafts.Stop.TheVariants.{Memory};
 
-use asm_text::fault::AsmKind;
-use asm_text::name::Value;
-use asm_text::piece::{Piece, Placed};
-use asm_text::progress::{Progress, Section};
+use asm_model::fault::AsmKind;
+use asm_model::name::Value;
+use asm_model::piece::{Piece, Placed};
+use asm_model::progress::{Progress, Section};
 use msp_encode::instr::{Dst, Instr, Src};
 use std::alloc::{AllocError, Global};
 use std::marker::Model;
@@ -44,7 +44,7 @@ pub(crate) struct Pieces {
 
 impl Model for Pieces {
     ghost use Rattle.std.specs.Prelude.{List};
-    ghost use Rattle.asm_text.specs.declared.piece.Placed.{Placed};
+    ghost use Rattle.asm_model.specs.declared.piece.Placed.{Placed};
 
     ghost Value = { List Placed };
 
@@ -78,7 +78,7 @@ impl Pieces {
 }
 
 /// Before the first line.
-#[tactic(auto, unfolding(asm_text::specs::Drafts::first_progress))]
+#[tactic(auto, unfolding(asm_model::specs::Drafts::first_progress))]
 pub(crate) fn start() -> Progress
     ensures { result ≡ first_progress }
 {
@@ -152,7 +152,7 @@ pub(crate) fn words(piece: &Piece) -> u32
 }
 
 /// With so many more code words, initialised bytes and zeroed bytes, unless that passes the limits.
-#[tactic(auto, unfolding(asm_text::specs::Drafts::grown))]
+#[tactic(auto, unfolding(asm_model::specs::Drafts::grown))]
 pub(crate) fn grow(
     p: Progress,
     code: u32,

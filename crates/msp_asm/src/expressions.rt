@@ -1,17 +1,17 @@
 //! Expressions.
 
 ghost use Rattle.std.specs.Prelude.{◌≡◌, None};
-ghost use Rattle.asm_text.specs.Numbers.{numeral_by};
-ghost use Rattle.asm_text.specs.Expressions.{added, named, name_plus, with_numeral, over_name, expression_of, is_plain, is_over_label};
+ghost use Rattle.asm_model.specs.Numbers.{numeral_by};
+ghost use Rattle.asm_model.specs.Expressions.{added, named, name_plus, with_numeral, over_name, expression_of, is_plain, is_over_label};
 
 use crate::bytes::{Class, byte_at, position};
 use crate::names::{Names, can_be_label, is_high, is_low, name};
 use crate::numbers::{fits, numeral, unsigned, word as numeral_word};
-use asm_text::expression::{Base, Expression, Numeral};
-use asm_text::name::{Name, Value};
+use asm_model::expression::{Base, Expression, Numeral};
+use asm_model::name::{Name, Value};
 
 /// A base and a word on it, with a number added.
-#[tactic(auto, unfolding(asm_text::specs::Expressions::added))]
+#[tactic(auto, unfolding(asm_model::specs::Expressions::added))]
 fn add(base: Base, word: u16, n: Numeral) -> Expression
     ensures { result ≡ added base word n }
 {
@@ -33,7 +33,7 @@ fn add_to_name(name: Name, value: Option<Value>, n: Numeral) -> Expression
 }
 
 /// A word that is a name, with a number added.
-#[tactic(auto, unfolding(asm_text::specs::Expressions::name_plus))]
+#[tactic(auto, unfolding(asm_model::specs::Expressions::name_plus))]
 fn over_word(names: &Names, word: &[u8], n: Numeral) -> Option<Expression>
     ensures { result ≡ name_plus names.now word.now n }
 {
@@ -50,7 +50,7 @@ fn over_word(names: &Names, word: &[u8], n: Numeral) -> Option<Expression>
 }
 
 /// A word that is a name, a name `+` number or a name `-` number.
-#[tactic(auto, unfolding(asm_text::specs::Expressions::over_name))]
+#[tactic(auto, unfolding(asm_model::specs::Expressions::over_name))]
 fn with_sign(names: &Names, word: &[u8]) -> Option<Expression>
     ensures { result ≡ over_name names.now word.now }
 {
@@ -79,7 +79,7 @@ fn with_sign(names: &Names, word: &[u8]) -> Option<Expression>
 }
 
 /// An expression: a number, or one over a name.
-#[tactic(auto, unfolding(asm_text::specs::Expressions::expression_of))]
+#[tactic(auto, unfolding(asm_model::specs::Expressions::expression_of))]
 pub(crate) fn expression(names: &Names, word: &[u8]) -> Option<Expression>
     ensures { result ≡ expression_of names.now word.now }
 {

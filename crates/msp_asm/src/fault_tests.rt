@@ -1,12 +1,12 @@
 //! Sources worked out by hand, with their first faults.
 
 ghost use Rattle.std.specs.Prelude.{◌≡◌, true};
-ghost use Rattle.asm_text.specs.FirstPass.{fault};
-ghost use Rattle.asm_text.specs.Assembled.{assembled};
+ghost use Rattle.asm_model.specs.FirstPass.{fault};
+ghost use Rattle.asm_model.specs.Assembled.{assembled};
 
 use crate::assemble;
-use asm_text::fault::AsmKind::*;
-use asm_text::fault::{AsmFault, AsmKind};
+use asm_model::fault::AsmKind::*;
+use asm_model::fault::{AsmFault, AsmKind};
 use std::alloc::Global;
 use std::test::*;
 

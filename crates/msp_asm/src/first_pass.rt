@@ -1,15 +1,15 @@
 //! The first pass: what each line adds to the draft.
 
 ghost use Rattle.std.specs.Prelude.{◌≡◌, ◌+◌, ◌<◌, ◌≤◌, ◌^◌, false, is_some, length, List, IfOk};
-ghost use Rattle.asm_text.specs.Words.{operands_of};
-ghost use Rattle.asm_text.specs.Names.{is_taken, value_of};
-ghost use Rattle.asm_text.specs.Drafts.{draft_by};
-ghost use Rattle.asm_text.specs.declared.name.Name.{Name};
-ghost use Rattle.asm_text.specs.declared.name.Value.{Value};
-ghost use Rattle.asm_text.specs.declared.piece.Placed.{Placed};
-ghost use Rattle.asm_text.specs.declared.progress.Progress.{Progress};
-ghost use Rattle.asm_text.specs.Lines.{lines_of};
-ghost use Rattle.asm_text.specs.FirstPass.{put_code, take_instruction, go_on, define, tell, take_directive, take_keyword, take_statement, take_labelled, take_body, take_line, first_pass};
+ghost use Rattle.asm_model.specs.Words.{operands_of};
+ghost use Rattle.asm_model.specs.Names.{is_taken, value_of};
+ghost use Rattle.asm_model.specs.Drafts.{draft_by};
+ghost use Rattle.asm_model.specs.declared.name.Name.{Name};
+ghost use Rattle.asm_model.specs.declared.name.Value.{Value};
+ghost use Rattle.asm_model.specs.declared.piece.Placed.{Placed};
+ghost use Rattle.asm_model.specs.declared.progress.Progress.{Progress};
+ghost use Rattle.asm_model.specs.Lines.{lines_of};
+ghost use Rattle.asm_model.specs.FirstPass.{put_code, take_instruction, go_on, define, tell, take_directive, take_keyword, take_statement, take_labelled, take_body, take_line, first_pass};
 ghost use Rattle.msp_asm.specs.Given.{Gives, HasSmallNumber};
 
 use crate::bytes::{Class, all, is_empty};
@@ -24,11 +24,11 @@ use crate::static_data::data;
 use crate::text::{
     body, is_labelled, label_word, labelled, rest as behind_word, word as first_word,
 };
-use asm_text::fault::AsmKind;
-use asm_text::mnemonic::{Directive, Form, Keyword};
-use asm_text::name::{Name, Value};
-use asm_text::piece::{DataUnit, Piece};
-use asm_text::progress::{Progress, Section};
+use asm_model::fault::AsmKind;
+use asm_model::mnemonic::{Directive, Form, Keyword};
+use asm_model::name::{Name, Value};
+use asm_model::piece::{DataUnit, Piece};
+use asm_model::progress::{Progress, Section};
 use msp_encode::instr::Width;
 
 /// With a piece of code.
@@ -54,7 +54,7 @@ fn put(
 }
 
 /// With an instruction.
-#[tactic(auto, unfolding(asm_text::specs::FirstPass::take_instruction))]
+#[tactic(auto, unfolding(asm_model::specs::FirstPass::take_instruction))]
 fn put_instruction(
     line: u32,
     p: Progress,
@@ -121,7 +121,7 @@ fn put_start(
 }
 
 /// With a directive.
-#[tactic(auto, unfolding(asm_text::specs::FirstPass::take_directive))]
+#[tactic(auto, unfolding(asm_model::specs::FirstPass::take_directive))]
 fn put_directive(
     line: u32,
     p: Progress,
@@ -151,7 +151,7 @@ fn put_directive(
 }
 
 /// With a statement, or as it was where there is none.
-#[tactic(auto, unfolding(asm_text::specs::FirstPass::take_statement))]
+#[tactic(auto, unfolding(asm_model::specs::FirstPass::take_statement))]
 fn put_statement(
     line: u32,
     p: Progress,
@@ -177,7 +177,7 @@ fn put_statement(
 }
 
 /// With a label and what stands behind it.
-#[tactic(auto, unfolding(asm_text::specs::FirstPass::take_labelled, asm_text::specs::Names::is_taken))]
+#[tactic(auto, unfolding(asm_model::specs::FirstPass::take_labelled, asm_model::specs::Names::is_taken))]
 fn put_labelled(
     line: u32,
     p: Progress,
@@ -199,7 +199,7 @@ fn put_labelled(
 }
 
 /// With a line.
-#[tactic(auto, unfolding(asm_text::specs::FirstPass::take_line, asm_text::specs::FirstPass::take_body))]
+#[tactic(auto, unfolding(asm_model::specs::FirstPass::take_line, asm_model::specs::FirstPass::take_body))]
 pub(crate) fn put_line(
     line: u32,
     p: Progress,

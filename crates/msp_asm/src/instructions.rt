@@ -1,25 +1,25 @@
 //! What an instruction's operands give.
 
 ghost use Rattle.std.specs.Prelude.{◌≡◌, true};
-ghost use Rattle.asm_text.specs.declared.expression.Base.TheVariants as base;
-ghost use Rattle.asm_text.specs.Words.{operands_of};
-ghost use Rattle.asm_text.specs.Instructions.{generated, source_by, immediate, constant_or_immediate, value_source, source_of, destination_of, is_legal, takes_constants, operation, two_piece, one_piece, constant_source, program_counter, popped, names_place, label_of, jump_piece, single_piece, double_piece, piece_of_none, piece_of_one, piece_of_two, instruction_of};
+ghost use Rattle.asm_model.specs.declared.expression.Base.TheVariants as base;
+ghost use Rattle.asm_model.specs.Words.{operands_of};
+ghost use Rattle.asm_model.specs.Instructions.{generated, source_by, immediate, constant_or_immediate, value_source, source_of, destination_of, is_legal, takes_constants, operation, two_piece, one_piece, constant_source, program_counter, popped, names_place, label_of, jump_piece, single_piece, double_piece, piece_of_none, piece_of_one, piece_of_two, instruction_of};
 
 use crate::bytes::is_empty;
 use crate::names::{Names, can_be_label, name};
 use crate::operands::operand;
 use crate::text::{cut, trim};
-use asm_text::expression::{Base, Expression};
-use asm_text::fault::AsmKind;
-use asm_text::mnemonic::Form;
-use asm_text::name::{Name, Value};
-use asm_text::operand::{Destination, Operand, Source};
-use asm_text::piece::Piece;
+use asm_model::expression::{Base, Expression};
+use asm_model::fault::AsmKind;
+use asm_model::mnemonic::Form;
+use asm_model::name::{Name, Value};
+use asm_model::operand::{Destination, Operand, Source};
+use asm_model::piece::Piece;
 use msp_encode::instr::{Cg, Cond, Dst, Instr, Op1, Op2, Src, Width};
 use msp_encode::legal;
 
 /// The constant that the generator has for a number.
-#[tactic(auto, unfolding(asm_text::specs::Instructions::generated))]
+#[tactic(auto, unfolding(asm_model::specs::Instructions::generated))]
 fn constant(n: u16) -> Option<Cg>
     ensures { result ≡ generated n }
 {
@@ -128,7 +128,7 @@ fn is_spelled(i: &Instr) -> bool
 }
 
 /// An instruction that has a spelling and whose numbers are in their ranges.
-#[tactic(auto, unfolding(asm_text::specs::Instructions::operation))]
+#[tactic(auto, unfolding(asm_model::specs::Instructions::operation))]
 fn checked(instr: Instr, source: Base, destination: Base, fits: bool) -> Result<Piece, AsmKind>
     ensures { result ≡ operation instr source destination fits }
 {
@@ -201,7 +201,7 @@ fn may_be_place(value: Option<Value>) -> bool
 }
 
 /// A label's name that isn't one of a number.
-#[tactic(auto, unfolding(asm_text::specs::Instructions::label_of))]
+#[tactic(auto, unfolding(asm_model::specs::Instructions::label_of))]
 pub(crate) fn label(names: &Names, word: &[u8]) -> Option<Name>
     ensures { result ≡ label_of names.now word.now }
 {
@@ -308,7 +308,7 @@ fn on_two(
 }
 
 /// The instruction of a mnemonic with the operands behind it.
-#[tactic(auto, unfolding(asm_text::specs::Instructions::instruction_of, asm_text::specs::Words::operands_of))]
+#[tactic(auto, unfolding(asm_model::specs::Instructions::instruction_of, asm_model::specs::Words::operands_of))]
 pub(crate) fn instruction(
     names: &Names,
     form: Form,

@@ -3,14 +3,14 @@
 ghost use Rattle.std.specs.Prelude.{◌≡◌, ◌-◌, take, drop, length, option_map};
 ghost use Rattle.msp_encode.specs.declared.instr.Src.TheVariants as src;
 ghost use Rattle.msp_encode.specs.declared.instr.Width.TheVariants.{Wide, Byte};
-ghost use Rattle.asm_text.specs.Mnemonics.{two_of, one_of, condition_of, constant_of, single_of, alone_on, alone_of, form_of, one_takes_bytes, takes_bytes, takes_words, where_taken, without_width, stem, suffix, mnemonic_of, directive_of, keyword_of};
+ghost use Rattle.asm_model.specs.Mnemonics.{two_of, one_of, condition_of, constant_of, single_of, alone_on, alone_of, form_of, one_takes_bytes, takes_bytes, takes_words, where_taken, without_width, stem, suffix, mnemonic_of, directive_of, keyword_of};
 
 use crate::text::is_word;
-use asm_text::mnemonic::{Directive, Form, Keyword};
+use asm_model::mnemonic::{Directive, Form, Keyword};
 use msp_encode::instr::{Cg, Cond, Dst, Instr, Op1, Op2, Src, Width};
 
 /// An operation of two operands.
-#[tactic(auto, unfolding(asm_text::specs::Mnemonics::two_of))]
+#[tactic(auto, unfolding(asm_model::specs::Mnemonics::two_of))]
 fn two(w: &[u8]) -> Option<Op2>
     ensures { result ≡ two_of w.now }
 {
@@ -44,7 +44,7 @@ fn two(w: &[u8]) -> Option<Op2>
 }
 
 /// An operation of one operand.
-#[tactic(auto, unfolding(asm_text::specs::Mnemonics::one_of))]
+#[tactic(auto, unfolding(asm_model::specs::Mnemonics::one_of))]
 fn one(w: &[u8]) -> Option<Op1>
     ensures { result ≡ one_of w.now }
 {
@@ -66,7 +66,7 @@ fn one(w: &[u8]) -> Option<Op1>
 }
 
 /// When a jump is taken.
-#[tactic(auto, unfolding(asm_text::specs::Mnemonics::condition_of))]
+#[tactic(auto, unfolding(asm_model::specs::Mnemonics::condition_of))]
 fn condition(w: &[u8]) -> Option<Cond>
     ensures { result ≡ condition_of w.now }
 {
@@ -100,7 +100,7 @@ fn condition(w: &[u8]) -> Option<Cond>
 }
 
 /// An emulated operation of a destination, with its constant.
-#[tactic(auto, unfolding(asm_text::specs::Mnemonics::constant_of))]
+#[tactic(auto, unfolding(asm_model::specs::Mnemonics::constant_of))]
 fn constant(w: &[u8]) -> Option<Form>
     ensures { result ≡ constant_of w.now }
 {
@@ -130,7 +130,7 @@ fn constant(w: &[u8]) -> Option<Form>
 }
 
 /// An emulated operation whose operand is written once.
-#[tactic(auto, unfolding(asm_text::specs::Mnemonics::single_of))]
+#[tactic(auto, unfolding(asm_model::specs::Mnemonics::single_of))]
 fn single(w: &[u8]) -> Option<Form>
     ensures { result ≡ single_of w.now }
 {
@@ -167,7 +167,7 @@ fn on_status(op: Op2, constant: Cg) -> Option<Form>
 }
 
 /// An instruction without operand.
-#[tactic(auto, unfolding(asm_text::specs::Mnemonics::alone_of))]
+#[tactic(auto, unfolding(asm_model::specs::Mnemonics::alone_of))]
 fn alone(w: &[u8]) -> Option<Form>
     ensures { result ≡ alone_of w.now }
 {
@@ -199,7 +199,7 @@ fn alone(w: &[u8]) -> Option<Form>
 }
 
 /// The form of a mnemonic without its width.
-#[tactic(auto, unfolding(asm_text::specs::Mnemonics::form_of))]
+#[tactic(auto, unfolding(asm_model::specs::Mnemonics::form_of))]
 fn form(w: &[u8]) -> Option<Form>
     ensures { result ≡ form_of w.now }
 {
@@ -263,7 +263,7 @@ fn of_words(w: &[u8]) -> Option<Keyword>
 }
 
 /// A mnemonic, with `.B`, `.W` or neither behind it.
-#[tactic(auto, unfolding(asm_text::specs::Mnemonics::mnemonic_of))]
+#[tactic(auto, unfolding(asm_model::specs::Mnemonics::mnemonic_of))]
 fn mnemonic(word: &[u8]) -> Option<Keyword>
     ensures { result ≡ mnemonic_of word.now }
 {
@@ -281,7 +281,7 @@ fn mnemonic(word: &[u8]) -> Option<Keyword>
 }
 
 /// A directive.
-#[tactic(auto, unfolding(asm_text::specs::Mnemonics::directive_of))]
+#[tactic(auto, unfolding(asm_model::specs::Mnemonics::directive_of))]
 fn directive(w: &[u8]) -> Option<Directive>
     ensures { result ≡ directive_of w.now }
 {
@@ -313,7 +313,7 @@ fn directive(w: &[u8]) -> Option<Directive>
 }
 
 /// The first word of a statement, if it is known.
-#[tactic(auto, unfolding(asm_text::specs::Mnemonics::keyword_of))]
+#[tactic(auto, unfolding(asm_model::specs::Mnemonics::keyword_of))]
 pub(crate) fn keyword(word: &[u8]) -> Option<Keyword>
     ensures { result ≡ keyword_of word.now }
 {

@@ -1,8 +1,8 @@
 //! The assembler: the object of a source text, or exactly its first fault with its line.
 //!
 //! `assemble` is the one call of the layers above. Its contract is `GivesObject` of
-//! `asm_text/specs/Assembled.antt`, whose definitions say what a text stands for; each function here
-//! computes one of them and says so in its contract. An object always meets its form, by a law of `asm_text`.
+//! `asm_model/specs/Assembled.antt`, whose definitions say what a text stands for; each function here
+//! computes one of them and says so in its contract. An object always meets its form, by a law of `asm_model`.
 //!
 //! From the bottom up: `bytes` (classes of bytes), `text` (lines and the parts of a line), `numbers`,
 //! `names` (with the map of those that are defined), `expressions`, `operands`, `keywords` (mnemonics and

@@ -1,13 +1,13 @@
 //! Names, registers and what names stand for.
 
 ghost use Rattle.std.specs.Prelude.{◌≡◌, ◌≤◌, ◌<◌, ◌++◌, [], ◌∷◌, List, length, false, true, is_some, IfSome, OnOk, OnErr};
-ghost use Rattle.asm_text.specs.declared.name.Name.{Name};
-ghost use Rattle.asm_text.specs.declared.name.Value.{Value};
-ghost use Rattle.asm_text.specs.Names.{has_name_form, numbered_register, register_of, is_lo, is_hi, is_reserved, is_label, name_of, value_of, is_taken};
+ghost use Rattle.asm_model.specs.declared.name.Name.{Name};
+ghost use Rattle.asm_model.specs.declared.name.Value.{Value};
+ghost use Rattle.asm_model.specs.Names.{has_name_form, numbered_register, register_of, is_lo, is_hi, is_reserved, is_label, name_of, value_of, is_taken};
 
 use crate::bytes::{Class, all, byte_at};
 use crate::text::is_word;
-use asm_text::name::{Name, Value};
+use asm_model::name::{Name, Value};
 use indexmap::IndexMap;
 use std::alloc::{AllocError, Global};
 use std::marker::Model;
@@ -16,7 +16,7 @@ use std::marker::Model;
 const NAME_BYTES_MAX: usize = 32;
 
 /// Whether a word is a letter or `_`, then letters, digits and `_`, at most 32 bytes.
-#[tactic(auto, unfolding(asm_text::specs::Names::has_name_form))]
+#[tactic(auto, unfolding(asm_model::specs::Names::has_name_form))]
 pub(crate) fn has_form(word: &[u8]) -> bool
     ensures value { result ≡ has_name_form word.now }
     ensures short { result ≡ true → length word.now ≤ 32 }
@@ -28,7 +28,7 @@ pub(crate) fn has_form(word: &[u8]) -> bool
 }
 
 /// The number of `R0` to `R9` and `R10` to `R15`.
-#[tactic(auto, unfolding(asm_text::specs::Names::numbered_register))]
+#[tactic(auto, unfolding(asm_model::specs::Names::numbered_register))]
 fn numbered(word: &[u8]) -> Option<u8>
     ensures value { result ≡ numbered_register word.now }
     ensures small { IfSome result (λ r. r < 16) }
@@ -55,7 +55,7 @@ fn numbered(word: &[u8]) -> Option<u8>
 }
 
 /// The number of a register's name.
-#[tactic(auto, unfolding(asm_text::specs::Names::register_of))]
+#[tactic(auto, unfolding(asm_model::specs::Names::register_of))]
 pub(crate) fn register(word: &[u8]) -> Option<u8>
     ensures value { result ≡ register_of word.now }
     ensures small { IfSome result (λ r. r < 16) }
@@ -86,7 +86,7 @@ pub(crate) fn is_high(word: &[u8]) -> bool
 }
 
 /// Whether a word is a register's name, LO or HI.
-#[tactic(auto, unfolding(asm_text::specs::Names::is_reserved))]
+#[tactic(auto, unfolding(asm_model::specs::Names::is_reserved))]
 fn reserved(word: &[u8]) -> bool
     ensures { result ≡ is_reserved word.now }
 {
@@ -94,7 +94,7 @@ fn reserved(word: &[u8]) -> bool
 }
 
 /// Whether a word can be a label.
-#[tactic(auto, unfolding(asm_text::specs::Names::is_label))]
+#[tactic(auto, unfolding(asm_model::specs::Names::is_label))]
 pub(crate) fn can_be_label(word: &[u8]) -> bool
     ensures value { result ≡ is_label word.now }
     ensures short { result ≡ true → length word.now ≤ 32 }
@@ -103,7 +103,7 @@ pub(crate) fn can_be_label(word: &[u8]) -> bool
 }
 
 /// A word as a name.
-#[tactic(auto, unfolding(asm_text::specs::Names::name_of))]
+#[tactic(auto, unfolding(asm_model::specs::Names::name_of))]
 pub(crate) fn name(word: &[u8]) -> Name
     requires { length word.now ≤ 32 }
     ensures { result ≡ name_of word.now }
@@ -121,8 +121,8 @@ pub(crate) struct Names {
 
 impl Model for Names {
     ghost use Rattle.std.specs.Prelude.{List};
-    ghost use Rattle.asm_text.specs.declared.name.Name.{Name};
-    ghost use Rattle.asm_text.specs.declared.name.Value.{Value as Meaning};
+    ghost use Rattle.asm_model.specs.declared.name.Name.{Name};
+    ghost use Rattle.asm_model.specs.declared.name.Value.{Value as Meaning};
 
     ghost Value = { List (Name × Meaning) };
 
@@ -140,7 +140,7 @@ impl Names {
     }
 
     /// What a name stands for.
-    #[tactic(auto, unfolding(asm_text::specs::Names::value_of))]
+    #[tactic(auto, unfolding(asm_model::specs::Names::value_of))]
     pub(crate) fn get(&self, name: Name) -> Option<Value>
         ensures { result ≡ value_of self.now name }
     {
@@ -148,7 +148,7 @@ impl Names {
     }
 
     /// Defines a name that isn't defined.
-    #[tactic(auto, unfolding(asm_text::specs::Names::value_of))]
+    #[tactic(auto, unfolding(asm_model::specs::Names::value_of))]
     pub(crate) fn define(&mut self, name: Name, value: Value) -> Result<(), AllocError>
         requires { is_some (value_of self.old name) ≡ false }
         ensures { OnOk result (self.new ≡ self.old ++ (name, value) ∷ []) }
@@ -159,7 +159,7 @@ impl Names {
 }
 
 /// Whether a word can't be defined, since it is there, or reserved.
-#[tactic(auto, unfolding(asm_text::specs::Names::is_taken))]
+#[tactic(auto, unfolding(asm_model::specs::Names::is_taken))]
 pub(crate) fn taken(names: &Names, word: &[u8]) -> bool
     ensures { result ≡ is_taken names.now word.now }
 {

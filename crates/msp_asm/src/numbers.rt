@@ -2,10 +2,10 @@
 
 ghost use Rattle.std.specs.Prelude.{◌≡◌, ℕ, ◌≤◌, ◌<◌, drop, length, true, false, Some, None, option_map};
 ghost use Rattle.std.specs.Char.{digit_value};
-ghost use Rattle.asm_text.specs.Numbers.{digits_value, capped, is_decimal, is_hexadecimal, size_of, numeral_by, numeral_of, numeral_fits, numeral_word, is_between, byte_fits};
+ghost use Rattle.asm_model.specs.Numbers.{digits_value, capped, is_decimal, is_hexadecimal, size_of, numeral_by, numeral_of, numeral_fits, numeral_word, is_between, byte_fits};
 
 use crate::bytes::{Class, all, byte_at};
-use asm_text::expression::Numeral;
+use asm_model::expression::Numeral;
 
 /// All sizes from here on count as one.
 const SIZE_MAX: u32 = 65_536;
@@ -37,7 +37,7 @@ fn size(base: u32, digits: &[u8]) -> u32
 }
 
 /// Whether a word is one or more decimal digits without a leading zero.
-#[tactic(auto, unfolding(asm_text::specs::Numbers::is_decimal))]
+#[tactic(auto, unfolding(asm_model::specs::Numbers::is_decimal))]
 fn decimal(word: &[u8]) -> bool
     ensures { result ≡ is_decimal word.now }
 {
@@ -45,7 +45,7 @@ fn decimal(word: &[u8]) -> bool
 }
 
 /// Whether a word is `0x` and one or more hexadecimal digits.
-#[tactic(auto, unfolding(asm_text::specs::Numbers::is_hexadecimal))]
+#[tactic(auto, unfolding(asm_model::specs::Numbers::is_hexadecimal))]
 fn hexadecimal(word: &[u8]) -> bool
     ensures value { result ≡ is_hexadecimal word.now }
     ensures long { result ≡ true → 3 ≤ length word.now }
@@ -57,7 +57,7 @@ fn hexadecimal(word: &[u8]) -> bool
 }
 
 /// The size of a number without sign.
-#[tactic(auto, unfolding(asm_text::specs::Numbers::size_of))]
+#[tactic(auto, unfolding(asm_model::specs::Numbers::size_of))]
 pub(crate) fn unsigned(word: &[u8]) -> Option<u32>
     ensures { result ≡ size_of word.now }
 {
@@ -71,7 +71,7 @@ pub(crate) fn unsigned(word: &[u8]) -> Option<u32>
 }
 
 /// A number, which may have a sign.
-#[tactic(auto, unfolding(asm_text::specs::Numbers::numeral_of))]
+#[tactic(auto, unfolding(asm_model::specs::Numbers::numeral_of))]
 pub(crate) fn numeral(word: &[u8]) -> Option<Numeral>
     ensures { result ≡ numeral_of word.now }
 {
@@ -88,7 +88,7 @@ pub(crate) fn numeral(word: &[u8]) -> Option<Numeral>
 }
 
 /// Whether a number is from -32768 to 65535.
-#[tactic(auto, unfolding(asm_text::specs::Numbers::numeral_fits))]
+#[tactic(auto, unfolding(asm_model::specs::Numbers::numeral_fits))]
 pub(crate) fn fits(n: Numeral) -> bool
     ensures { result ≡ numeral_fits n }
 {
@@ -100,7 +100,7 @@ pub(crate) fn fits(n: Numeral) -> bool
 }
 
 /// A number's value modulo 65,536.
-#[tactic(auto, unfolding(asm_text::specs::Numbers::numeral_word))]
+#[tactic(auto, unfolding(asm_model::specs::Numbers::numeral_word))]
 pub(crate) fn word(n: Numeral) -> u16
     ensures { result ≡ numeral_word n }
 {
@@ -112,7 +112,7 @@ pub(crate) fn word(n: Numeral) -> u16
 }
 
 /// Whether a number is from the one to the other.
-#[tactic(auto, unfolding(asm_text::specs::Numbers::is_between))]
+#[tactic(auto, unfolding(asm_model::specs::Numbers::is_between))]
 pub(crate) fn between(least: u32, most: u32, n: Numeral) -> bool
     ensures value { result ≡ is_between least most n }
     ensures small { result ≡ true → n.size ≤ most }
@@ -121,7 +121,7 @@ pub(crate) fn between(least: u32, most: u32, n: Numeral) -> bool
 }
 
 /// Whether a number is from -128 to 255.
-#[tactic(auto, unfolding(asm_text::specs::Numbers::byte_fits))]
+#[tactic(auto, unfolding(asm_model::specs::Numbers::byte_fits))]
 pub(crate) fn fits_byte(n: Numeral) -> bool
     ensures { result ≡ byte_fits n }
 {

@@ -1,13 +1,13 @@
 //! Operands as written.
 
 ghost use Rattle.std.specs.Prelude.{◌≡◌, ◌-◌, take, drop, length};
-ghost use Rattle.asm_text.specs.Operands.{plain_only, label_only, address_of, distance_of, hash_operand, at_operand, indexed, indexed_operand, plain_operand, operand_of};
+ghost use Rattle.asm_model.specs.Operands.{plain_only, label_only, address_of, distance_of, hash_operand, at_operand, indexed, indexed_operand, plain_operand, operand_of};
 
 use crate::bytes::{Class, byte_at, last, position};
 use crate::expressions::{expression, over_label, plain};
 use crate::names::{Names, register};
-use asm_text::expression::Expression;
-use asm_text::operand::Operand;
+use asm_model::expression::Expression;
+use asm_model::operand::Operand;
 
 /// What stands behind the first byte.
 fn tail(word: &[u8]) -> &[u8]
@@ -24,7 +24,7 @@ fn front(word: &[u8]) -> &[u8]
 }
 
 /// A number or a label of static data.
-#[tactic(auto, unfolding(asm_text::specs::Operands::address_of))]
+#[tactic(auto, unfolding(asm_model::specs::Operands::address_of))]
 pub(crate) fn address(names: &Names, word: &[u8]) -> Option<Expression>
     ensures { result ≡ address_of names.now word.now }
 {
@@ -35,7 +35,7 @@ pub(crate) fn address(names: &Names, word: &[u8]) -> Option<Expression>
 }
 
 /// `name` or `name+n`.
-#[tactic(auto, unfolding(asm_text::specs::Operands::distance_of))]
+#[tactic(auto, unfolding(asm_model::specs::Operands::distance_of))]
 fn distance(names: &Names, word: &[u8]) -> Option<Expression>
     ensures { result ≡ distance_of names.now word.now }
 {
@@ -49,7 +49,7 @@ fn distance(names: &Names, word: &[u8]) -> Option<Expression>
 }
 
 /// `##expr` or `#expr`, behind the first `#`.
-#[tactic(auto, unfolding(asm_text::specs::Operands::hash_operand))]
+#[tactic(auto, unfolding(asm_model::specs::Operands::hash_operand))]
 fn after_hash(names: &Names, word: &[u8]) -> Option<Operand>
     ensures { result ≡ hash_operand names.now word.now }
 {
@@ -61,7 +61,7 @@ fn after_hash(names: &Names, word: &[u8]) -> Option<Operand>
 }
 
 /// `@Rn` or `@Rn+`, behind the `@`.
-#[tactic(auto, unfolding(asm_text::specs::Operands::at_operand))]
+#[tactic(auto, unfolding(asm_model::specs::Operands::at_operand))]
 fn after_at(word: &[u8]) -> Option<Operand>
     ensures { result ≡ at_operand word.now }
 {
@@ -73,7 +73,7 @@ fn after_at(word: &[u8]) -> Option<Operand>
 }
 
 /// `X(Rn)`, before the last `)`.
-#[tactic(auto, unfolding(asm_text::specs::Operands::indexed_operand))]
+#[tactic(auto, unfolding(asm_model::specs::Operands::indexed_operand))]
 fn before_bracket(names: &Names, word: &[u8]) -> Option<Operand>
     ensures { result ≡ indexed_operand names.now word.now }
 {
@@ -90,7 +90,7 @@ fn before_bracket(names: &Names, word: &[u8]) -> Option<Operand>
 }
 
 /// An operand that begins with none of `#`, `&` and `@`.
-#[tactic(auto, unfolding(asm_text::specs::Operands::plain_operand))]
+#[tactic(auto, unfolding(asm_model::specs::Operands::plain_operand))]
 fn without_sign(names: &Names, register: Option<u8>, word: &[u8]) -> Option<Operand>
     ensures { result ≡ plain_operand names.now register word.now }
 {
@@ -105,7 +105,7 @@ fn without_sign(names: &Names, register: Option<u8>, word: &[u8]) -> Option<Oper
 }
 
 /// The operand that a word is.
-#[tactic(auto, unfolding(asm_text::specs::Operands::operand_of))]
+#[tactic(auto, unfolding(asm_model::specs::Operands::operand_of))]
 pub(crate) fn operand(names: &Names, word: &[u8]) -> Option<Operand>
     ensures { result ≡ operand_of names.now word.now }
 {

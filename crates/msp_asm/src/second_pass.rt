@@ -2,12 +2,12 @@
 
 ghost use Rattle.std.specs.Prelude.{◌≡◌, ◌+◌, ◌*◌, ◌≤◌, ◌<◌, ◌%◌, ◌^◌, ◌++◌, ◌≤ℤ◌, ◌<ℤ◌, pos, negsuc, true, length, OnOk, IfOk};
 ghost use Rattle.msp_encode.specs.Spelling.{Legal, src_words, dst_words, words_after};
-ghost use Rattle.asm_text.specs.declared.progress.Progress.{Progress};
+ghost use Rattle.asm_model.specs.declared.progress.Progress.{Progress};
 ghost use Rattle.msp_encode.specs.declared.instr.Instr.TheVariants as jumps;
-ghost use Rattle.asm_text.specs.Spelled.{spelling};
-ghost use Rattle.asm_text.specs.Instructions.{is_legal};
-ghost use Rattle.asm_text.specs.Drafts.{code_words, initialised_bytes};
-ghost use Rattle.asm_text.specs.SecondPass.{behind_source, settled, settle, instr_suits, in_reach, jump_offset, with_instr, with_data, with_entry, with_export, code_end, bytes_of, put_operation, code_place, put_jump_to, put_jump, put_word, below_end, start_of, enter_at, export_at, put_piece, second_pass, known_from};
+ghost use Rattle.asm_model.specs.Spelled.{spelling};
+ghost use Rattle.asm_model.specs.Instructions.{is_legal};
+ghost use Rattle.asm_model.specs.Drafts.{code_words, initialised_bytes};
+ghost use Rattle.asm_model.specs.SecondPass.{behind_source, settled, settle, instr_suits, in_reach, jump_offset, with_instr, with_data, with_entry, with_export, code_end, bytes_of, put_operation, code_place, put_jump_to, put_jump, put_word, below_end, start_of, enter_at, export_at, put_piece, second_pass, known_from};
 ghost use Rattle.msp_asm.specs.Given.{IsLegalPiece, Puts, output_of};
 
 use crate::built::Built;
@@ -18,18 +18,18 @@ use crate::words::{
     use_of_destination, use_of_source, word_on,
 };
 use arrayvec::ArrayVec;
-use asm_text::expression::Base;
-use asm_text::fault::AsmKind;
-use asm_text::laws::{tested_is_legal, words_spell};
-use asm_text::name::{Name, Value};
-use asm_text::operand::Use;
-use asm_text::piece::Piece;
-use asm_text::progress::Progress;
+use asm_model::expression::Base;
+use asm_model::fault::AsmKind;
+use asm_model::laws::{tested_is_legal, words_spell};
+use asm_model::name::{Name, Value};
+use asm_model::operand::Use;
+use asm_model::piece::Piece;
+use asm_model::progress::Progress;
+use code_model::lists::{CodeWords, Relocs};
+use code_model::parts::Export;
 use msp_encode::encode;
 use msp_encode::instr::{Cond, Instr, Src};
 use msp_encode::laws::{legal_by_cases, one_spelling};
-use object_form::lists::{CodeWords, Relocs};
-use object_form::parts::Export;
 use std::alloc::AllocError;
 
 /// The words of a legal instruction.
@@ -57,7 +57,7 @@ fn push_words(code: &mut CodeWords, i: &Instr) -> Result<(), AllocError>
 }
 
 /// An instruction at an offset.
-#[tactic(auto, unfolding(asm_text::specs::SecondPass::settle))]
+#[tactic(auto, unfolding(asm_model::specs::SecondPass::settle))]
 fn settled_instr(
     names: &Names,
     p: Progress,
@@ -102,7 +102,7 @@ fn behind(at: u32, src: &Src) -> u32
 }
 
 /// Appends the relocations of an instruction at an offset.
-#[tactic(auto, unfolding(asm_text::specs::SecondPass::settle))]
+#[tactic(auto, unfolding(asm_model::specs::SecondPass::settle))]
 fn push_relocations(
     names: &Names,
     relocs: &mut Relocs,
@@ -153,7 +153,7 @@ fn end(out: &Built) -> u32
 }
 
 /// Appends an instruction.
-#[tactic(auto, unfolding(asm_text::specs::SecondPass::put_operation))]
+#[tactic(auto, unfolding(asm_model::specs::SecondPass::put_operation))]
 fn operation(
     names: &Names,
     p: Progress,
@@ -250,7 +250,7 @@ fn jump_to(out: &mut Built, cond: Cond, target: Result<u32, AsmKind>) -> Result<
 }
 
 /// Appends a jump.
-#[tactic(auto, unfolding(asm_text::specs::SecondPass::put_jump))]
+#[tactic(auto, unfolding(asm_model::specs::SecondPass::put_jump))]
 fn jump(names: &Names, p: Progress, out: &mut Built, cond: Cond, target: Name) -> Result<(), Stop>
     requires { length out.old.code ≤ 8192 }
     ensures output { Puts result (put_jump (known_from names.now p) (output_of out.old) cond target) (output_of out.new) }
@@ -261,7 +261,7 @@ fn jump(names: &Names, p: Progress, out: &mut Built, cond: Cond, target: Name) -
 }
 
 /// Appends an initialised word.
-#[tactic(auto, unfolding(asm_text::specs::SecondPass::put_word))]
+#[tactic(auto, unfolding(asm_model::specs::SecondPass::put_word))]
 fn word(names: &Names, p: Progress, out: &mut Built, base: Base, word: u16) -> Result<(), Stop>
     requires { length out.old.initialised ≤ 16384 }
     ensures output { Puts result (put_word (known_from names.now p) (output_of out.old) base word) (output_of out.new) }
@@ -281,7 +281,7 @@ fn word(names: &Names, p: Progress, out: &mut Built, base: Base, word: u16) -> R
 }
 
 /// Where an entry or an export leads: a place in the code and not at its end.
-#[tactic(auto, unfolding(asm_text::specs::SecondPass::start_of))]
+#[tactic(auto, unfolding(asm_model::specs::SecondPass::start_of))]
 fn start(names: &Names, p: Progress, label: Name) -> Result<u32, AsmKind>
     ensures value { result ≡ start_of (known_from names.now p) label }
     ensures small { IfOk result (λ at. at < 2 * p.code) }
@@ -329,7 +329,7 @@ fn export(out: &mut Built, number: u8, at: Result<u32, AsmKind>) -> Result<(), S
 }
 
 /// Appends a piece.
-#[tactic(auto, unfolding(asm_text::specs::SecondPass::put_piece))]
+#[tactic(auto, unfolding(asm_model::specs::SecondPass::put_piece))]
 pub(crate) fn put(names: &Names, p: Progress, out: &mut Built, piece: &Piece) -> Result<(), Stop>
     requires legal { IsLegalPiece piece.now }
     requires code { length out.old.code ≤ 8192 }

@@ -2,11 +2,11 @@
 
 ghost use Rattle.std.specs.Prelude.{◌≡◌, ◌≤◌, ◌<◌, ◌++◌, length, map, min, false, is_some, IfOk, OnOk};
 ghost use Rattle.std.specs.List.{list_all};
-ghost use Rattle.asm_text.specs.Lines.{is_nil};
-ghost use Rattle.asm_text.specs.Words.{operands_of};
-ghost use Rattle.asm_text.specs.Drafts.{placed, draft_by};
-ghost use Rattle.asm_text.specs.Directives.{word_datum, byte_datum, datum_of, unit_size, is_aligned, datum_fits, datum_piece, are_data, data_fit, data_pieces, data_room};
-ghost use Rattle.asm_text.specs.FirstPass.{take_data};
+ghost use Rattle.asm_model.specs.Lines.{is_nil};
+ghost use Rattle.asm_model.specs.Words.{operands_of};
+ghost use Rattle.asm_model.specs.Drafts.{placed, draft_by};
+ghost use Rattle.asm_model.specs.Directives.{word_datum, byte_datum, datum_of, unit_size, is_aligned, datum_fits, datum_piece, are_data, data_fit, data_pieces, data_room};
+ghost use Rattle.asm_model.specs.FirstPass.{take_data};
 ghost use Rattle.msp_asm.specs.Given.{Gives};
 ghost use Rattle.msp_asm.specs.Parts.{parts_of};
 
@@ -17,17 +17,17 @@ use crate::names::Names;
 use crate::numbers::{fits_byte, numeral, word as numeral_word};
 use crate::operands::address;
 use crate::text::{cut, trim};
-use asm_text::expression::Base;
-use asm_text::fault::AsmKind;
-use asm_text::piece::{DataUnit, Datum, Piece};
-use asm_text::progress::Progress;
+use asm_model::expression::Base;
+use asm_model::fault::AsmKind;
+use asm_model::piece::{DataUnit, Datum, Piece};
+use asm_model::progress::Progress;
 use std::alloc::AllocError;
 
 /// More operands than fit into the static part.
 const COUNT_MAX: u32 = 32_768;
 
 /// What an operand gives.
-#[tactic(auto, unfolding(asm_text::specs::Directives::datum_of))]
+#[tactic(auto, unfolding(asm_model::specs::Directives::datum_of))]
 fn datum(unit: DataUnit, names: &Names, operand: &[u8]) -> Option<Datum>
     ensures { result ≡ datum_of unit names.now operand.now }
 {
@@ -161,7 +161,7 @@ fn push_each(
 }
 
 /// With so many bytes of data, where they may stand.
-#[tactic(auto, using(crate::proofs::Counting::grown_capped), unfolding(asm_text::specs::Directives::data_room, asm_text::specs::Directives::are_data, asm_text::specs::Directives::data_fit, asm_text::specs::Words::operands_of))]
+#[tactic(auto, using(crate::proofs::Counting::grown_capped), unfolding(asm_model::specs::Directives::data_room, asm_model::specs::Directives::are_data, asm_model::specs::Directives::data_fit, asm_model::specs::Words::operands_of))]
 fn room(unit: DataUnit, names: &Names, p: Progress, rest: &[u8]) -> Result<Progress, AsmKind>
     ensures value { result ≡ data_room unit names.now p (operands_of rest.now) }
     ensures some { IfOk result (λ _. is_nil rest.now ≡ false) }
@@ -180,7 +180,7 @@ fn room(unit: DataUnit, names: &Names, p: Progress, rest: &[u8]) -> Result<Progr
 }
 
 /// With static data.
-#[tactic(auto, unfolding(asm_text::specs::FirstPass::take_data, asm_text::specs::Directives::data_pieces, asm_text::specs::Words::operands_of))]
+#[tactic(auto, unfolding(asm_model::specs::FirstPass::take_data, asm_model::specs::Directives::data_pieces, asm_model::specs::Words::operands_of))]
 pub(crate) fn data(
     unit: DataUnit,
     line: u32,

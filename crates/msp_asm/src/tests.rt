@@ -1,15 +1,15 @@
 //! Sources worked out by hand, with their objects, words and faults.
 
 ghost use Rattle.std.specs.Prelude.{◌≡◌, ◌+◌, ◌*◌, length, true, false, IfOk};
-ghost use Rattle.asm_text.specs.Assembled.{assembled};
+ghost use Rattle.asm_model.specs.Assembled.{assembled};
 ghost use Rattle.msp_asm.specs.Answers.{HasCode};
 
 use crate::assemble;
 use crate::fault_tests::{SOURCE_MAX, has_fault};
-use asm_text::fault::AsmKind::{JumpRange, TooLarge};
+use asm_model::fault::AsmKind::{JumpRange, TooLarge};
+use code_model::object::Object;
+use code_model::parts::{Export, Kind, RelKind, Reloc};
 use edge_io::lists::Bytes;
-use object_form::object::Object;
-use object_form::parts::{Export, Kind, RelKind, Reloc};
 use object_form::writing::write_object;
 use std::alloc::{AllocError, Global};
 use std::test::*;

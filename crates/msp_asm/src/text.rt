@@ -2,8 +2,8 @@
 
 ghost use Rattle.std.specs.Prelude.{◌≡◌, ◌==◌, ◌<◌, [], ◌∷◌, MatchOption, IfSome, length};
 ghost use Rattle.std.specs.List.{slice_split, before_first};
-ghost use Rattle.asm_text.specs.Lines.{without_return, lines_of};
-ghost use Rattle.asm_text.specs.Words.{is_semicolon, trimmed_start, trimmed_end, trimmed, first_word, behind_word, body_of, word_end, has_colon, before_colon, behind_colon, word_is};
+ghost use Rattle.asm_model.specs.Lines.{without_return, lines_of};
+ghost use Rattle.asm_model.specs.Words.{is_semicolon, trimmed_start, trimmed_end, trimmed, first_word, behind_word, body_of, word_end, has_colon, before_colon, behind_colon, word_is};
 
 use crate::bytes::{Class, byte_at, count_at_end, last, position};
 
@@ -23,7 +23,7 @@ pub(crate) fn cut(text: &[u8], byte: u8) -> (&[u8], Option<&[u8]>)
 }
 
 /// A line without the CR at its end.
-#[tactic(auto, unfolding(asm_text::specs::Lines::without_return))]
+#[tactic(auto, unfolding(asm_model::specs::Lines::without_return))]
 pub(crate) fn strip_return(line: &[u8]) -> &[u8]
     ensures { result.now ≡ without_return line.now }
 {
@@ -35,7 +35,7 @@ pub(crate) fn strip_return(line: &[u8]) -> &[u8]
 }
 
 /// A text's first line, and what stands behind its LF, if it is there.
-#[tactic(auto, using(crate::proofs::Lining::ended_more), unfolding(asm_text::specs::Lines::lines_of))]
+#[tactic(auto, using(crate::proofs::Lining::ended_more), unfolding(asm_model::specs::Lines::lines_of))]
 pub(crate) fn cut_line(text: &[u8]) -> (&[u8], Option<&[u8]>)
     ensures shorter { IfSome result.1 (λ behind. length behind.now < length text.now) }
     ensures lines { MatchOption result.1
@@ -50,7 +50,7 @@ pub(crate) fn cut_line(text: &[u8]) -> (&[u8], Option<&[u8]>)
 }
 
 /// Without the blanks at the front.
-#[tactic(auto, unfolding(asm_text::specs::Words::trimmed_start))]
+#[tactic(auto, unfolding(asm_model::specs::Words::trimmed_start))]
 pub(crate) fn trim_start(text: &[u8]) -> &[u8]
     ensures { result.now ≡ trimmed_start text.now }
 {
@@ -58,7 +58,7 @@ pub(crate) fn trim_start(text: &[u8]) -> &[u8]
 }
 
 /// Without the blanks at the end.
-#[tactic(auto, unfolding(asm_text::specs::Words::trimmed_end))]
+#[tactic(auto, unfolding(asm_model::specs::Words::trimmed_end))]
 fn trim_end(text: &[u8]) -> &[u8]
     ensures { result.now ≡ trimmed_end text.now }
 {
@@ -73,7 +73,7 @@ pub(crate) fn trim(text: &[u8]) -> &[u8]
 }
 
 /// The bytes up to the first blank.
-#[tactic(auto, unfolding(asm_text::specs::Words::first_word))]
+#[tactic(auto, unfolding(asm_model::specs::Words::first_word))]
 pub(crate) fn word(text: &[u8]) -> &[u8]
     ensures { result.now ≡ first_word text.now }
 {
@@ -81,7 +81,7 @@ pub(crate) fn word(text: &[u8]) -> &[u8]
 }
 
 /// What stands behind the first word.
-#[tactic(auto, unfolding(asm_text::specs::Words::behind_word))]
+#[tactic(auto, unfolding(asm_model::specs::Words::behind_word))]
 pub(crate) fn rest(text: &[u8]) -> &[u8]
     ensures { result.now ≡ behind_word text.now }
 {
@@ -89,7 +89,7 @@ pub(crate) fn rest(text: &[u8]) -> &[u8]
 }
 
 /// A line without its comment and without blanks at its ends.
-#[tactic(auto, unfolding(asm_text::specs::Words::body_of))]
+#[tactic(auto, unfolding(asm_model::specs::Words::body_of))]
 pub(crate) fn body(line: &[u8]) -> &[u8]
     ensures { result.now ≡ body_of line.now }
 {
@@ -97,7 +97,7 @@ pub(crate) fn body(line: &[u8]) -> &[u8]
 }
 
 /// Whether a body's first word stands before a colon.
-#[tactic(auto, unfolding(asm_text::specs::Words::has_colon))]
+#[tactic(auto, unfolding(asm_model::specs::Words::has_colon))]
 pub(crate) fn is_labelled(body: &[u8]) -> bool
     ensures { result ≡ has_colon body.now }
 {
@@ -105,7 +105,7 @@ pub(crate) fn is_labelled(body: &[u8]) -> bool
 }
 
 /// A body's first word.
-#[tactic(auto, unfolding(asm_text::specs::Words::before_colon))]
+#[tactic(auto, unfolding(asm_model::specs::Words::before_colon))]
 pub(crate) fn label_word(body: &[u8]) -> &[u8]
     ensures { result.now ≡ before_colon body.now }
 {
@@ -113,7 +113,7 @@ pub(crate) fn label_word(body: &[u8]) -> &[u8]
 }
 
 /// What stands behind the colon of a label.
-#[tactic(auto, unfolding(asm_text::specs::Words::behind_colon))]
+#[tactic(auto, unfolding(asm_model::specs::Words::behind_colon))]
 pub(crate) fn labelled(body: &[u8]) -> &[u8]
     ensures { result.now ≡ behind_colon body.now }
 {
@@ -126,7 +126,7 @@ pub(crate) fn labelled(body: &[u8]) -> &[u8]
 }
 
 /// Whether a word is this keyword, in either case.
-#[tactic(auto, unfolding(asm_text::specs::Words::word_is))]
+#[tactic(auto, unfolding(asm_model::specs::Words::word_is))]
 pub(crate) fn is_word(word: &[u8], keyword: &[u8]) -> bool
     ensures { result ≡ word_is word.now keyword.now }
 {

@@ -1,17 +1,17 @@
 //! The words of operands where all names are known.
 
 ghost use Rattle.std.specs.Prelude.{◌≡◌, ◌≤◌, ◌<◌, ◌+◌, ◌^◌, ◌++◌, OnOk};
-ghost use Rattle.asm_text.specs.SecondPass.{source_use, destination_use, is_known, is_place_of_code, is_place_of_data, label_suits, suits, offset_in, label_word, placed_word, place_relocation, label_relocation, relocation, relocation_at, source_with, destination_with, source_word, destination_word, placed_source, placed_destination, known_from};
-ghost use Rattle.asm_text.specs.declared.progress.Progress.{Progress};
+ghost use Rattle.asm_model.specs.SecondPass.{source_use, destination_use, is_known, is_place_of_code, is_place_of_data, label_suits, suits, offset_in, label_word, placed_word, place_relocation, label_relocation, relocation, relocation_at, source_with, destination_with, source_word, destination_word, placed_source, placed_destination, known_from};
+ghost use Rattle.asm_model.specs.declared.progress.Progress.{Progress};
 
 use crate::names::Names;
-use asm_text::expression::Base;
-use asm_text::name::Value;
-use asm_text::operand::Use;
-use asm_text::progress::Progress;
+use asm_model::expression::Base;
+use asm_model::name::Value;
+use asm_model::operand::Use;
+use asm_model::progress::Progress;
+use code_model::lists::Relocs;
+use code_model::parts::{RelKind, Reloc};
 use msp_encode::instr::{Dst, Src};
-use object_form::lists::Relocs;
-use object_form::parts::{RelKind, Reloc};
 use std::alloc::AllocError;
 
 /// What the word of a source has to be.

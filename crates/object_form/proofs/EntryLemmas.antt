@@ -1,7 +1,7 @@
 -- One more relocation or export of those that begin at a place.
 use Rattle.std.proofs.Common.{◌≡◌, ℕ, ◌+◌, ◌*◌, ◌<◌, List, [], ◌∷◌, ◌++◌, None, refl, sym, ap, subst, ◌∙◌}
-use Rattle.object_form.specs.declared.parts.Reloc.{Reloc}
-use Rattle.object_form.specs.declared.parts.Export.{Export}
+use Rattle.code_model.specs.declared.parts.Reloc.{Reloc}
+use Rattle.code_model.specs.declared.parts.Export.{Export}
 use Rattle.object_form.specs.declared.fault.FormFault.{FormFault}
 use Rattle.object_form.specs.Reading.{listed, reloc_at, export_at, relocs_from, exports_from}
 use Rattle.object_form.specs.Faults.{field_fault, first_fault, Names, key_at, least_key, least_number, reloc_field, reloc_fields, export_field, export_fields}

@@ -1,7 +1,7 @@
 -- A relocation or an export has no fault exactly where its numbers are these; and then it fits its object.
 use Rattle.std.proofs.Common.{◌≡◌, ℕ, zero, suc, ◌+◌, ◌*◌, ◌%◌, ◌<◌, ◌≤◌, Bool, true, false, cond, eqb, List, length, None, refl, ap, arith, lit≤}
 use Rattle.std.proofs.lemmas.Bool.{leb-true, le-leb, eqb-true, eq-eqb, ltb-true, lt-ltb}
-use Rattle.object_form.specs.Form.{kind_code, key, RelocFits}
+use Rattle.code_model.specs.Form.{kind_code, key, RelocFits}
 use Rattle.object_form.specs.Reading.{byte_at, word_at, rel_kind_of, reloc_at}
 use Rattle.object_form.specs.Faults.{field_fault, key_at, greatest_kind, section_size, reloc_field, export_field}
 use Rattle.object_form.proofs.Tables.{field-given, field-holds}

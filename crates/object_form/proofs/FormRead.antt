@@ -2,12 +2,12 @@
 use Rattle.std.proofs.Common.{◌≡◌, ℕ, ◌+◌, ◌*◌, ◌<◌, ◌≤◌, List, length, get_or, None, sym, subst, ◌∙◌, arith, lit<, inl, inr}
 use Rattle.std.proofs.lemmas.Bool.{cases_lt}
 use Rattle.std.proofs.lemmas.List.{get_or_past}
-use Rattle.object_form.specs.declared.parts.Kind.{Kind}
-use Rattle.object_form.specs.declared.parts.Kind.TheVariants.{App, Module}
-use Rattle.object_form.specs.declared.parts.Reloc.{Reloc}
-use Rattle.object_form.specs.declared.parts.Export.{Export}
-use Rattle.object_form.specs.Form.{IsInCode, RelocFits, AppForm, ModuleForm}
-use Rattle.object_form.specs.Spelling.{Meets}
+use Rattle.kernel_model.specs.declared.kinds.Kind.{Kind}
+use Rattle.kernel_model.specs.declared.kinds.Kind.TheVariants.{App, Module}
+use Rattle.code_model.specs.declared.parts.Reloc.{Reloc}
+use Rattle.code_model.specs.declared.parts.Export.{Export}
+use Rattle.code_model.specs.Form.{IsInCode, RelocFits, AppForm, ModuleForm}
+use Rattle.code_model.specs.Fields.{Meets}
 use Rattle.object_form.specs.Reading.{byte_at, word_at, kind_of, listed, reloc_at, export_at, init_start, relocs_start, exports_start, fields_in}
 use Rattle.object_form.specs.Faults.{first_form_fault}
 use Rattle.object_form.proofs.Blocks.{length-listed, get_or-listed}

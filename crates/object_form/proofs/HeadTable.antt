@@ -1,8 +1,8 @@
 -- The head has no fault exactly where its numbers are these.
 use Rattle.std.proofs.Common.{◌≡◌, ℕ, ◌+◌, ◌*◌, ◌%◌, ◌<◌, ◌≤◌, List, length, None, arith, lit≤}
 use Rattle.std.proofs.lemmas.Bool.{leb-true, le-leb, eqb-true, eq-eqb, ltb-true, lt-ltb}
-use Rattle.object_form.specs.declared.parts.Kind.{Kind}
-use Rattle.object_form.specs.declared.parts.Kind.TheVariants.{App, Module}
+use Rattle.kernel_model.specs.declared.kinds.Kind.{Kind}
+use Rattle.kernel_model.specs.declared.kinds.Kind.TheVariants.{App, Module}
 use Rattle.object_form.specs.Reading.{byte_at, word_at, kind_of}
 use Rattle.object_form.specs.Faults.{first_fault, magic_field, version_field, kind_field, code_count_field, init_count_field, zeroed_field, stack_field, threads_field, export_count_field, entry_field, reloc_count_field, head_fields, stack_checks, thread_checks, export_count_checks, entry_checks}
 use Rattle.object_form.proofs.Tables.{EachHolds, fields-given, fields-hold}

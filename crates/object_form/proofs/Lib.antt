@@ -12,4 +12,3 @@ pub mod TextWritten
 pub mod WrittenHolds
 pub mod Named
 pub mod Objects
-mod Bits

@@ -5,7 +5,8 @@ use Rattle.object_form.specs.declared.fault.FormKind.TheVariants as kinds
 use Rattle.object_form.specs.declared.fault.FormFault.{FormFault}
 use Rattle.object_form.specs.declared.fault.FormFault.TheVariants.{At, Memory}
 use Rattle.object_form.specs.declared.reading.Parts.{Parts}
-use Rattle.object_form.specs.Spelling.{Fields, Meets, text_of}
+use Rattle.object_form.specs.Spelling.{text_of}
+use Rattle.code_model.specs.Fields.{Fields, Meets}
 use Rattle.object_form.specs.Reading.{byte_at, word_at, init_start, relocs_start, exports_start, text_end, words_from, bytes_from, relocs_from, exports_from, fields_in}
 use Rattle.object_form.specs.Faults.{Reason, reason, or_else, first_fault, head_fields, part_fields, reloc_fields, export_fields, trailing, first_form_fault, Names}
 use Rattle.object_form.specs.Given.{IsHead, fields_read, AreRead}

@@ -1,8 +1,9 @@
 -- The laws of objects' texts.
 use Rattle.std.proofs.Common.{◌≡◌, ℕ, List, Option, None, refl, ap, sym, subst, ◌∙◌}
 use Rattle.std.proofs.Props.{props}
-use Rattle.object_form.specs.declared.object.Object.{Object}
-use Rattle.object_form.specs.Spelling.{Fields, fields, Meets, object_bytes}
+use Rattle.code_model.specs.declared.object.Object.{Object}
+use Rattle.object_form.specs.Spelling.{object_bytes}
+use Rattle.code_model.specs.Fields.{Fields, fields, Meets}
 use Rattle.object_form.specs.Reading.{fields_in}
 use Rattle.object_form.specs.Faults.{Reason, first_form_fault, Names}
 use Rattle.object_form.specs.declared.fault.FormFault.{FormFault}

@@ -2,10 +2,11 @@
 use Rattle.std.proofs.Common.{◌≡◌, ℕ, ◌+◌, ◌*◌, ◌%◌, ◌/◌, ◌<◌, List, [], ◌++◌, length, get_or, refl, ap, sym, ◌∙◌, arith, lit<, length-append}
 use Rattle.std.proofs.lemmas.List.{get_or-append-add, get_or_append_left, append-nil}
 use Rattle.std.specs.List.{flat_map}
-use Rattle.object_form.specs.declared.parts.Reloc.{Reloc}
-use Rattle.object_form.specs.declared.parts.Export.{Export}
-use Rattle.object_form.specs.Form.{kind_code}
-use Rattle.object_form.specs.Spelling.{Fields, word_bytes, section_number, reloc_bytes, export_bytes, head_bytes, text_of}
+use Rattle.code_model.specs.declared.parts.Reloc.{Reloc}
+use Rattle.code_model.specs.declared.parts.Export.{Export}
+use Rattle.code_model.specs.Form.{kind_code}
+use Rattle.object_form.specs.Spelling.{word_bytes, section_number, reloc_bytes, export_bytes, head_bytes, text_of}
+use Rattle.code_model.specs.Fields.{Fields}
 use Rattle.object_form.specs.Reading.{byte_at, word_at}
 use Rattle.object_form.proofs.Blocks.{block-byte, length-blocks}
 

@@ -2,10 +2,10 @@
 use Rattle.std.proofs.Common.{◌≡◌, ℕ, zero, suc, ◌+◌, ◌*◌, ◌<◌, ◌≤◌, Bool, true, false, cond, List, ◌++◌, length, get_or, Option, Some, None, refl, ap, sym, subst, ◌∙◌, arith, inl, inr}
 use Rattle.std.specs.Prelude.{nat_le}
 use Rattle.std.proofs.lemmas.Bool.{leb-true, le-leb, cases_lt}
-use Rattle.object_form.specs.declared.parts.Reloc.{Reloc}
-use Rattle.object_form.specs.declared.parts.Export.{Export}
+use Rattle.code_model.specs.declared.parts.Reloc.{Reloc}
+use Rattle.code_model.specs.declared.parts.Export.{Export}
 use Rattle.object_form.specs.declared.fault.FormKind.TheVariants as kinds
-use Rattle.object_form.specs.Form.{key, InOrder, NumbersRise}
+use Rattle.code_model.specs.Form.{key, InOrder, NumbersRise}
 use Rattle.object_form.specs.Reading.{byte_at, word_at, listed, reloc_at, export_at, init_start, relocs_start, exports_start, text_end, relocs_from, exports_from}
 use Rattle.object_form.specs.Faults.{Reason, reason, or_else, first_fault, head_fields, part_fields, key_at, least_key, least_number, reloc_field, reloc_fields, export_field, export_fields, fields_of_text, trailing, first_form_fault}
 use Rattle.object_form.proofs.Tables.{or_else-parts, or_else-both, fields-given, fields-hold}

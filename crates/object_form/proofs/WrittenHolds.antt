@@ -1,14 +1,15 @@
 -- The text of fields that meet the form has no fault, and these fields are read in it.
 use Rattle.std.proofs.Common.{◌≡◌, ℕ, zero, suc, ◌+◌, ◌*◌, ◌%◌, ◌<◌, ◌≤◌, Bool, true, false, cond, eqb, List, length, get_or, None, refl, ap, sym, subst, ◌∙◌, arith, lit≤}
 use Rattle.std.proofs.Math.Seq.{take-length}
-use Rattle.object_form.specs.declared.parts.Kind.{Kind}
-use Rattle.object_form.specs.declared.parts.Kind.TheVariants.{App, Module}
-use Rattle.object_form.specs.declared.parts.RelKind.{RelKind}
-use Rattle.object_form.specs.declared.parts.RelKind.TheVariants.{Code, Data, Lo, Hi}
-use Rattle.object_form.specs.declared.parts.Reloc.{Reloc}
-use Rattle.object_form.specs.declared.parts.Export.{Export}
-use Rattle.object_form.specs.Form.{kind_code, key, RelocFits, AppForm, ModuleForm}
-use Rattle.object_form.specs.Spelling.{Fields, fields_by, Meets, kind_number, section_number, text_of}
+use Rattle.kernel_model.specs.declared.kinds.Kind.{Kind}
+use Rattle.kernel_model.specs.declared.kinds.Kind.TheVariants.{App, Module}
+use Rattle.code_model.specs.declared.parts.RelKind.{RelKind}
+use Rattle.code_model.specs.declared.parts.RelKind.TheVariants.{Code, Data, Lo, Hi}
+use Rattle.code_model.specs.declared.parts.Reloc.{Reloc}
+use Rattle.code_model.specs.declared.parts.Export.{Export}
+use Rattle.code_model.specs.Form.{kind_code, key, RelocFits, AppForm, ModuleForm}
+use Rattle.object_form.specs.Spelling.{kind_number, section_number, text_of}
+use Rattle.code_model.specs.Fields.{Fields, fields_by, Meets}
 use Rattle.object_form.specs.Reading.{byte_at, word_at, kind_of, rel_kind_of, listed, reloc_at, export_at, init_start, relocs_start, exports_start, fields_in}
 use Rattle.object_form.specs.Faults.{first_form_fault, key_at, least_key, least_number, greatest_kind, section_size}
 use Rattle.object_form.proofs.Blocks.{listed-take}

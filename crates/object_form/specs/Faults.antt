@@ -1,7 +1,7 @@
 -- The first fault of a text that is no object's: its fields as a table, in order, and the first condition that fails.
 use Rattle.std.specs.Prelude.{◌≡◌, ℕ, zero, suc, ◌+◌, ◌*◌, ◌%◌, ◌==◌, nat_lt, nat_le, Bool, List, [], ◌∷◌, ◌++◌, length, Option, Some, None, if◌then◌else◌}
-use Rattle.object_form.specs.declared.parts.Kind.{Kind}
-use Rattle.object_form.specs.declared.parts.Kind.TheVariants.{App, Module}
+use Rattle.kernel_model.specs.declared.kinds.Kind.{Kind}
+use Rattle.kernel_model.specs.declared.kinds.Kind.TheVariants.{App, Module}
 use Rattle.object_form.specs.declared.fault.FormKind.{FormKind}
 use Rattle.object_form.specs.declared.fault.FormKind.TheVariants as kinds
 use Rattle.object_form.specs.declared.fault.FormFault.{FormFault}

@@ -3,7 +3,7 @@ use Rattle.std.specs.Prelude.{◌≡◌, ℕ, List, None, Result, Ok, Err}
 use Rattle.object_form.specs.declared.head.Head.{Head}
 use Rattle.object_form.specs.declared.reading.Parts.{Parts}
 use Rattle.object_form.specs.declared.fault.FormFault.{FormFault}
-use Rattle.object_form.specs.Spelling.{Fields, fields_by}
+use Rattle.code_model.specs.Fields.{Fields, fields_by}
 use Rattle.object_form.specs.Reading.{byte_at, word_at, kind_of, fields_in}
 use Rattle.object_form.specs.Faults.{Field, field_fault, first_fault, first_form_fault, Names}
 

@@ -1,5 +1,3 @@
-pub mod Form
-pub mod Bitmap
 pub mod Spelling
 pub mod Reading
 pub mod Faults

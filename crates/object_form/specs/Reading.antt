@@ -1,12 +1,12 @@
 -- The fields that stand in a text, each read at its place.
 use Rattle.std.specs.Prelude.{ℕ, zero, suc, ◌+◌, ◌*◌, ◌==◌, List, [], ◌∷◌, ◌++◌, slice_index, if◌then◌else◌}
-use Rattle.object_form.specs.declared.parts.Kind.{Kind}
-use Rattle.object_form.specs.declared.parts.Kind.TheVariants.{App, Module}
-use Rattle.object_form.specs.declared.parts.RelKind.{RelKind}
-use Rattle.object_form.specs.declared.parts.RelKind.TheVariants.{Code, Data, Lo, Hi}
-use Rattle.object_form.specs.declared.parts.Reloc.{Reloc}
-use Rattle.object_form.specs.declared.parts.Export.{Export}
-use Rattle.object_form.specs.Spelling.{Fields}
+use Rattle.kernel_model.specs.declared.kinds.Kind.{Kind}
+use Rattle.kernel_model.specs.declared.kinds.Kind.TheVariants.{App, Module}
+use Rattle.code_model.specs.declared.parts.RelKind.{RelKind}
+use Rattle.code_model.specs.declared.parts.RelKind.TheVariants.{Code, Data, Lo, Hi}
+use Rattle.code_model.specs.declared.parts.Reloc.{Reloc}
+use Rattle.code_model.specs.declared.parts.Export.{Export}
+use Rattle.code_model.specs.Fields.{Fields}
 
 -- the byte at a place of the text, 0 past its end
 abbrev pub byte_at : List ℕ → ℕ → ℕ

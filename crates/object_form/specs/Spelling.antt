@@ -1,35 +1,13 @@
 -- The one text of an object.
 use Rattle.std.specs.Prelude.{ℕ, ◌%◌, ◌/◌, List, [], ◌∷◌, ◌++◌, length, Bool, true, false}
 use Rattle.std.specs.List.{flat_map}
-use Rattle.object_form.specs.declared.parts.Kind.{Kind}
-use Rattle.object_form.specs.declared.parts.Kind.TheVariants.{App, Module}
-use Rattle.object_form.specs.declared.parts.Reloc.{Reloc}
-use Rattle.object_form.specs.declared.parts.Export.{Export}
-use Rattle.object_form.specs.declared.object.Object.{Object}
-use Rattle.object_form.specs.Form.{kind_code, MeetsForm}
-
--- an object's fields, without the fact that they meet the form
-pub record Fields : Type 0 where
-  pub kind : Kind
-  pub version : ℕ
-  pub code : List ℕ
-  pub init : List ℕ
-  pub zeroed : ℕ
-  pub stack : ℕ
-  pub threads : ℕ
-  pub entry : ℕ
-  pub relocs : List Reloc
-  pub exports : List Export
-
-abbrev pub fields_by : Kind → ℕ → List ℕ → List ℕ → ℕ → ℕ → ℕ → ℕ → List Reloc → List Export → Fields
-fields_by kind version code init zeroed stack threads entry relocs exports = record { kind = kind; version = version; code = code; init = init; zeroed = zeroed; stack = stack; threads = threads; entry = entry; relocs = relocs; exports = exports }
-
-abbrev pub fields : Object → Fields
-fields o = record { kind = o.kind; version = o.version; code = o.code; init = o.init; zeroed = o.zeroed; stack = o.stack; threads = o.threads; entry = o.entry; relocs = o.relocs; exports = o.exports }
-
--- these fields meet the form
-abbrev pub Meets : Fields → Type 0
-Meets f = MeetsForm f.kind f.version f.code f.init f.zeroed f.stack f.threads f.entry f.relocs f.exports
+use Rattle.kernel_model.specs.declared.kinds.Kind.{Kind}
+use Rattle.kernel_model.specs.declared.kinds.Kind.TheVariants.{App, Module}
+use Rattle.code_model.specs.declared.parts.Reloc.{Reloc}
+use Rattle.code_model.specs.declared.parts.Export.{Export}
+use Rattle.code_model.specs.declared.object.Object.{Object}
+use Rattle.code_model.specs.Form.{kind_code}
+use Rattle.code_model.specs.Fields.{Fields, fields}
 
 -- a word, its low byte first
 abbrev pub word_bytes : ℕ → List ℕ

@@ -7,8 +7,8 @@ ghost use Rattle.object_form.specs.Given.{ReadsField, ReadsFields};
 
 use super::fault::{FormFault, FormKind};
 use super::head::wrong;
-use super::lists::{Exports, Relocs};
-use super::parts::{Export, RelKind, Reloc};
+use code_model::lists::{Exports, Relocs};
+use code_model::parts::{Export, RelKind, Reloc};
 use std::alloc::Global;
 
 /// The kind of a number from 1 to 4.

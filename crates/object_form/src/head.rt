@@ -8,8 +8,8 @@ ghost use Rattle.object_form.specs.declared.fault.FormKind.TheVariants as kinds;
 ghost use Rattle.object_form.specs.declared.fault.FormFault.TheVariants.{At};
 
 use super::fault::{FormFault, FormKind};
-use super::object::{CODE_WORDS_MAX, RELOCS_MAX, STATIC_BYTES_MAX};
-use super::parts::Kind;
+use code_model::object::{CODE_WORDS_MAX, RELOCS_MAX, STATIC_BYTES_MAX};
+use code_model::parts::Kind;
 
 /// A fault of this kind at an offset.
 pub(crate) fn wrong(kind: FormKind, offset: usize) -> FormFault

@@ -1,8 +1,9 @@
 //! What holds of objects' texts, for callers: each law is a function that does nothing.
 
 ghost use Rattle.std.specs.Prelude.{◌≡◌, ℕ, ◌<◌, List, None, slice_index};
-ghost use Rattle.object_form.specs.declared.object.Object.{Object};
-ghost use Rattle.object_form.specs.Spelling.{fields, object_bytes};
+ghost use Rattle.code_model.specs.declared.object.Object.{Object};
+ghost use Rattle.object_form.specs.Spelling.{object_bytes};
+ghost use Rattle.code_model.specs.Fields.{fields};
 ghost use Rattle.object_form.specs.Reading.{fields_in};
 ghost use Rattle.object_form.specs.Faults.{first_form_fault};
 

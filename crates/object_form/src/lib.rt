@@ -16,12 +16,13 @@ mod entries;
 pub mod fault;
 mod head;
 pub mod laws;
-pub mod lists;
-pub mod marks;
-pub mod object;
-pub mod parts;
 pub mod reading;
 mod sections;
 #[cfg(test)]
 mod tests;
 pub mod writing;
+
+pub use code_model::lists::{CodeWords, Exports, Relocs};
+pub use code_model::marks::Marks;
+pub use code_model::object::Object;
+pub use code_model::parts::{Export, Kind, RelKind, Reloc};

@@ -1,7 +1,7 @@
 //! Reading an object's text.
 
 ghost use Rattle.std.specs.Prelude.{◌≡◌, None, IfOk, MatchResult};
-ghost use Rattle.object_form.specs.declared.object.Object.{Object};
+ghost use Rattle.code_model.specs.declared.object.Object.{Object};
 ghost use Rattle.object_form.specs.Spelling.{object_bytes};
 ghost use Rattle.object_form.specs.Faults.{first_form_fault, Names};
 ghost use Rattle.object_form.specs.Given.{AreRead};
@@ -9,9 +9,9 @@ ghost use Rattle.object_form.specs.Given.{AreRead};
 use super::entries::{Sizes, read_exports, read_relocs};
 use super::fault::{FormFault, FormKind};
 use super::head::{Head, read_head, wrong};
-use super::lists::{CodeWords, Exports, Relocs};
-use super::object::Object;
 use super::sections::read_sections;
+use code_model::lists::{CodeWords, Exports, Relocs};
+use code_model::object::Object;
 use edge_io::lists::Bytes;
 use std::alloc::Global;
 

@@ -7,7 +7,7 @@ ghost use Rattle.object_form.specs.Given.{ReadsFields};
 
 use super::fault::{FormFault, FormKind};
 use super::head::wrong;
-use super::lists::CodeWords;
+use code_model::lists::CodeWords;
 use edge_io::lists::Bytes;
 use std::alloc::{AllocError, Global};
 

@@ -1,10 +1,10 @@
 //! Texts of worked objects, and what is wrong with damaged ones.
 
 use super::fault::{FormFault, FormKind};
-use super::object::Object;
-use super::parts::Kind;
 use super::reading::read_object;
 use super::writing::write_object;
+use code_model::object::Object;
+use code_model::parts::Kind;
 use std::alloc::Global;
 use std::test::*;
 

@@ -2,11 +2,12 @@
 
 ghost use Rattle.std.specs.Prelude.{◌≡◌, ◌<◌, ◌≤◌, [], ◌∷◌, ◌++◌, length, IfOk, OnOk};
 ghost use Rattle.std.specs.List.{flat_map};
-ghost use Rattle.object_form.specs.Form.{kind_code};
-ghost use Rattle.object_form.specs.Spelling.{word_bytes, kind_number, section_number, reloc_bytes, export_bytes, fields, start_bytes, size_bytes, run_bytes, head_bytes, object_bytes};
+ghost use Rattle.code_model.specs.Form.{kind_code};
+ghost use Rattle.object_form.specs.Spelling.{word_bytes, kind_number, section_number, reloc_bytes, export_bytes, start_bytes, size_bytes, run_bytes, head_bytes, object_bytes};
+ghost use Rattle.code_model.specs.Fields.{fields};
 
-use super::object::Object;
-use super::parts::{Export, Kind, RelKind, Reloc};
+use code_model::object::Object;
+use code_model::parts::{Export, Kind, RelKind, Reloc};
 use edge_io::lists::Bytes;
 use std::alloc::{AllocError, Global};
 

@@ -1,6 +1,6 @@
 -- Places computed, of which the values are known by hand.
 use Rattle.std.proofs.Common.{◌≡◌, List, [], ◌∷◌, refl, Ok, Err}
-use Rattle.object_form.specs.declared.parts.Kind.TheVariants.{App, Module}
+use Rattle.kernel_model.specs.declared.kinds.Kind.TheVariants.{App, Module}
 use Rattle.kernel_model.specs.Layout.{empty}
 use Rattle.place_model.specs.declared.places.Range.{Range}
 use Rattle.place_model.specs.declared.places.Pool.TheVariants.{Code, Data}

@@ -1,7 +1,7 @@
 -- What placing answers.
 use Rattle.std.proofs.Common.{◌≡◌, ℕ, ◌+◌, ◌-◌, ◌%◌, ◌<◌, ◌≤◌, false, List, refl, ap, sym, subst, ⊎_elim, inl, inr, Option, Some, None, Result, Ok, Err, arith}
 use Rattle.std.proofs.lemmas.Bool.{cases_lt, both_ways}
-use Rattle.object_form.specs.declared.parts.Kind.{Kind}
+use Rattle.kernel_model.specs.declared.kinds.Kind.{Kind}
 use Rattle.kernel_model.specs.Kernel.{Kernel}
 use Rattle.place_model.specs.declared.places.Range.{Range}
 use Rattle.place_model.specs.declared.places.Pool.TheVariants.{Code, Data}

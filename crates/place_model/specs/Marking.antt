@@ -1,7 +1,7 @@
 -- The bitmap of marks, 1100 to 18FF: a bit for each word of the code pool.
 use Rattle.std.specs.Prelude.{◌≡◌, ◌↔◌, ℕ, ◌+◌, ◌-◌, ◌/◌, ◌%◌, ◌<◌, ◌≤◌, ◌⊎◌, List, length, slice_index}
 use Rattle.std.specs.Int.{bit_at}
-use Rattle.object_form.specs.Bitmap.{Has}
+use Rattle.kernel_model.specs.Bitmap.{Has}
 use Rattle.kernel_model.specs.Layout.{tables}
 use Rattle.place_model.specs.declared.places.Regions.{Regions}
 

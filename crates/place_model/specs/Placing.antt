@@ -1,8 +1,8 @@
 -- Placing an object: the least free number of its kind, and the lowest gaps for its code and its region.
 use Rattle.std.specs.Prelude.{◌≡◌, ℕ, ◌+◌, ◌-◌, ◌<◌, ◌≤◌, Bool, ◌==◌, nat_lt, if◌then◌else◌, not, IsTrue, IsFalse, List, ◌++◌, slice_index_or, map, Option, None, Some, Result, Ok, Err}
 use Rattle.std.specs.List.{find, filter, range_with_len}
-use Rattle.object_form.specs.declared.parts.Kind.{Kind}
-use Rattle.object_form.specs.declared.parts.Kind.TheVariants.{App, Module}
+use Rattle.kernel_model.specs.declared.kinds.Kind.{Kind}
+use Rattle.kernel_model.specs.declared.kinds.Kind.TheVariants.{App, Module}
 use Rattle.kernel_model.specs.Kernel.{Kernel, app_at, with_app, module_at, with_module}
 use Rattle.kernel_model.specs.Words.{live, free}
 use Rattle.kernel_model.specs.declared.rows.AppRow.{AppRow}

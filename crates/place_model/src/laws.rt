@@ -1,7 +1,7 @@
 //! What the gaps and places that are computed are. Each law is a function that does nothing, and its contract is the law.
 
 ghost use Rattle.std.specs.Prelude.{◌≡◌, ℕ, ◌%◌, ◌↔◌, List, Contains, Option, None, Some, Result, Ok, Err};
-ghost use Rattle.object_form.specs.declared.parts.Kind.{Kind};
+ghost use Rattle.kernel_model.specs.declared.kinds.Kind.{Kind};
 ghost use Rattle.kernel_model.specs.Kernel.{Kernel};
 ghost use Rattle.place_model.specs.declared.places.Range.{Range};
 ghost use Rattle.place_model.specs.declared.places.DomainRow.{DomainRow};

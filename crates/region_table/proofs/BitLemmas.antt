@@ -3,7 +3,7 @@ use Rattle.std.proofs.Common.{◌≡◌, ◌≢◌, ℕ, ◌+◌, ◌-◌, ◌*�
 use Rattle.std.proofs.lemmas.Bool.{cases_eq}
 use Rattle.std.specs.Int.{bit_at}
 use Rattle.kernel_model.specs.Layout.{tables}
-use Rattle.object_form.specs.Bitmap.{Has}
+use Rattle.kernel_model.specs.Bitmap.{Has}
 use Rattle.place_model.specs.declared.places.Regions.{Regions}
 use Rattle.place_model.specs.Marking.{IsCodeWord, IsMarkBit, Marked}
 use Rattle.region_table.specs.Bits.{BitPut}

@@ -9,9 +9,9 @@ ghost use Rattle.place_model.specs.Settled.{IsSettled};
 ghost use Rattle.region_table.specs.Bits.{BitPut};
 
 use crate::rows::domain_at;
+use code_model::marks::Marks;
 use flat_mem::FlatMem;
 use kernel_model::laws::tables_stay;
-use object_form::marks::Marks;
 use place_model::places::Regions;
 
 /// The bitmap's first byte.

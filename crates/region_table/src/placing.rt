@@ -9,8 +9,8 @@ ghost use Rattle.place_model.specs.Settled.{IsSettled};
 use crate::rows::{APPS, DOMAINS, FREE, MODULES, domain_rows, fill};
 use crate::search::place_in;
 use arrayvec::ArrayVec;
+use code_model::parts::Kind;
 use flat_mem::FlatMem;
-use object_form::parts::Kind;
 use place_model::laws::placings_keep_settled;
 use place_model::places::{DomainRow, NoRoom, Pool, Range, Regions};
 

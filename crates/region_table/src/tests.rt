@@ -1,10 +1,10 @@
 //! Places and marks worked out by hand, from the pools' addresses.
 
 use crate::*;
+use code_model::marks::Marks;
+use code_model::parts::Kind;
 use flat_mem::FlatMem;
 use kernel_tables::{AppRow, ModuleRow, app, clear, module, set_app, set_module};
-use object_form::marks::Marks;
-use object_form::parts::Kind;
 use std::test::Fail;
 
 /// An application's row in use with these places.

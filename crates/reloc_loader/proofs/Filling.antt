@@ -6,12 +6,12 @@ use Rattle.kernel_model.specs.Words.{identity, saved_register}
 use Rattle.kernel_model.specs.Layout.{tables, kernel_of, outside}
 use Rattle.kernel_model.specs.Queues.{Leaves}
 use Rattle.kernel_model.specs.declared.rows.AppRow.{AppRow}
-use Rattle.object_form.specs.declared.object.Object.{Object}
+use Rattle.code_model.specs.declared.object.Object.{Object}
 use Rattle.place_model.specs.declared.places.Regions.{Regions}
 use Rattle.place_model.specs.Placing.{placed_app}
 use Rattle.place_model.specs.Marking.{IsCodeWord, IsMarkBit, Marked}
-use Rattle.image_model.specs.Images.{code_image, region_image, placed_words, placed_word, placed_byte, added}
-use Rattle.image_model.specs.Standing.{HasBytes}
+use Rattle.load_model.specs.Images.{code_image, region_image, placed_words, placed_word, placed_byte, added}
+use Rattle.load_model.specs.Standing.{HasBytes}
 use Rattle.reloc_loader.specs.Loading.{domain_at, loaded_row, loaded_kernel, ArePlaces, IsBeside, HasImages, Loaded}
 use Rattle.reloc_loader.proofs.Tables.{kernel_same, laid_same, queues_same}
 

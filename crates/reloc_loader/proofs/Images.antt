@@ -5,10 +5,10 @@ use Rattle.std.proofs.lemmas.List.{same_lists, places}
 use Rattle.flat_mem.specs.Bytes.{patch, word_bytes}
 use Rattle.kernel_model.specs.Bytes.{part}
 use Rattle.kernel_model.specs.Layout.{sizes, split, tables}
-use Rattle.object_form.specs.declared.object.Object.{Object}
+use Rattle.code_model.specs.declared.object.Object.{Object}
 use Rattle.place_model.specs.declared.places.Regions.{Regions}
-use Rattle.image_model.specs.Domains.{Domain, code_length, region_length}
-use Rattle.image_model.specs.Images.{placed_words, code_image, region_image}
+use Rattle.load_model.specs.Domains.{Domain, code_length, region_length}
+use Rattle.load_model.specs.Images.{placed_words, code_image, region_image}
 use Rattle.reloc_loader.specs.Loading.{domain_at, ArePlaces, HasImages}
 
 -- ---- a write, byte by byte

@@ -4,14 +4,14 @@ use Rattle.std.specs.Prelude.{Result, Ok, Err, IfOk, nat_lt, if◌then◌else◌
 use Rattle.kernel_model.specs.Kernel.{Kernel, with_app, with_module}
 use Rattle.kernel_model.specs.Layout.{kernel_of}
 use Rattle.kernel_model.specs.Queues.{Leaves}
-use Rattle.object_form.specs.declared.object.Object.{Object}
-use Rattle.object_form.specs.declared.parts.Kind.{Kind}
-use Rattle.object_form.specs.declared.parts.Kind.TheVariants.{App}
+use Rattle.code_model.specs.declared.object.Object.{Object}
+use Rattle.kernel_model.specs.declared.kinds.Kind.{Kind}
+use Rattle.kernel_model.specs.declared.kinds.Kind.TheVariants.{App}
 use Rattle.place_model.specs.declared.places.Regions.{Regions}
 use Rattle.place_model.specs.declared.places.NoRoom.{NoRoom}
 use Rattle.place_model.specs.Placing.{placing, with_places, placed_app, placed_module, IsPlacing, IsInPools}
 use Rattle.place_model.specs.Settled.{IsSettledKernel}
-use Rattle.image_model.specs.Domains.{code_length, region_length}
+use Rattle.load_model.specs.Domains.{code_length, region_length}
 use Rattle.reloc_loader.specs.Loading.{ArePlaces}
 
 abbrev LowestLaw : Type 0

@@ -4,9 +4,9 @@ use Rattle.kernel_model.specs.Kernel.{Kernel, with_app, app_at}
 use Rattle.kernel_model.specs.Layout.{kernel_of}
 use Rattle.kernel_model.specs.Queues.{Leaves}
 use Rattle.kernel_model.specs.declared.rows.AppRow.{AppRow}
-use Rattle.object_form.specs.declared.object.Object.{Object}
-use Rattle.object_form.specs.declared.parts.Kind.TheVariants.{App}
-use Rattle.object_form.specs.Form.{AppForm}
+use Rattle.code_model.specs.declared.object.Object.{Object}
+use Rattle.kernel_model.specs.declared.kinds.Kind.TheVariants.{App}
+use Rattle.code_model.specs.Form.{AppForm}
 use Rattle.place_model.specs.declared.places.Regions.{Regions}
 use Rattle.place_model.specs.Placing.{placed_app, app_domain}
 use Rattle.place_model.specs.Settled.{IsAppPlace, IsSettledKernel, IsSettled}

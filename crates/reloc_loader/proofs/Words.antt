@@ -6,10 +6,10 @@ use Rattle.std.proofs.lemmas.List.{same_lists, places, append-nil, take-append-d
 use Rattle.std.proofs.lemmas.List.FromFn.{map-range_with_len_more, length-map-range_with_len}
 use Rattle.std.proofs.lemmas.Grind.{flat_map-append}
 use Rattle.flat_mem.specs.Bytes.{patch, word_bytes, even}
-use Rattle.object_form.specs.declared.parts.Reloc.{Reloc}
-use Rattle.object_form.specs.declared.parts.RelKind.{RelKind}
-use Rattle.image_model.specs.Domains.{Domain}
-use Rattle.image_model.specs.Images.{added, added_by, section_word, placed_word, placed_words}
+use Rattle.code_model.specs.declared.parts.Reloc.{Reloc}
+use Rattle.code_model.specs.declared.parts.RelKind.{RelKind}
+use Rattle.load_model.specs.Domains.{Domain}
+use Rattle.load_model.specs.Images.{added, added_by, section_word, placed_word, placed_words}
 use Rattle.reloc_loader.specs.Sections.{FindsOn, added_of}
 
 -- ---- one word

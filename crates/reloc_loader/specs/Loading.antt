@@ -1,7 +1,7 @@
 -- What loading an application leaves.
 use Rattle.std.specs.Prelude.{◌≡◌, ◌↔◌, ℕ, ◌+◌, ◌-◌, ◌/◌, ◌%◌, ◌<◌, ◌≤◌, ◌⊎◌, List, [], slice_index}
-use Rattle.object_form.specs.declared.object.Object.{Object}
-use Rattle.object_form.specs.Bitmap.{Has}
+use Rattle.code_model.specs.declared.object.Object.{Object}
+use Rattle.kernel_model.specs.Bitmap.{Has}
 use Rattle.code_model.specs.Rules.{static_size}
 use Rattle.kernel_model.specs.declared.rows.AppRow.{AppRow}
 use Rattle.kernel_model.specs.Kernel.{Kernel, with_app}
@@ -10,9 +10,9 @@ use Rattle.kernel_model.specs.Layout.{kernel_of, tables, IsLaidOut}
 use Rattle.kernel_model.specs.Queues.{QueuesHold}
 use Rattle.place_model.specs.declared.places.Regions.{Regions}
 use Rattle.place_model.specs.Marking.{IsCodeWord, IsMarkBit}
-use Rattle.image_model.specs.Domains.{Domain, code_length, region_length}
-use Rattle.image_model.specs.Images.{code_image, region_image}
-use Rattle.image_model.specs.Standing.{HasBytes}
+use Rattle.load_model.specs.Domains.{Domain, code_length, region_length}
+use Rattle.load_model.specs.Images.{code_image, region_image}
+use Rattle.load_model.specs.Standing.{HasBytes}
 
 -- the object at its places
 abbrev pub domain_at : Object → (units : List ℕ) → Regions → Domain

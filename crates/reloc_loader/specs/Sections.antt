@@ -1,11 +1,11 @@
 -- The relocations in their order, while the words of a section are written.
 use Rattle.std.specs.Prelude.{◌≡◌, ℕ, ◌+◌, ◌<◌, ◌≤◌, Bool, true, false, List, length, slice_index_or, Option, None, Some}
 use Rattle.std.specs.List.{find}
-use Rattle.object_form.specs.declared.parts.Reloc.{Reloc}
-use Rattle.object_form.specs.declared.parts.RelKind.{RelKind}
-use Rattle.object_form.specs.Form.{key}
-use Rattle.image_model.specs.Domains.{Domain, addend}
-use Rattle.image_model.specs.Images.{is_on}
+use Rattle.code_model.specs.declared.parts.Reloc.{Reloc}
+use Rattle.code_model.specs.declared.parts.RelKind.{RelKind}
+use Rattle.code_model.specs.Form.{key}
+use Rattle.load_model.specs.Domains.{Domain, addend}
+use Rattle.load_model.specs.Images.{is_on}
 
 -- the key of a relocation at this offset of the code, or of the initialised bytes
 abbrev pub key_at : (in_code : Bool) → (offset : ℕ) → ℕ

@@ -1,7 +1,7 @@
 //! Loading.
 
 ghost use Rattle.std.specs.Prelude.{◌≡◌, MatchResult, IfOk, OnErr, Err, Ok};
-ghost use Rattle.object_form.specs.declared.parts.Kind.TheVariants.{App};
+ghost use Rattle.kernel_model.specs.declared.kinds.Kind.TheVariants.{App};
 ghost use Rattle.code_model.specs.Verdicts.{IsAccepted};
 ghost use Rattle.kernel_model.specs.Kernel.{app_at, with_app};
 ghost use Rattle.kernel_model.specs.Layout.{kernel_of};
@@ -9,17 +9,17 @@ ghost use Rattle.kernel_model.specs.Queues.{Leaves};
 ghost use Rattle.place_model.specs.declared.places.Regions.{Regions};
 ghost use Rattle.place_model.specs.Placing.{placing, placed_app};
 ghost use Rattle.place_model.specs.Settled.{IsSettled};
-ghost use Rattle.image_model.specs.Domains.{code_length, region_length};
+ghost use Rattle.load_model.specs.Domains.{code_length, region_length};
 ghost use Rattle.reloc_loader.specs.Loading.{Loaded, HasImages, ArePlaces};
 
 use crate::rows::{code_bytes, put_rows, region_bytes};
 use crate::sections::{Section, put_section};
+use code_model::marks::Marks;
+use code_model::object::Object;
+use code_model::parts::Kind;
 use flat_mem::FlatMem;
-use image_model::{image_lengths, region_is_words};
 use kernel_model::laws::outside_bytes;
-use object_form::marks::Marks;
-use object_form::object::Object;
-use object_form::parts::Kind;
+use load_model::{image_lengths, region_is_words};
 use place_model::laws::{placings_are_lowest, placings_keep_settled};
 use region_table::{NoRoom, Regions, place, set_marks};
 

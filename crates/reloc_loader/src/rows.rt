@@ -1,18 +1,18 @@
 //! The lengths of an application's code and region, and its rows.
 
 ghost use Rattle.std.specs.Prelude.{◌≡◌, ◌%◌, ◌≤◌};
-ghost use Rattle.object_form.specs.declared.parts.Kind.TheVariants.{App};
+ghost use Rattle.kernel_model.specs.declared.kinds.Kind.TheVariants.{App};
 ghost use Rattle.kernel_model.specs.Layout.{kernel_of};
 ghost use Rattle.kernel_model.specs.Queues.{Leaves};
 ghost use Rattle.kernel_model.specs.Kernel.{app_at};
 ghost use Rattle.place_model.specs.Placing.{placed_app};
 ghost use Rattle.place_model.specs.Settled.{IsSettled};
-ghost use Rattle.image_model.specs.Domains.{code_length, region_length};
+ghost use Rattle.load_model.specs.Domains.{code_length, region_length};
 ghost use Rattle.reloc_loader.specs.Loading.{ArePlaces, loaded_kernel};
 
+use code_model::object::Object;
 use flat_mem::FlatMem;
 use kernel_tables::{AppRow, set_app, set_register};
-use object_form::object::Object;
 use region_table::Regions;
 
 /// The state of an application that hasn't ended.

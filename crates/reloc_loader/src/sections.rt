@@ -3,15 +3,15 @@
 ghost use Rattle.std.specs.Prelude.{◌≡◌, ℕ, ◌+◌, ◌*◌, ◌%◌, ◌<◌, ◌≤◌, [], length, false, MatchOption, slice_index_or};
 ghost use Rattle.std.specs.List.{flat_map};
 ghost use Rattle.flat_mem.specs.Bytes.{patch, word_bytes};
-ghost use Rattle.object_form.specs.declared.parts.Reloc.{Reloc};
-ghost use Rattle.object_form.specs.declared.object.Object.{Object};
-ghost use Rattle.image_model.specs.Images.{is_on, section_word, placed_word, placed_words};
+ghost use Rattle.code_model.specs.declared.parts.Reloc.{Reloc};
+ghost use Rattle.code_model.specs.declared.object.Object.{Object};
+ghost use Rattle.load_model.specs.Images.{is_on, section_word, placed_word, placed_words};
 ghost use Rattle.reloc_loader.specs.Sections.{key_at, IsNext, FindsOn, count_on, added_of};
 ghost use Rattle.reloc_loader.specs.Loading.{domain_at};
 
+use code_model::object::Object;
+use code_model::parts::{RelKind, Reloc};
 use flat_mem::FlatMem;
-use object_form::object::Object;
-use object_form::parts::{RelKind, Reloc};
 use region_table::Regions;
 
 /// Where the code, or the region with the initialised bytes at its front, is written, and how many words it has.

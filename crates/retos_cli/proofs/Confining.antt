@@ -3,8 +3,8 @@ use Rattle.std.proofs.Common.{◌≡◌, ◌≤◌, ◌<◌, Some, None, Ok, Err
 use Rattle.std.proofs.lemmas.Bool.{cases_lt}
 use Rattle.std.specs.declared.option.Option.{Option}
 use Rattle.edge_io.specs.Known.{Files}
-use Rattle.object_form.specs.declared.object.Object.{Object}
-use Rattle.image_model.specs.Domains.{code_length, region_length}
+use Rattle.code_model.specs.declared.object.Object.{Object}
+use Rattle.load_model.specs.Domains.{code_length, region_length}
 use Rattle.place_model.specs.declared.places.NoRoom.TheVariants.{Region}
 use Rattle.solo_model.specs.Booted.{alone, placing_alone, region_end}
 use Rattle.solo_laws.specs.Laws.{SoloLaw}

@@ -2,7 +2,7 @@
 use Rattle.std.proofs.Common.{◌≡◌, ℕ, suc, ◌+◌, ◌*◌, ◌/◌, ◌%◌, ◌<◌, List, slice_index_or, ap, subst, sym, arith}
 use Rattle.std.specs.Int.{bit_at}
 use Rattle.std.proofs.lemmas.Nat.Bits.{bit_at-lt}
-use Rattle.object_form.specs.Bitmap.{Has}
+use Rattle.kernel_model.specs.Bitmap.{Has}
 use Rattle.retos_cli.specs.Lines.{marked_below}
 
 abbrev bit-of : List ℕ → ℕ → ℕ

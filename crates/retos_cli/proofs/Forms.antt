@@ -2,10 +2,10 @@
 use Rattle.std.proofs.Common.{◌≡◌, ℕ, ◌+◌, ◌≤◌, ◌<◌, List, inl, inr, length, drop, suc, sym, subst, refl, arith}
 use Rattle.std.proofs.lemmas.Bool.{cases_order}
 use Rattle.msp_encode.specs.declared.instr.Instr.{Instr}
-use Rattle.object_form.specs.declared.parts.Reloc.{Reloc}
+use Rattle.code_model.specs.declared.parts.Reloc.{Reloc}
 use Rattle.code_model.specs.Starts.{Stands, NoneStands, Reached, Start, IsSpelled}
-use Rattle.checker_laws.proofs.Standing.{same_instr}
-use Rattle.checker_laws.proofs.Starting.{starts_apart}
+use Rattle.code_laws.proofs.Standing.{same_instr}
+use Rattle.code_laws.proofs.Starting.{starts_apart}
 use Rattle.static_checker.specs.declared.spot.Spot.{Spot}
 use Rattle.static_checker.specs.Spots.{IsSpot}
 use Rattle.retos_cli.specs.Entries.{NamesFaults, AllNameFaults}

@@ -2,7 +2,7 @@
 use Rattle.std.proofs.Common.{◌≡◌, ℕ, false, List, Some, None, Ok, refl, ap, sym, subst, ◌∙◌}
 use Rattle.std.specs.declared.option.Option.{Option}
 use Rattle.edge_io.specs.Known.{Files, FolderState, SinkState, AnswersOf, appended, held}
-use Rattle.object_form.specs.declared.object.Object.{Object}
+use Rattle.code_model.specs.declared.object.Object.{Object}
 use Rattle.object_form.specs.Spelling.{object_bytes}
 use Rattle.retos_cli.specs.declared.command.Command.TheVariants.{Insert}
 use Rattle.retos_cli.specs.declared.form.Form.TheVariants.{Plain}

@@ -5,12 +5,12 @@ use Rattle.edge_io.specs.Known.{Files, FolderState, Answers, AnswersOf, held}
 use Rattle.edge_io.specs.Causes.{ReadLeaves, input_failed}
 use Rattle.edge_io.specs.declared.whole.InputFault.{InputFault}
 use Rattle.edge_io.specs.declared.whole.InputFault.TheVariants as fault
-use Rattle.object_form.specs.declared.object.Object.{Object}
-use Rattle.object_form.specs.Spelling.{fields}
-use Rattle.asm_text.specs.declared.fault.AsmKind.{AsmKind}
-use Rattle.asm_text.specs.declared.fault.AsmFault.{AsmFault}
-use Rattle.asm_text.specs.declared.fault.AsmFault.TheVariants.{At}
-use Rattle.asm_text.specs.Assembled.{assembled, GivesObject}
+use Rattle.code_model.specs.declared.object.Object.{Object}
+use Rattle.code_model.specs.Fields.{fields}
+use Rattle.asm_model.specs.declared.fault.AsmKind.{AsmKind}
+use Rattle.asm_model.specs.declared.fault.AsmFault.{AsmFault}
+use Rattle.asm_model.specs.declared.fault.AsmFault.TheVariants.{At}
+use Rattle.asm_model.specs.Assembled.{assembled, GivesObject}
 use Rattle.retos_cli.specs.declared.form.Form.TheVariants.{Source}
 use Rattle.retos_cli.proofs.Judgments.{refuses_line}
 use Rattle.retos_cli.specs.declared.form.Form.{Form}

@@ -1,14 +1,14 @@
 -- Why a text is refused.
 use Rattle.std.proofs.Common.{◌≡◌, ℕ, ◌≤◌, List, length, Some, Err, refl}
-use Rattle.object_form.specs.declared.object.Object.{Object}
+use Rattle.code_model.specs.declared.object.Object.{Object}
 use Rattle.object_form.specs.declared.fault.FormKind.{FormKind}
 use Rattle.object_form.specs.Spelling.{object_bytes}
 use Rattle.object_form.specs.Faults.{first_form_fault}
 use Rattle.code_model.specs.Verdicts.{IsAccepted, IsVerdict}
 use Rattle.code_model.specs.declared.verdict.Verdict.TheVariants as verdict
-use Rattle.asm_text.specs.declared.fault.AsmKind.{AsmKind}
-use Rattle.asm_text.specs.FirstPass.{fault}
-use Rattle.asm_text.specs.Assembled.{assembled}
+use Rattle.asm_model.specs.declared.fault.AsmKind.{AsmKind}
+use Rattle.asm_model.specs.FirstPass.{fault}
+use Rattle.asm_model.specs.Assembled.{assembled}
 use Rattle.insert_model.specs.declared.fault.InsertKind.{InsertKind}
 use Rattle.insert_model.specs.Faults.{IsFault}
 use Rattle.retos_cli.specs.declared.form.Form.{Form}

@@ -3,7 +3,7 @@ use Rattle.std.proofs.Common.{◌≡◌, ℕ, ◌≤◌, Bool, false, List, [], 
 use Rattle.std.specs.declared.option.Option.{Option}
 use Rattle.edge_io.specs.Known.{Files, FolderState, SinkState, appended, GotPrefix, held}
 use Rattle.edge_io.specs.Causes.{Rose}
-use Rattle.object_form.specs.declared.object.Object.{Object}
+use Rattle.code_model.specs.declared.object.Object.{Object}
 use Rattle.solo_model.specs.Booted.{IsBootMemory}
 use Rattle.solo_model.specs.Running.{System, run, booted, count_faults}
 use Rattle.solo_model.specs.Trace.{placement_line, run_text, trace_text}

@@ -2,7 +2,7 @@
 use Rattle.std.specs.Prelude.{◌≡◌, ℕ, List, [], ◌∷◌, ◌++◌, length, codes, decimal, slice_get, unwrap_or, Some, Ok, Err}
 use Rattle.std.specs.declared.result.Result.{Result}
 use Rattle.edge_io.specs.Known.{Files, held}
-use Rattle.object_form.specs.declared.object.Object.{Object}
+use Rattle.code_model.specs.declared.object.Object.{Object}
 use Rattle.retos_cli.specs.declared.form.Form.{Form}
 use Rattle.retos_cli.specs.declared.form.Form.TheVariants.{Checked, Plain}
 use Rattle.retos_cli.specs.declared.input.Judged.{Judged}

@@ -2,11 +2,11 @@
 use Rattle.std.specs.Prelude.{ℕ, zero, suc, ◌+◌, ◌/◌, ◌%◌, List, [], ◌∷◌, ◌++◌, length, codes, decimal, slice_index_or}
 use Rattle.std.specs.Int.{bit_at}
 use Rattle.line_text.specs.Hexadecimal.{hex_word}
-use Rattle.object_form.specs.declared.object.Object.{Object}
+use Rattle.code_model.specs.declared.object.Object.{Object}
 use Rattle.object_form.specs.declared.fault.FormKind.{FormKind}
 use Rattle.object_form.specs.declared.fault.FormKind.TheVariants as kinds
-use Rattle.asm_text.specs.declared.fault.AsmKind.{AsmKind}
-use Rattle.asm_text.specs.declared.fault.AsmKind.TheVariants as asm
+use Rattle.asm_model.specs.declared.fault.AsmKind.{AsmKind}
+use Rattle.asm_model.specs.declared.fault.AsmKind.TheVariants as asm
 use Rattle.insert_model.specs.declared.fault.InsertKind.{InsertKind}
 use Rattle.insert_model.specs.declared.fault.InsertKind.TheVariants as guards
 use Rattle.retos_cli.specs.declared.outcome.Why.{Why}

@@ -3,12 +3,13 @@ use Rattle.std.specs.Prelude.{◌≡◌, ℕ, ◌<◌, ◌≤◌, ◌⊎◌, Boo
 use Rattle.std.specs.declared.option.Option.{Option}
 use Rattle.std.specs.FinMap.{insert}
 use Rattle.edge_io.specs.Known.{Files, held}
-use Rattle.object_form.specs.declared.object.Object.{Object}
-use Rattle.object_form.specs.declared.parts.Kind.TheVariants as kind
-use Rattle.object_form.specs.Spelling.{fields, object_bytes}
+use Rattle.code_model.specs.declared.object.Object.{Object}
+use Rattle.kernel_model.specs.declared.kinds.Kind.TheVariants as kind
+use Rattle.object_form.specs.Spelling.{object_bytes}
+use Rattle.code_model.specs.Fields.{fields}
 use Rattle.object_form.specs.Faults.{first_form_fault}
-use Rattle.asm_text.specs.FirstPass.{fault}
-use Rattle.asm_text.specs.Assembled.{assembled}
+use Rattle.asm_model.specs.FirstPass.{fault}
+use Rattle.asm_model.specs.Assembled.{assembled}
 use Rattle.insert_model.specs.Faults.{IsFault, IsInserted}
 use Rattle.code_model.specs.Verdicts.{IsAccepted, IsVerdict}
 use Rattle.code_model.specs.declared.verdict.Verdict.TheVariants as verdict

@@ -2,7 +2,7 @@
 use Rattle.std.specs.Prelude.{◌≡◌, ℕ, List, nat_lt}
 use Rattle.edge_io.specs.Known.{SinkState, appended, GotPrefix}
 use Rattle.edge_io.specs.Causes.{Rose}
-use Rattle.object_form.specs.declared.object.Object.{Object}
+use Rattle.code_model.specs.declared.object.Object.{Object}
 use Rattle.solo_model.specs.Running.{System, run, booted, count_faults}
 use Rattle.solo_model.specs.Trace.{trace_text, run_text}
 use Rattle.retos_cli.specs.declared.outcome.Outcome.{Outcome}

@@ -5,7 +5,7 @@ use Rattle.std.specs.declared.result.Result.TheVariants.{Ok, Err}
 use Rattle.edge_io.specs.Known.{FolderState, SinkState, appended, put}
 use Rattle.edge_io.specs.Causes.{Rose}
 use Rattle.edge_io.specs.declared.whole.SinkFault.{SinkFault}
-use Rattle.object_form.specs.declared.object.Object.{Object}
+use Rattle.code_model.specs.declared.object.Object.{Object}
 use Rattle.object_form.specs.Spelling.{object_bytes}
 use Rattle.retos_cli.specs.declared.outcome.Outcome.{Outcome}
 use Rattle.retos_cli.specs.declared.outcome.Outcome.TheVariants.{Done, BadWords, Stopped, WriteFault}

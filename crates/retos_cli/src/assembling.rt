@@ -10,14 +10,14 @@ use super::input::unread;
 use super::lines::of_assembled;
 use super::outcome::{Outcome, Refused, Stop, Why};
 use super::writing::put_object;
-use asm_text::fault::AsmFault;
+use asm_model::fault::AsmFault;
+use code_model::object::Object;
 use edge_io::folder::Folder;
 use edge_io::name::Name;
 use edge_io::sink::Sink;
 use edge_io::whole::read_all;
 use line_text::line::Line;
 use msp_asm::assemble;
-use object_form::object::Object;
 use std::alloc::Global;
 
 /// Assembles the source text of one name, writes the object under the other, and prints its line.

@@ -3,8 +3,8 @@
 ghost use Rattle.std.specs.Prelude.{◌≡◌, ◌≤◌, length};
 ghost use Rattle.retos_cli.specs.Lines.{marked_below};
 
-use object_form::marks::Marks;
-use object_form::object::Object;
+use code_model::marks::Marks;
+use code_model::object::Object;
 
 /// How many code words and units an object has, at most 8,192 of each.
 #[derive(Clone, Copy, PartialEq, Eq, Debug, Drop)]

@@ -5,8 +5,8 @@ ghost use Rattle.code_model.specs.Starts.{Start, IsSpelled};
 ghost use Rattle.code_model.specs.Verdicts.{AllSpelled};
 ghost use Rattle.retos_cli.specs.Entries.{AllNameFaults, IsFaultEntry, IsRunnable, NamesFaults, branch_target, one_target, target, two_target};
 
+use code_model::object::Object;
 use msp_encode::instr::{Dst, Instr, Op1, Op2, Src};
-use object_form::object::Object;
 use static_checker::relocs::unrelocated;
 use static_checker::spot::{Spot, spot_at};
 

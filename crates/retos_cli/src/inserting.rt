@@ -13,6 +13,7 @@ use super::lines::of_inserted;
 use super::outcome::{Outcome, Refused, Stop, Why};
 use super::writing::put_object;
 use check_inserter::insert;
+use code_model::object::Object;
 use edge_io::folder::Folder;
 use edge_io::name::Name;
 use edge_io::sink::Sink;
@@ -20,7 +21,6 @@ use edge_io::whole::read_all;
 use insert_model::fault::InsertFault;
 use line_text::line::Line;
 use object_form::fault::FormFault;
-use object_form::object::Object;
 use object_form::reading::read_object;
 use std::alloc::Global;
 

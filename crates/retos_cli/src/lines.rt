@@ -5,7 +5,7 @@ ghost use Rattle.retos_cli.specs.Lines.{words_line, write_line, memory_line, rea
 ghost use Rattle.line_text.specs.Hexadecimal.{hex_word};
 
 use super::outcome::{Refused, Why};
-use asm_text::fault::AsmKind;
+use asm_model::fault::AsmKind;
 use edge_io::name::Name;
 use insert_model::fault::InsertKind;
 use line_text::line::Line;

@@ -3,7 +3,7 @@
 ghost use Rattle.std.specs.Prelude.{◌≡◌};
 ghost use Rattle.retos_cli.specs.Statuses.{status_number};
 
-use asm_text::fault::AsmKind;
+use asm_model::fault::AsmKind;
 use edge_io::name::Name;
 use insert_model::fault::InsertKind;
 use object_form::fault::FormKind;

@@ -4,12 +4,12 @@ ghost use Rattle.edge_io.specs.Known.{MayCreate};
 ghost use Rattle.retos_cli.specs.Writing.{FileThenLine, IsPut};
 
 use super::outcome::{Outcome, Stop};
+use code_model::object::Object;
 use edge_io::folder::Folder;
 use edge_io::name::Name;
 use edge_io::sink::Sink;
 use edge_io::whole::{SinkFault, write_all, write_file};
 use line_text::line::Line;
-use object_form::object::Object;
 use object_form::writing::write_object;
 use std::alloc::Global;
 

@@ -2,20 +2,20 @@
 use Rattle.std.proofs.Common.{◌≡◌, ℕ, zero, suc, ◌+◌, ◌*◌, ◌/◌, ◌%◌, ◌<◌, ◌≤◌, ◌⊎◌, List, [], ◌∷◌, length, replicate, get_or, refl, sym, ap, ◌∙◌, inl, inr, arith}
 use Rattle.std.proofs.lemmas.Bool.{cases_lt}
 use Rattle.std.proofs.lemmas.List.{get_or-replicate, get_or_past, length-replicate}
-use Rattle.object_form.specs.declared.object.Object.{Object}
-use Rattle.object_form.specs.declared.parts.Kind.TheVariants.{App}
-use Rattle.object_form.specs.Form.{AppForm}
+use Rattle.code_model.specs.declared.object.Object.{Object}
+use Rattle.kernel_model.specs.declared.kinds.Kind.TheVariants.{App}
+use Rattle.code_model.specs.Form.{AppForm}
 use Rattle.code_model.specs.Verdicts.{IsAccepted}
-use Rattle.checker_laws.specs.Laws.{NamedUnits}
+use Rattle.code_laws.specs.Laws.{NamedUnits}
 use Rattle.machine_model.specs.Memory.{IsMemory, word_at}
 use Rattle.machine_model.specs.Context.{reg, set_reg, IsContext}
-use Rattle.machine_law.specs.Steady.{Limits}
-use Rattle.machine_law.proofs.Words.{set-context}
-use Rattle.image_model.specs.Domains.{region_length}
-use Rattle.image_model.specs.Standing.{CodeImageLaw}
-use Rattle.image_model.specs.Standing as image
-use Rattle.accepted_code.specs.Placed.{CodeStands, IsWellPlaced, bits, control_bits}
-use Rattle.accepted_code.specs.Good.{IsGood, AtUnit}
+use Rattle.machine_laws.specs.Steady.{Limits}
+use Rattle.machine_laws.proofs.Words.{set-context}
+use Rattle.load_model.specs.Domains.{region_length}
+use Rattle.load_model.specs.Standing.{CodeImageLaw}
+use Rattle.load_model.specs.Standing as image
+use Rattle.confinement_laws.specs.Placed.{CodeStands, IsWellPlaced, bits, control_bits}
+use Rattle.confinement_laws.specs.Good.{IsGood, AtUnit}
 use Rattle.kernel_model.specs.Kernel.{Kernel}
 use Rattle.kernel_model.specs.Layout.{Fits, kernel_of, layout, table_bytes}
 use Rattle.solo_model.specs.Booted.{IsBootMemory, domain_of, region_end, stack_low, stack_top, boot_context, fresh, one_running}

@@ -6,15 +6,15 @@ use Rattle.msp_encode.specs.declared.instr.Instr.{Instr}
 use Rattle.msp_encode.specs.declared.instr.Instr.TheVariants as instr
 use Rattle.msp_encode.specs.Spelling.{First, Spells, op2_code}
 use Rattle.msp_decode.specs.Reading.{NoneBegins}
-use Rattle.object_form.specs.declared.parts.Kind.{Kind}
-use Rattle.object_form.specs.declared.parts.Kind.TheVariants.{App, Module}
+use Rattle.kernel_model.specs.declared.kinds.Kind.{Kind}
+use Rattle.kernel_model.specs.declared.kinds.Kind.TheVariants.{App, Module}
 use Rattle.code_model.specs.Rules.{IsJumpEntry, IsCallEntry}
 use Rattle.machine_model.specs.Memory.{word_at, IsMemory, even}
 use Rattle.machine_model.specs.Context.{reg}
-use Rattle.image_model.specs.Domains.{Domain}
-use Rattle.accepted_code.specs.Placed.{StandsIn}
-use Rattle.accepted_code.specs.Good.{IsGood, IsSomewhere, AtUnit, Within, Jumped, Called, bounds}
-use Rattle.accepted_code.proofs.Runs.{place-start}
+use Rattle.load_model.specs.Domains.{Domain}
+use Rattle.confinement_laws.specs.Placed.{StandsIn}
+use Rattle.confinement_laws.specs.Good.{IsGood, IsSomewhere, AtUnit, Within, Jumped, Called, bounds}
+use Rattle.confinement_laws.proofs.Runs.{place-start}
 use Rattle.solo_laws.specs.Sound.{AreEntries}
 
 -- ---- no instruction begins with 0

@@ -3,7 +3,7 @@ use Rattle.std.proofs.Common.{◌≡◌, ℕ, zero, suc, ◌+◌, ◌*◌, ◌<�
 use Rattle.std.specs.declared.option.Option.{Option}
 use Rattle.std.specs.List.{AllByRecursion}
 use Rattle.std.proofs.lemmas.Bool.{cases_lt, eqb-true}
-use Rattle.object_form.specs.declared.object.Object.{Object}
+use Rattle.code_model.specs.declared.object.Object.{Object}
 use Rattle.msp_encode.specs.declared.instr.Instr.{Instr}
 use Rattle.msp_encode.specs.Spelling.{Spells}
 use Rattle.msp_decode.specs.Function.{reading, ReadingLaw}
@@ -11,16 +11,16 @@ use Rattle.msp_decode.specs.Reading.{NoneBegins}
 use Rattle.code_model.specs.Rules.{IsJumpEntry, IsCallEntry}
 use Rattle.machine_model.specs.Memory.{word_at, put_all}
 use Rattle.kernel_model.specs.Layout.{tables, kernel_of}
-use Rattle.machine_law.specs.Writes.{WordLaw}
+use Rattle.machine_laws.specs.Writes.{WordLaw}
 use Rattle.machine_model.specs.Context.{reg}
 use Rattle.machine_model.specs.Operands.{sum_of}
 use Rattle.machine_model.specs.Does.{does}
 use Rattle.machine_model.specs.Fetching.{IsFetched}
-use Rattle.image_model.specs.Domains.{Domain}
-use Rattle.accepted_code.specs.Good.{IsGood}
-use Rattle.accepted_code.specs.Kept.{LimitsLeftLaw, PartLeftLaw, StandsLeftLaw}
-use Rattle.accepted_code.specs.Laws.{FetchLaw, Inside, InstructionLaw, RegionLaw, StackLaw, Leads, StepsAt}
-use Rattle.accepted_code.proofs.Fetching.{first-unrelocated}
+use Rattle.load_model.specs.Domains.{Domain}
+use Rattle.confinement_laws.specs.Good.{IsGood}
+use Rattle.confinement_laws.specs.Kept.{LimitsLeftLaw, PartLeftLaw, StandsLeftLaw}
+use Rattle.confinement_laws.specs.Laws.{FetchLaw, Inside, InstructionLaw, RegionLaw, StackLaw, Leads, StepsAt}
+use Rattle.confinement_laws.proofs.Fetching.{first-unrelocated}
 use Rattle.solo_model.specs.declared.fault.Fault.{Fault}
 use Rattle.solo_model.specs.declared.fault.FaultKind.TheVariants.{Store, Stack}
 use Rattle.solo_model.specs.Booted.{domain_of, stack_low, stack_top}

@@ -1,7 +1,7 @@
 -- The laws of the run of one accepted application.
 use Rattle.std.specs.Prelude.{◌≡◌, ℕ, ◌≤◌, List, true}
-use Rattle.object_form.specs.declared.object.Object.{Object}
-use Rattle.object_form.specs.declared.parts.Kind.TheVariants.{App}
+use Rattle.code_model.specs.declared.object.Object.{Object}
+use Rattle.kernel_model.specs.declared.kinds.Kind.TheVariants.{App}
 use Rattle.code_model.specs.Verdicts.{IsAccepted}
 use Rattle.solo_model.specs.Booted.{region_end, IsBootMemory}
 use Rattle.solo_model.specs.Running.{System, Next, step, booted}

@@ -1,16 +1,16 @@
 -- A system of one accepted application, what each of its records may be, and a run of it.
 use Rattle.std.specs.Prelude.{◌≡◌, ℕ, ◌+◌, ◌*◌, ◌<◌, ◌≤◌, ◌⊎◌, List, [], ◌∷◌, true, false, slice_index}
 use Rattle.std.specs.List.{AllByRecursion}
-use Rattle.object_form.specs.declared.object.Object.{Object}
+use Rattle.code_model.specs.declared.object.Object.{Object}
 use Rattle.code_model.specs.Rules.{IsJumpEntry, IsCallEntry}
 use Rattle.machine_model.specs.Memory.{word_at}
 use Rattle.machine_model.specs.Context.{reg}
 use Rattle.machine_model.specs.Does.{does}
 use Rattle.kernel_model.specs.Layout.{kernel_of}
-use Rattle.machine_law.specs.Steady.{Limits}
-use Rattle.accepted_code.specs.Placed.{StandsIn, CodeStands}
-use Rattle.accepted_code.specs.Good.{IsGood}
-use Rattle.accepted_code.specs.Laws.{StepsAt, StaysInStack}
+use Rattle.machine_laws.specs.Steady.{Limits}
+use Rattle.confinement_laws.specs.Placed.{StandsIn, CodeStands}
+use Rattle.confinement_laws.specs.Good.{IsGood}
+use Rattle.confinement_laws.specs.Laws.{StepsAt, StaysInStack}
 use Rattle.solo_model.specs.declared.fault.Fault.{Fault}
 use Rattle.solo_model.specs.declared.fault.FaultKind.{FaultKind}
 use Rattle.solo_model.specs.declared.fault.FaultKind.TheVariants.{Store, Stack}

@@ -5,18 +5,18 @@
 //! safe. A step keeps it, and each record is confined by the system before it: an instruction is one of the object's own, at a
 //! start, writes in the region alone, and pushes and pops in the thread's stack; a fault comes from its entry, and leaves
 //! memory as it was with nothing running. The laws stand on those of a single instruction
-//! (`accepted_code`).
+//! (`confinement_laws`).
 #![tactic(auto)]
 
 ghost use Rattle.solo_laws.specs.Laws.{BootLaw, RunLaw, SoloLaw, StepLaw};
 
-use accepted_code::{
+use code_laws::named_units;
+use confinement_laws::{
     good_fetches, instruction_leads, limits_left, part_left, region_stays, stack_stays, stands_left,
 };
-use checker_laws::named_units;
-use image_model::code_image_stands;
 use kernel_model::laws::{layout_read_back, limit_words, tables_stay};
-use machine_law::word_stays;
+use load_model::code_image_stands;
+use machine_laws::word_stays;
 use msp_decode::laws::reading_law;
 
 /// A step of a sound system in which the application is live leads to a sound one, and its record is confined.

@@ -4,9 +4,9 @@ use Rattle.std.specs.List.{fold}
 use Rattle.std.specs.declared.result.Result.{Result}
 use Rattle.std.proofs.Math.Dec.{leb}
 use Rattle.std.proofs.lemmas.Bool.{le-leb, leb-true, cases_Bool, eqb-true}
-use Rattle.object_form.specs.declared.object.Object.{Object}
-use Rattle.object_form.specs.declared.parts.Kind.TheVariants.{App}
-use Rattle.image_model.specs.Domains.{code_length, region_length}
+use Rattle.code_model.specs.declared.object.Object.{Object}
+use Rattle.kernel_model.specs.declared.kinds.Kind.TheVariants.{App}
+use Rattle.load_model.specs.Domains.{code_length, region_length}
 use Rattle.kernel_model.specs.Layout.{empty}
 use Rattle.place_model.specs.declared.places.Range.{Range}
 use Rattle.place_model.specs.declared.places.Pool.TheVariants.{Code, Data}

@@ -1,8 +1,8 @@
 -- Where the one application of a node stands, and memory and registers at boot.
 use Rattle.std.specs.Prelude.{◌≡◌, ℕ, ◌+◌, ◌-◌, ◌*◌, ◌/◌, ◌<◌, ◌≤◌, ◌⊎◌, ◌↔◌, List, length, replicate, slice_index, Result}
-use Rattle.object_form.specs.declared.object.Object.{Object}
-use Rattle.object_form.specs.declared.parts.Kind.TheVariants.{App}
-use Rattle.object_form.specs.Bitmap.{Has}
+use Rattle.code_model.specs.declared.object.Object.{Object}
+use Rattle.kernel_model.specs.declared.kinds.Kind.TheVariants.{App}
+use Rattle.kernel_model.specs.Bitmap.{Has}
 use Rattle.code_model.specs.Rules.{static_size}
 use Rattle.machine_model.specs.Memory.{word_at, IsMemory}
 use Rattle.machine_model.specs.Context.{set_reg}
@@ -15,9 +15,9 @@ use Rattle.place_model.specs.declared.places.Regions.{Regions}
 use Rattle.place_model.specs.declared.places.NoRoom.{NoRoom}
 use Rattle.place_model.specs.Placing.{placing}
 use Rattle.place_model.specs.Marking.{IsCodeWord, IsMarkBit}
-use Rattle.image_model.specs.Domains.{Domain, code_length, region_length}
-use Rattle.image_model.specs.Images.{code_image, region_image}
-use Rattle.image_model.specs.Standing.{HasBytes}
+use Rattle.load_model.specs.Domains.{Domain, code_length, region_length}
+use Rattle.load_model.specs.Images.{code_image, region_image}
+use Rattle.load_model.specs.Standing.{HasBytes}
 
 -- ---- places: code begins with the code pool, the region with the data pool
 

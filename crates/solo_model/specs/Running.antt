@@ -6,7 +6,7 @@ use Rattle.machine_model.specs.Context.{reg}
 use Rattle.machine_model.specs.Operands.{sum_of}
 use Rattle.machine_model.specs.Does.{does}
 use Rattle.msp_decode.specs.Function.{reading}
-use Rattle.object_form.specs.declared.object.Object.{Object}
+use Rattle.code_model.specs.declared.object.Object.{Object}
 use Rattle.solo_model.specs.declared.fault.Fault.{Fault}
 use Rattle.solo_model.specs.declared.fault.FaultKind.{FaultKind}
 use Rattle.solo_model.specs.declared.fault.FaultKind.TheVariants.{Store, Stack}

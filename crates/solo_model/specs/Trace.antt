@@ -1,7 +1,7 @@
 -- The lines of a run's trace.
 use Rattle.std.specs.Prelude.{ℕ, List, [], ◌∷◌, ◌++◌, length, codes, decimal, if◌then◌else◌}
 use Rattle.line_text.specs.Hexadecimal.{hex_word}
-use Rattle.object_form.specs.declared.object.Object.{Object}
+use Rattle.code_model.specs.declared.object.Object.{Object}
 use Rattle.solo_model.specs.declared.fault.Fault.{Fault}
 use Rattle.solo_model.specs.declared.fault.FaultKind.{FaultKind}
 use Rattle.solo_model.specs.declared.fault.FaultKind.TheVariants.{Store, Stack}

@@ -1,8 +1,8 @@
 //! Where an application is placed that is alone. Each law is a function that does nothing, and its contract is the law.
 
 ghost use Rattle.std.specs.Prelude.{◌≡◌, ◌<◌, ◌≤◌, Ok, Err};
-ghost use Rattle.object_form.specs.declared.object.Object.{Object};
-ghost use Rattle.image_model.specs.Domains.{code_length, region_length};
+ghost use Rattle.code_model.specs.declared.object.Object.{Object};
+ghost use Rattle.load_model.specs.Domains.{code_length, region_length};
 ghost use Rattle.place_model.specs.declared.places.Regions.{Regions};
 ghost use Rattle.place_model.specs.declared.places.NoRoom.TheVariants.{Region};
 ghost use Rattle.solo_model.specs.Booted.{alone, placing_alone};

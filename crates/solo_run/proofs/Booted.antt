@@ -4,8 +4,8 @@ use Rattle.std.specs.Int.{bit_at}
 use Rattle.std.proofs.lemmas.Bool.{cases_lt}
 use Rattle.std.proofs.lemmas.Nat.Bits.{bit_at-zero}
 use Rattle.std.proofs.lemmas.List.{get_or-replicate, get_or_past, length-replicate}
-use Rattle.object_form.specs.declared.object.Object.{Object}
-use Rattle.object_form.specs.Bitmap.{Has}
+use Rattle.code_model.specs.declared.object.Object.{Object}
+use Rattle.kernel_model.specs.Bitmap.{Has}
 use Rattle.machine_model.specs.Memory.{IsMemory, word_at}
 use Rattle.flat_mem.specs.Bytes.{even}
 use Rattle.kernel_model.specs.Kernel.{Kernel, with_app, with_thread}
@@ -13,9 +13,9 @@ use Rattle.kernel_model.specs.Layout.{kernel_of, empty, layout, table_bytes, out
 use Rattle.kernel_model.specs.Queues.{Leaves, QueuesHold}
 use Rattle.kernel_tables.specs.Clearing.{Cleared}
 use Rattle.place_model.specs.Marking.{IsCodeWord, IsMarkBit}
-use Rattle.image_model.specs.Domains.{code_length, region_length}
-use Rattle.image_model.specs.Images.{code_image, region_image}
-use Rattle.image_model.specs.Standing.{HasBytes}
+use Rattle.load_model.specs.Domains.{code_length, region_length}
+use Rattle.load_model.specs.Images.{code_image, region_image}
+use Rattle.load_model.specs.Standing.{HasBytes}
 use Rattle.reloc_loader.specs.Loading.{Loaded, IsBeside, loaded_kernel}
 use Rattle.solo_model.specs.Booted.{IsBootMemory, IsBlank, alone, app_row, thread_row, domain_of, code_end, region_end, stack_low, stack_top, one_running}
 use Rattle.solo_run.specs.Starting.{blank, started}

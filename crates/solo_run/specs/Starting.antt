@@ -1,6 +1,6 @@
 -- How an application is placed alone, and its thread 0 started.
 use Rattle.std.specs.Prelude.{◌≡◌, ℕ, ◌+◌, List, replicate}
-use Rattle.object_form.specs.declared.object.Object.{Object}
+use Rattle.code_model.specs.declared.object.Object.{Object}
 use Rattle.kernel_model.specs.Kernel.{Kernel, with_word, with_thread}
 use Rattle.kernel_model.specs.declared.rows.SysWord.TheVariants.{CurLim, CurTop, Running}
 use Rattle.solo_model.specs.Booted.{stack_low, stack_top, thread_row}

@@ -2,23 +2,23 @@
 
 ghost use Rattle.std.specs.Prelude.{◌≡◌, ◌≤◌, [], length, IfOk};
 ghost use Rattle.code_model.specs.Verdicts.{IsAccepted};
-ghost use Rattle.object_form.specs.declared.parts.Kind.TheVariants.{App};
+ghost use Rattle.kernel_model.specs.declared.kinds.Kind.TheVariants.{App};
 ghost use Rattle.kernel_model.specs.Layout.{kernel_of, empty};
 ghost use Rattle.kernel_model.specs.Queues.{Leaves, QueuesHold};
 ghost use Rattle.kernel_tables.specs.Clearing.{Cleared};
 ghost use Rattle.place_model.specs.Settled.{IsSettled};
-ghost use Rattle.image_model.specs.Domains.{region_length};
+ghost use Rattle.load_model.specs.Domains.{region_length};
 ghost use Rattle.solo_model.specs.Booted.{IsBootMemory, alone, boot_context, fresh, region_end, stack_top, thread_row};
 ghost use Rattle.reloc_loader.specs.Loading.{Loaded};
 ghost use Rattle.solo_run.specs.Starting.{blank, started};
 
+use code_model::marks::Marks;
+use code_model::object::Object;
 use flat_mem::FlatMem;
 use kernel_model::laws::{laid_out_bytes, outside_bytes};
 use kernel_tables::{SysWord, ThreadRow, clear, put, set_thread};
 use msp_machine::Regs;
 use msp_machine::regs::{PC, SP, SR};
-use object_form::marks::Marks;
-use object_form::object::Object;
 use reloc_loader::laws::cleared_is_settled;
 use reloc_loader::load;
 use solo_model::laws::alone_is_placed;

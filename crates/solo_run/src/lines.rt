@@ -6,8 +6,8 @@ ghost use Rattle.solo_model.specs.Running.{Run, count_faults, is_quiet};
 ghost use Rattle.solo_model.specs.Booted.{code_end, region_end};
 
 use super::boot::{CODE_POOL_START, region_stop};
+use code_model::object::Object;
 use line_text::line::Line;
-use object_form::object::Object;
 use solo_model::fault::{Fault, FaultKind};
 
 /// Where the object was placed.

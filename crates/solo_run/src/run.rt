@@ -8,9 +8,9 @@ ghost use Rattle.solo_model.specs.Trace.{record_text, records_text, run_text, pl
 
 use super::lines::{of_end, of_fault, of_placement};
 use super::solo::Solo;
+use code_model::object::Object;
 use edge_io::sink::Sink;
 use edge_io::whole::{SinkFault, write_all};
-use object_form::object::Object;
 
 /// How many steps were made, and how many of them were faults.
 #[derive(Drop)]

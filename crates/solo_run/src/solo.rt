@@ -2,18 +2,18 @@
 
 ghost use Rattle.std.specs.Prelude.{◌≡◌, ◌<◌, ◌≤◌, ◌-◌, ◌^◌, IfOk};
 ghost use Rattle.code_model.specs.Verdicts.{IsAccepted};
-ghost use Rattle.object_form.specs.declared.parts.Kind.TheVariants.{App};
-ghost use Rattle.image_model.specs.Domains.{region_length};
+ghost use Rattle.kernel_model.specs.declared.kinds.Kind.TheVariants.{App};
+ghost use Rattle.load_model.specs.Domains.{region_length};
 ghost use Rattle.solo_model.specs.Running.{IsBooted, step, fault_of, entered};
 
 use super::boot::{booted_memory, first_regs, fresh};
 use super::fetched::instruction_at;
+use code_model::marks::Marks;
+use code_model::object::Object;
 use flat_mem::FlatMem;
 use msp_machine::Regs;
 use msp_machine::exec::exec;
 use msp_machine::regs::{PC, SP};
-use object_form::marks::Marks;
-use object_form::object::Object;
 use solo_model::fault::{Fault, FaultKind};
 use std::alloc::{AllocError, Global};
 use std::marker::Model;

@@ -3,8 +3,8 @@ use Rattle.std.proofs.Common.{◌≡◌, ℕ, ◌+◌, ◌*◌, ◌/◌, ◌%◌
 use Rattle.std.proofs.Math.Nat.{eq-or-lt_of_le}
 use Rattle.std.proofs.lemmas.Bool.{cases_order}
 use Rattle.std.specs.Int.{bit_at}
-use Rattle.object_form.specs.declared.object.Object.{Object}
-use Rattle.object_form.specs.Bitmap.{Has}
+use Rattle.code_model.specs.declared.object.Object.{Object}
+use Rattle.kernel_model.specs.Bitmap.{Has}
 use Rattle.code_model.specs.declared.rules.Rule.{Rule}
 use Rattle.code_model.specs.declared.verdict.Verdict.{Verdict}
 use Rattle.code_model.specs.declared.verdict.Verdict.TheVariants.{Accepted, Refused}
@@ -13,8 +13,8 @@ use Rattle.code_model.specs.Guards.{Interior, UnitStart}
 use Rattle.code_model.specs.Rules.{number, Refuses}
 use Rattle.code_model.specs.Verdicts.{Precedes, IsVerdict, IsAcceptance}
 use Rattle.code_model.specs.Dangers.{DangersGuarded}
-use Rattle.checker_laws.proofs.Refusing.{refuses_below}
-use Rattle.checker_laws.proofs.DangerLemmas.{accepted_guarded}
+use Rattle.code_laws.proofs.Refusing.{refuses_below}
+use Rattle.code_laws.proofs.DangerLemmas.{accepted_guarded}
 use Rattle.static_checker.specs.declared.units.Places.{Places}
 use Rattle.static_checker.specs.declared.verdict.Refusal.{Refusal}
 use Rattle.static_checker.specs.Places.{ArePlaces}

@@ -3,10 +3,10 @@ use Rattle.std.proofs.Common.{◌≡◌, ◌≢◌, ◌↔◌, ℕ, ◌+◌, ◌
 use Rattle.std.proofs.Math.Nat.{eq-or-lt_of_le}
 use Rattle.std.proofs.lemmas.Bool.{cases_order}
 use Rattle.std.proofs.lemmas.Option.{slice_get-get_or, slice_get_within, get_or_from_slice_get}
-use Rattle.object_form.specs.declared.object.Object.{Object}
-use Rattle.object_form.specs.declared.parts.Export.{Export}
-use Rattle.object_form.specs.Bitmap.{Has}
-use Rattle.object_form.specs.Form.{IsInCode}
+use Rattle.code_model.specs.declared.object.Object.{Object}
+use Rattle.code_model.specs.declared.parts.Export.{Export}
+use Rattle.kernel_model.specs.Bitmap.{Has}
+use Rattle.code_model.specs.Form.{IsInCode}
 use Rattle.code_model.specs.Guards.{UnitStart, AreUnits}
 use Rattle.code_model.specs.Rules.{IsExported, IsNamed}
 use Rattle.static_checker.specs.Marked.{Adds}

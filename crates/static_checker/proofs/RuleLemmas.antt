@@ -3,14 +3,14 @@ use Rattle.std.proofs.Common.{◌≡◌, ◌↔◌, ℕ, ◌+◌, ◌≤◌, ◌
 use Rattle.std.proofs.Math.Nat.{eq-or-lt_of_le}
 use Rattle.std.proofs.lemmas.Bool.{cases_lt}
 use Rattle.msp_encode.specs.declared.instr.Instr.{Instr}
-use Rattle.object_form.specs.declared.object.Object.{Object}
+use Rattle.code_model.specs.declared.object.Object.{Object}
 use Rattle.code_model.specs.declared.rules.Rule.{Rule}
 use Rattle.code_model.specs.declared.rules.Rule.TheVariants as rule
 use Rattle.code_model.specs.Starts.{NoneStands, Start}
 use Rattle.code_model.specs.Guards.{Own, Covered, Covers, CoversBy}
 use Rattle.code_model.specs.Rules.{number, Breaks, BreaksAt, Refuses}
 use Rattle.code_model.specs.Verdicts.{AllSpelled}
-use Rattle.checker_laws.proofs.Numbers.{same_rule}
+use Rattle.code_laws.proofs.Numbers.{same_rule}
 use Rattle.static_checker.specs.declared.spot.Spot.{Spot}
 use Rattle.static_checker.specs.Spots.{IsSpot, IsStartSpot}
 use Rattle.static_checker.specs.Refusals.{IsSpotAt, IsFirstRule}

@@ -3,9 +3,9 @@ use Rattle.std.proofs.Common.{◌≡◌, ◌≢◌, ◌↔◌, IsTrue, Bool, fal
 use Rattle.std.proofs.Math.Nat.{eq-or-lt_of_le}
 use Rattle.std.proofs.lemmas.Bool.{cases_order, cases_lt}
 use Rattle.std.proofs.lemmas.Option.{slice_get-get_or, slice_get_within, get_or_from_slice_get}
-use Rattle.object_form.specs.declared.parts.Reloc.{Reloc}
-use Rattle.object_form.specs.declared.parts.RelKind.{RelKind}
-use Rattle.object_form.specs.Form.{InOrder, key}
+use Rattle.code_model.specs.declared.parts.Reloc.{Reloc}
+use Rattle.code_model.specs.declared.parts.RelKind.{RelKind}
+use Rattle.code_model.specs.Form.{InOrder, key}
 use Rattle.code_model.specs.Relocs.{HasReloc, Unrelocated}
 
 -- what lies below `low` is below the target, and what lies from `high` on isn't

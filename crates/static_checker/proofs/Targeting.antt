@@ -2,14 +2,14 @@
 use Rattle.std.proofs.Common.{◌≡◌, ◌≢◌, ◌↔◌, ℕ, ◌+◌, ◌/◌, ◌%◌, ◌≤◌, ◌<◌, List, arith, sym, subst, ℤ, pos, ◌+ℤ◌, Bool, true, false, not, IsTrue, refl, ◌∙◌, ◌-◌, drop, w16, to_z, of_z, SFits}
 use Rattle.std.proofs.lemmas.Int.{to_z-of_z}
 use Rattle.msp_encode.specs.declared.instr.Instr.{Instr}
-use Rattle.object_form.specs.declared.object.Object.{Object}
-use Rattle.object_form.specs.declared.parts.RelKind.{RelKind}
-use Rattle.object_form.specs.Bitmap.{Has}
+use Rattle.code_model.specs.declared.object.Object.{Object}
+use Rattle.code_model.specs.declared.parts.RelKind.{RelKind}
+use Rattle.kernel_model.specs.Bitmap.{Has}
 use Rattle.code_model.specs.Starts.{Start}
 use Rattle.code_model.specs.Relocs.{HasReloc, Unrelocated}
 use Rattle.code_model.specs.Guards.{UnitStart, AreUnits}
 use Rattle.code_model.specs.Rules.{IsUnitOffset, IsJumpTarget, IsRightWord, HasWrongReloc, CarriesFrom, Carries}
-use Rattle.checker_laws.proofs.Standing.{same_instr}
+use Rattle.code_laws.proofs.Standing.{same_instr}
 use Rattle.static_checker.proofs.Guarding.{not_true}
 use Rattle.static_checker.proofs.Search.{none_has}
 use Rattle.static_checker.specs.declared.spot.Spot.{Spot}

@@ -1,10 +1,10 @@
 -- The walk over the starts.
 use Rattle.std.proofs.Common.{◌≡◌, ◌≢◌, ◌↔◌, ℕ, suc, ◌+◌, ◌≤◌, ◌<◌, List, ◌⊎◌, inl, inr, length, sym, subst, refl, arith}
 use Rattle.std.proofs.lemmas.Bool.{cases_order}
-use Rattle.object_form.specs.declared.object.Object.{Object}
-use Rattle.object_form.specs.Bitmap.{Has}
+use Rattle.code_model.specs.declared.object.Object.{Object}
+use Rattle.kernel_model.specs.Bitmap.{Has}
 use Rattle.code_model.specs.Starts.{NoneStands, Reached, Start, IsSpelled, Bad}
-use Rattle.checker_laws.proofs.Starting.{starts_apart}
+use Rattle.code_laws.proofs.Starting.{starts_apart}
 use Rattle.static_checker.specs.declared.spot.Spot.{Spot}
 use Rattle.static_checker.specs.Spots.{IsSpot, AreAllStarts}
 

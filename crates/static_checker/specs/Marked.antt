@@ -1,7 +1,7 @@
 -- Sets of places as marks.
 use Rattle.std.specs.Prelude.{ℕ, ◌≤◌, ◌<◌, ◌↔◌, ◌⊎◌, List}
-use Rattle.object_form.specs.declared.object.Object.{Object}
-use Rattle.object_form.specs.Bitmap.{Has}
+use Rattle.code_model.specs.declared.object.Object.{Object}
+use Rattle.kernel_model.specs.Bitmap.{Has}
 use Rattle.code_model.specs.Guards.{Covers, Covered}
 
 -- the new marks are the old and those that the fact holds of

@@ -1,9 +1,9 @@
 -- The places of an object as marks.
 use Rattle.std.specs.Prelude.{◌≡◌, ℕ, ◌*◌, ◌<◌, ◌↔◌, List, length, slice_index_or}
-use Rattle.object_form.specs.declared.object.Object.{Object}
-use Rattle.object_form.specs.declared.parts.Export.{Export}
-use Rattle.object_form.specs.declared.parts.Kind.TheVariants.{App}
-use Rattle.object_form.specs.Bitmap.{Has}
+use Rattle.code_model.specs.declared.object.Object.{Object}
+use Rattle.code_model.specs.declared.parts.Export.{Export}
+use Rattle.kernel_model.specs.declared.kinds.Kind.TheVariants.{App}
+use Rattle.kernel_model.specs.Bitmap.{Has}
 use Rattle.code_model.specs.Guards.{AreUnits}
 use Rattle.code_model.specs.Rules.{IsNamed}
 use Rattle.static_checker.specs.declared.units.Places.{Places}

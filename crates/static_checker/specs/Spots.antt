@@ -1,9 +1,9 @@
 -- Instructions at places.
 use Rattle.std.specs.Prelude.{◌≡◌, ℕ, ◌+◌, ◌≤◌, List, length}
-use Rattle.object_form.specs.declared.object.Object.{Object}
+use Rattle.code_model.specs.declared.object.Object.{Object}
 use Rattle.code_model.specs.declared.guards.Slot.{Slot}
 use Rattle.code_model.specs.Starts.{Stands, Start, AreStarts}
-use Rattle.object_form.specs.declared.parts.RelKind.{RelKind}
+use Rattle.code_model.specs.declared.parts.RelKind.{RelKind}
 use Rattle.code_model.specs.Guards.{FitAll}
 use Rattle.code_model.specs.Rules.{CarriesFrom}
 use Rattle.code_model.specs.Verdicts.{AllSpelled}

@@ -1,7 +1,7 @@
 //! The covered places: the words of each guard behind its first, up to the first word of the instruction that it guards.
 
 ghost use Rattle.std.specs.Prelude.{◌≡◌, ℕ, ◌<◌, ◌≤◌, ◌↔◌, ◌⊎◌, length};
-ghost use Rattle.object_form.specs.Bitmap.{Has};
+ghost use Rattle.kernel_model.specs.Bitmap.{Has};
 ghost use Rattle.code_model.specs.Starts.{AreStarts};
 ghost use Rattle.code_model.specs.Guards.{CoversBy, Covers, Covered};
 ghost use Rattle.static_checker.specs.Spots.{IsStartSpot, AreAllStarts};
@@ -12,8 +12,8 @@ use crate::marking::{is_marked, mark};
 use crate::slots::slots;
 use crate::spot::{Spot, spot_at};
 use code_model::guards::GuardKind;
-use object_form::marks::Marks;
-use object_form::object::Object;
+use code_model::marks::Marks;
+use code_model::object::Object;
 
 /// The covered places.
 pub fn covered(o: &Object, starts: &Marks) -> Marks

@@ -14,9 +14,9 @@ use crate::relocs::unrelocated;
 use crate::slots::{fit_all, slots};
 use crate::spot::Spot;
 use code_model::guards::{GuardKind, Slot};
+use code_model::marks::Marks;
+use code_model::object::Object;
 use msp_encode::instr::{Dst, Instr};
-use object_form::marks::Marks;
-use object_form::object::Object;
 
 /// Tells whether a guard of this kind stands before the instruction that starts at a spot.
 pub fn is_guarded(o: &Object, starts: &Marks, spot: &Spot, kind: GuardKind) -> bool

@@ -2,7 +2,7 @@
 //!
 //! It stands on the decoder (`msp_decode`), on objects (`object_form`) and on the definitions of `code_model`, which say what
 //! starts, guards, unit starts, the fourteen rules and the verdict are. The layers above call `check`: its answer is the
-//! verdict, no other answer is, and in an accepted object each dangerous instruction is guarded. `checker_laws` has what
+//! verdict, no other answer is, and in an accepted object each dangerous instruction is guarded. `code_laws` has what
 //! follows for accepted objects.
 //!
 //! The checker goes by place. It finds the starts, what guards cover, the unit starts and the named places once, each as
@@ -31,8 +31,8 @@ mod targets;
 mod units;
 mod verdict;
 
+pub use code_model::marks::Marks;
 pub use code_model::verdict::Verdict;
-pub use object_form::marks::Marks;
 pub use verdict::check;
 
 #[cfg(test)]

@@ -9,10 +9,10 @@ use crate::forms::src_size;
 use crate::marking::is_marked;
 use crate::relocs::reloc_at;
 use crate::spot::spot_at;
+use code_model::marks::Marks;
+use code_model::object::Object;
+use code_model::parts::RelKind;
 use msp_encode::instr::{Dst, Instr, Src};
-use object_form::marks::Marks;
-use object_form::object::Object;
-use object_form::parts::RelKind;
 
 /// Tells whether the word at a place has a relocation that it may not have.
 pub(crate) fn has_wrong_reloc(o: &Object, starts: &Marks, at: usize) -> bool

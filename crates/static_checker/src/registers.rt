@@ -14,9 +14,9 @@ use crate::guards::is_guarded;
 use crate::relocs::unrelocated;
 use crate::spot::Spot;
 use code_model::guards::GuardKind;
+use code_model::marks::Marks;
+use code_model::object::Object;
 use msp_encode::instr::{Instr, Src};
-use object_form::marks::Marks;
-use object_form::object::Object;
 
 /// Tells whether PC is written by another instruction than `MOV #imm,PC`.
 pub fn breaks_pc(i: Instr) -> bool

@@ -1,14 +1,14 @@
 //! The relocations of code words, found by a binary search.
 
 ghost use Rattle.std.specs.Prelude.{◌≡◌, ◌≢◌, ℕ, ◌*◌, ◌<◌, ◌≤◌, ◌↔◌, length, slice_index_or, IsTrue, true, MatchOption};
-ghost use Rattle.object_form.specs.declared.parts.Reloc.{Reloc};
-ghost use Rattle.object_form.specs.declared.parts.RelKind.{RelKind};
-ghost use Rattle.object_form.specs.Form.{InOrder, key};
+ghost use Rattle.code_model.specs.declared.parts.Reloc.{Reloc};
+ghost use Rattle.code_model.specs.declared.parts.RelKind.{RelKind};
+ghost use Rattle.code_model.specs.Form.{InOrder, key};
 ghost use Rattle.code_model.specs.Relocs.{HasReloc, Unrelocated};
 
-use object_form::lists::Relocs;
-use object_form::object::Object;
-use object_form::parts::{RelKind, Reloc};
+use code_model::lists::Relocs;
+use code_model::object::Object;
+use code_model::parts::{RelKind, Reloc};
 
 /// Tells whether the code word at a place has a relocation of this kind.
 #[tactic(auto, using(crate::proofs::Search::reloc_rules))]

@@ -16,8 +16,8 @@ use crate::spot::{Spot, spot_at};
 use crate::stores::{breaks_store, writes_wild};
 use crate::targets::{goes_astray, jumps_astray, runs_off};
 use crate::units::Places;
+use code_model::object::Object;
 use code_model::rules::Rule;
-use object_form::object::Object;
 
 /// How many rules there are.
 const RULES: u8 = 14;

@@ -6,8 +6,8 @@ ghost use Rattle.code_model.specs.Guards.{IsLoad, Takes, Fits, FitAll, guard_wor
 use crate::relocs::{has_reloc, unrelocated};
 use crate::spot::word_at;
 use code_model::guards::{GuardKind, Slot};
-use object_form::object::Object;
-use object_form::parts::RelKind;
+use code_model::object::Object;
+use code_model::parts::RelKind;
 
 /// `MOV SR,R5`.
 const SAVES: Slot = Slot::Word(0x4205);

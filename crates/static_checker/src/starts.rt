@@ -7,8 +7,8 @@ ghost use Rattle.static_checker.specs.Spots.{AreAllStarts};
 
 use crate::marking::mark;
 use crate::spot::spot_at;
-use object_form::marks::Marks;
-use object_form::object::Object;
+use code_model::marks::Marks;
+use code_model::object::Object;
 
 /// The starts, or the place where the walk over them stops before the code's end, since no instruction stands there.
 pub fn starts(o: &Object) -> Result<Marks, usize>

@@ -12,10 +12,10 @@ use crate::guards::is_guarded;
 use crate::relocs::has_reloc;
 use crate::spot::Spot;
 use code_model::guards::GuardKind;
+use code_model::marks::Marks;
+use code_model::object::Object;
+use code_model::parts::RelKind;
 use msp_encode::instr::{Dst, Instr, Src};
-use object_form::marks::Marks;
-use object_form::object::Object;
-use object_form::parts::RelKind;
 
 /// Tells whether memory is written through an indexed, symbolic or indirect operand without a guard.
 pub fn breaks_store(o: &Object, starts: &Marks, spot: &Spot) -> bool

@@ -1,7 +1,7 @@
 //! The rules on where code goes: targets of branches, calls and jumps, and the code's end.
 
 ghost use Rattle.std.specs.Prelude.{◌≡◌, ℕ, ◌+◌, ◌*◌, ◌<◌, ◌≤◌, ◌↔◌, IsTrue, length};
-ghost use Rattle.object_form.specs.declared.parts.RelKind.TheVariants.{Code};
+ghost use Rattle.code_model.specs.declared.parts.RelKind.TheVariants.{Code};
 ghost use Rattle.code_model.specs.Relocs.{HasReloc};
 ghost use Rattle.code_model.specs.Guards.{UnitStart, AreUnits};
 ghost use Rattle.code_model.specs.Rules.{IsJumpEntry, IsCallEntry, IsUnitOffset, IsBranchTarget, IsCallTarget, GoesAstray, IsJumpTarget, JumpsAstray, RunsOff};
@@ -10,10 +10,10 @@ use crate::forms::{is_call, is_jmp};
 use crate::marking::{is_marked, jump_place};
 use crate::registers::is_branch;
 use crate::relocs::{has_reloc, unrelocated};
+use code_model::marks::Marks;
+use code_model::object::Object;
+use code_model::parts::{Kind, RelKind};
 use msp_encode::instr::{Instr, Src};
-use object_form::marks::Marks;
-use object_form::object::Object;
-use object_form::parts::{Kind, RelKind};
 
 /// Tells whether an instruction at a place is a branch or a call without an allowed target.
 pub fn goes_astray(o: &Object, units: &Marks, at: usize, i: Instr) -> bool

@@ -1,9 +1,9 @@
 //! The places of an object's code: starts, covered places, unit starts, and those that are named from outside.
 
 ghost use Rattle.std.specs.Prelude.{◌≡◌, ℕ, ◌+◌, ◌*◌, ◌<◌, ◌↔◌, length, IsTrue, MatchResult};
-ghost use Rattle.object_form.specs.Bitmap.{Has};
-ghost use Rattle.object_form.specs.declared.parts.Export.{Export};
-ghost use Rattle.object_form.specs.declared.parts.Kind.TheVariants.{App};
+ghost use Rattle.kernel_model.specs.Bitmap.{Has};
+ghost use Rattle.code_model.specs.declared.parts.Export.{Export};
+ghost use Rattle.kernel_model.specs.declared.kinds.Kind.TheVariants.{App};
 ghost use Rattle.code_model.specs.Starts.{AreStarts, Bad};
 ghost use Rattle.code_model.specs.Guards.{UnitStart, AreUnits};
 ghost use Rattle.static_checker.specs.Marked.{Adds, AreCovered};
@@ -12,9 +12,9 @@ ghost use Rattle.static_checker.specs.Places.{ArePlaces, IsEntry, AreNamed, Expo
 use crate::covering::covered;
 use crate::marking::{is_marked, mark};
 use crate::starts::starts;
-use object_form::marks::Marks;
-use object_form::object::Object;
-use object_form::parts::Kind;
+use code_model::marks::Marks;
+use code_model::object::Object;
+use code_model::parts::Kind;
 
 /// The places of an object's code, found once.
 #[derive(Drop)]

@@ -12,9 +12,9 @@ ghost use Rattle.static_checker.specs.Refusals.{IsFirstRefusal};
 use crate::marking::offset;
 use crate::rules::{first_rule, rule_number};
 use crate::units::{Places, find_places};
+use code_model::object::Object;
 use code_model::rules::Rule;
 use code_model::verdict::Verdict;
-use object_form::object::Object;
 
 /// The verdict on an object: accepted, with the marks of its unit starts, or refused by a rule, 1 to 14, at an offset in
 /// bytes, the least place and there the least rule. Where the walk over the instructions stops before the code's end, that

@@ -6,8 +6,8 @@ use Rattle.kernel_model.specs.Kernel.{Kernel, thread_at, app_at, free_mutex, emp
 use Rattle.kernel_model.specs.Words.{running, app_of, none_running}
 use Rattle.kernel_model.specs.Orderly.{Spot, spot, of_four, listed, IsOrderly}
 use Rattle.kernel_model.specs.Orderly.Spot.{Nowhere, Ready, Runs, Asleep, OnMutex, OnCondition, OnLine, Calls}
-use Rattle.thread_model.specs.declared.ends.AppEnd.{AppEnd}
-use Rattle.thread_model.specs.Ending.{is_of, others, end_state, threads_ended, waits_ended, ended}
+use Rattle.kernel_model.specs.declared.ends.AppEnd.{AppEnd}
+use Rattle.kernel_model.specs.Ending.{is_of, others, end_state, threads_ended, waits_ended, ended}
 use Rattle.thread_laws.proofs.Filtered.{filter_whole, filter_nothing}
 use Rattle.thread_laws.proofs.FourRows.{four}
 

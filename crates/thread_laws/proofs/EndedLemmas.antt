@@ -12,8 +12,8 @@ use Rattle.place_model.specs.declared.places.Pool.TheVariants.{Code, Data}
 use Rattle.place_model.specs.declared.places.DomainRow.{DomainRow}
 use Rattle.place_model.specs.Placing.{app_domain, module_domain, domain_at, pool_range, range_in}
 use Rattle.place_model.specs.Settled.{IsInPool, AreApart, IsAppPlace, IsInUse, IsSettledKernel}
-use Rattle.thread_model.specs.declared.ends.AppEnd.{AppEnd}
-use Rattle.thread_model.specs.Ending.{is_of, others, end_state}
+use Rattle.kernel_model.specs.declared.ends.AppEnd.{AppEnd}
+use Rattle.kernel_model.specs.Ending.{is_of, others, end_state}
 use Rattle.thread_laws.specs.Laws.{EndedLaw}
 use Rattle.thread_laws.proofs.LostThreads.{orderly_lost}
 use Rattle.thread_laws.proofs.EndedKernel.{stopped, ended_is}

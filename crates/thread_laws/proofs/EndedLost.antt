@@ -7,8 +7,8 @@ use Rattle.kernel_model.specs.Words.{none, running, running_module, app_of, iden
 use Rattle.kernel_model.specs.Orderly.{Spot, only, runner, caller_of, listed, HasShape, IsOrderly}
 use Rattle.kernel_model.specs.Orderly.Spot.{Nowhere, Ready, Runs, Asleep, OnMutex, OnCondition, OnLine, Calls}
 use Rattle.kernel_model.specs.declared.rows.MutexRow.{MutexRow}
-use Rattle.thread_model.specs.declared.ends.AppEnd.{AppEnd}
-use Rattle.thread_model.specs.Ending.{is_of, others, end_state}
+use Rattle.kernel_model.specs.declared.ends.AppEnd.{AppEnd}
+use Rattle.kernel_model.specs.Ending.{is_of, others, end_state}
 use Rattle.thread_laws.proofs.FourRows.{four_length, four_in, four_out}
 use Rattle.thread_laws.proofs.LostThreads.{HasLost, MutexStays}
 use Rattle.thread_laws.proofs.EndedKernel.{stopped, is_of_other, on_mutex_of, on_condition_of, waiters_kept}

@@ -8,9 +8,9 @@ use Rattle.kernel_model.specs.Words.{none, live, free, running, running_module, 
 use Rattle.kernel_model.specs.Orderly.{Spot, spot, spot_of, only, listed, IsOrderly}
 use Rattle.kernel_model.specs.Orderly.Spot.{Nowhere, Ready, Runs, Asleep, OnMutex, OnCondition, OnLine, Calls}
 use Rattle.place_model.specs.Settled.{IsSettledKernel}
-use Rattle.thread_model.specs.declared.ends.AppEnd.TheVariants.{Done}
-use Rattle.thread_model.specs.Running.{ThreadRuns}
-use Rattle.thread_model.specs.Ending.{ended, is_last, exited, OwnsNone}
+use Rattle.kernel_model.specs.declared.ends.AppEnd.TheVariants.{Done}
+use Rattle.kernel_model.specs.Running.{ThreadRuns}
+use Rattle.kernel_model.specs.Ending.{ended, is_last, exited, OwnsNone}
 use Rattle.thread_laws.specs.Laws.{ExitedLaw}
 use Rattle.thread_laws.proofs.Filtered.{filter_whole}
 use Rattle.thread_laws.proofs.LostThreads.{HasLost, orderly_lost}

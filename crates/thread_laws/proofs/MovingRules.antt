@@ -6,7 +6,7 @@ use Rattle.kernel_model.specs.Words.{free, running_state, on_condition, running,
 use Rattle.kernel_model.specs.Orderly.{IsThreadRow, IsLiveThread, IsOrderly}
 use Rattle.kernel_model.specs.declared.rows.SysWord.TheVariants.{CurLim, CurTop}
 use Rattle.kernel_model.specs.declared.rows.ThreadRow.{ThreadRow}
-use Rattle.thread_model.specs.Running.{ThreadRuns}
+use Rattle.kernel_model.specs.Running.{ThreadRuns}
 use Rattle.thread_laws.specs.Facts.{IsRunning}
 use Rattle.thread_laws.specs.Laws.{SavedLaw, PriorityLaw}
 use Rattle.thread_laws.proofs.Spots.{running_is}

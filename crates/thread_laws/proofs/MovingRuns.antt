@@ -4,7 +4,7 @@ use Rattle.kernel_model.specs.Kernel.{Kernel, thread_at}
 use Rattle.kernel_model.specs.Words.{none, running_state, running, running_module, with_running, none_running}
 use Rattle.kernel_model.specs.Orderly.{listed, runner, caller_of, IsOrderly}
 use Rattle.kernel_model.specs.Orderly.Spot.{Nowhere, Ready, Runs, Asleep, OnMutex, OnCondition, OnLine, Calls}
-use Rattle.thread_model.specs.Running.{ThreadRuns, NoneRuns}
+use Rattle.kernel_model.specs.Running.{ThreadRuns, NoneRuns}
 use Rattle.thread_laws.proofs.ListEdits.{single_is, single_has, single_once, none_in}
 use Rattle.thread_laws.proofs.Spots.{spot_runs, running_listed}
 use Rattle.thread_laws.proofs.Moving.{HasOrder, IsOrderlyBut, SameBut, order_of, orderly_from, left_spot, came_to_spot}

@@ -9,8 +9,8 @@ use Rattle.kernel_model.specs.Orderly.{Spot, spot_of, listed, IsThreadRow, IsLiv
 use Rattle.kernel_model.specs.Orderly.Spot.{Nowhere}
 use Rattle.kernel_model.specs.declared.rows.ThreadRow.{ThreadRow}
 use Rattle.place_model.specs.Settled.{IsSettledKernel}
-use Rattle.thread_model.specs.Running.{NoneRuns, new_context}
-use Rattle.thread_model.specs.Dispatching.{chosen_place, nothing_ready}
+use Rattle.kernel_model.specs.Running.{NoneRuns, new_context}
+use Rattle.kernel_model.specs.Dispatching.{chosen_place, nothing_ready}
 use Rattle.thread_laws.specs.Facts.{IsRunning, IsReady}
 use Rattle.thread_laws.specs.Laws.{FrontLaw, EndLaw, DispatchedLaw, BegunLaw}
 use Rattle.thread_laws.proofs.ListEdits.{none_in}

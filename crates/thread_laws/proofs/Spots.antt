@@ -5,7 +5,7 @@ use Rattle.kernel_model.specs.Kernel.{Kernel, thread_at}
 use Rattle.kernel_model.specs.Words.{none, ready, running_state, asleep, on_mutex, on_condition, on_line, calling, running}
 use Rattle.kernel_model.specs.Orderly.{Spot, spot, spot_of, only, listed, runner, IsOrderly, IsLiveThread}
 use Rattle.kernel_model.specs.Orderly.Spot.{Nowhere, Ready, Runs, Asleep, OnMutex, OnCondition, OnLine, Calls}
-use Rattle.thread_model.specs.Running.{ThreadRuns}
+use Rattle.kernel_model.specs.Running.{ThreadRuns}
 use Rattle.thread_laws.specs.Facts.{IsRunning, IsReady, IsUnlisted}
 
 -- the state of a thread that stands at a spot

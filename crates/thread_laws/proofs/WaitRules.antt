@@ -4,7 +4,7 @@ use Rattle.kernel_model.specs.Kernel.{Kernel, thread_at, with_thread, app_at}
 use Rattle.kernel_model.specs.Words.{free, asleep, on_condition, on_line, running_state, running, app_of, tick_number, wake_time, none_running}
 use Rattle.kernel_model.specs.Orderly.{IsThreadRow, IsLiveThread, IsOrderly}
 use Rattle.kernel_model.specs.declared.rows.ThreadRow.{ThreadRow}
-use Rattle.thread_model.specs.Running.{ThreadRuns}
+use Rattle.kernel_model.specs.Running.{ThreadRuns}
 use Rattle.thread_laws.specs.Facts.{IsRunning}
 use Rattle.thread_laws.specs.Waits.{SleptLaw, WaitingLineLaw}
 use Rattle.thread_laws.proofs.Spots.{running_is}

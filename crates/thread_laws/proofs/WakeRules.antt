@@ -12,7 +12,7 @@ use Rattle.kernel_model.specs.Orderly.Spot.{Asleep, OnLine}
 use Rattle.kernel_model.specs.Queues.{to_ready_end}
 use Rattle.kernel_model.specs.declared.rows.ThreadRow.{ThreadRow}
 use Rattle.place_model.specs.Settled.{IsSettledKernel}
-use Rattle.thread_model.specs.Waking.{each_to_end, ticked, woken_line}
+use Rattle.kernel_model.specs.Waking.{each_to_end, ticked, woken_line}
 use Rattle.thread_laws.specs.Waits.{TickedLaw, WokenLineLaw}
 use Rattle.thread_laws.proofs.Spots.{state_in, state_at}
 use Rattle.thread_laws.proofs.Moving.{IsOrderlyBut}

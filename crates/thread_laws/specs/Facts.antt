@@ -3,7 +3,7 @@ use Rattle.std.specs.Prelude.{◌≡◌, ℕ, ◌<◌, ◌≤◌, length, Contai
 use Rattle.kernel_model.specs.Kernel.{Kernel, thread_at, app_at}
 use Rattle.kernel_model.specs.Words.{live, ready, running_state, running, app_of, number_of, priority_of}
 use Rattle.kernel_model.specs.Orderly.{IsOrderly}
-use Rattle.thread_model.specs.Running.{ThreadRuns}
+use Rattle.kernel_model.specs.Running.{ThreadRuns}
 
 -- the running thread: its row says so, it is in neither queue, and it is one of a live application's
 pub record IsRunning (k : Kernel) (t : ℕ) : Type 0 where

@@ -3,12 +3,12 @@ use Rattle.std.specs.Prelude.{◌≡◌, ℕ, ◌<◌, ◌≤◌, List, length, 
 use Rattle.kernel_model.specs.Kernel.{Kernel, app_at}
 use Rattle.kernel_model.specs.Words.{none, live, running_module}
 use Rattle.place_model.specs.Settled.{IsSettledKernel}
-use Rattle.thread_model.specs.declared.ends.AppEnd.{AppEnd}
-use Rattle.thread_model.specs.Running.{ThreadRuns, NoneRuns}
-use Rattle.thread_model.specs.Starting.{begun, MayBegin}
-use Rattle.thread_model.specs.Dispatching.{saved, moved_to_front, moved_to_end, dispatched}
-use Rattle.thread_model.specs.Entries.{with_priority}
-use Rattle.thread_model.specs.Ending.{ended, exited, OwnsNone}
+use Rattle.kernel_model.specs.declared.ends.AppEnd.{AppEnd}
+use Rattle.kernel_model.specs.Running.{ThreadRuns, NoneRuns}
+use Rattle.kernel_model.specs.Starting.{begun, MayBegin}
+use Rattle.kernel_model.specs.Dispatching.{saved, moved_to_front, moved_to_end, dispatched}
+use Rattle.kernel_model.specs.Entries.{with_priority}
+use Rattle.kernel_model.specs.Ending.{ended, exited, OwnsNone}
 
 abbrev pub SavedLaw : Type 0
 SavedLaw = (k : Kernel) (r : List ℕ) → IsSettledKernel k → ThreadRuns k → length r ≡ 16 → IsSettledKernel (saved k r)

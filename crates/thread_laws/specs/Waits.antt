@@ -2,8 +2,8 @@
 use Rattle.std.specs.Prelude.{◌≢◌, ℕ, ◌<◌, List, slice_index}
 use Rattle.kernel_model.specs.Kernel.{Kernel}
 use Rattle.place_model.specs.Settled.{IsSettledKernel}
-use Rattle.thread_model.specs.Running.{ThreadRuns}
-use Rattle.thread_model.specs.Waking.{slept, ticked, waiting_line, woken_line}
+use Rattle.kernel_model.specs.Running.{ThreadRuns}
+use Rattle.kernel_model.specs.Waking.{slept, ticked, waiting_line, woken_line}
 
 abbrev pub SleptLaw : Type 0
 SleptLaw = (k : Kernel) (r : List ℕ) → IsSettledKernel k → ThreadRuns k → slice_index r 12 ≢ 0 → IsSettledKernel (slept k r)

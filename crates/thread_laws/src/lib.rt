@@ -1,4 +1,4 @@
-//! What the kernel's calls on threads do keeps it orderly, and its domains apart: laws of the definitions of `thread_model`, for the
+//! What the kernel's calls on threads do keeps it orderly, and its domains apart: laws of the definitions of `kernel_model`, for the
 //! layers above. Each is used by calling it.
 #![tactic(auto)]
 

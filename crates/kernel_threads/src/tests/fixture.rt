@@ -5,11 +5,12 @@ ghost use Rattle.kernel_model.specs.Kernel.{line_at};
 ghost use Rattle.kernel_model.specs.Layout.{kernel_of};
 ghost use Rattle.kernel_model.specs.Words.{identity};
 ghost use Rattle.place_model.specs.Settled.{IsSettled};
-ghost use Rattle.thread_model.specs.Ending.{OwnsNone};
-ghost use Rattle.thread_model.specs.Running.{DomainRuns, NoneRuns, ThreadRuns};
-ghost use Rattle.thread_model.specs.Starting.{MayBegin};
+ghost use Rattle.kernel_model.specs.Ending.{OwnsNone};
+ghost use Rattle.kernel_model.specs.Running.{DomainRuns, NoneRuns, ThreadRuns};
+ghost use Rattle.kernel_model.specs.Starting.{MayBegin};
 
 use crate::*;
+use code_model::marks::Marks;
 use flat_mem::FlatMem;
 use kernel_model::laws::empty_is_orderly;
 use kernel_tables::laws::orderly_queues_hold;
@@ -17,7 +18,6 @@ use kernel_tables::{
     AppRow, SysWord, app, clear, get, line, mutex, ready, set_app, set_register, thread,
 };
 use msp_machine::Regs;
-use object_form::marks::Marks;
 use region_table::{Regions, set_marks};
 use std::alloc::{AllocError, Global};
 

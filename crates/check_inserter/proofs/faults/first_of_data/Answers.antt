@@ -1,5 +1,5 @@
 use Rattle.std.proofs.Common.{List, subst}
-use Rattle.object_form.specs.declared.parts.Reloc.{Reloc}
+use Rattle.code_model.specs.declared.parts.Reloc.{Reloc}
 use Rattle.check_inserter.specs.Found.{IsLeast}
 use Rattle.check_inserter.proofs.Faulty.{DataHit, no_data, data_step, data_end}
 use Rattle.check_inserter.proofs.faults.first_of_data.Goals as goal

@@ -1,5 +1,5 @@
 use Rattle.std.proofs.Common.{List, subst}
-use Rattle.object_form.specs.declared.parts.Export.{Export}
+use Rattle.code_model.specs.declared.parts.Export.{Export}
 use Rattle.check_inserter.specs.Found.{IsLeast}
 use Rattle.check_inserter.proofs.Faulty.{ExportsHit, no_exports, exports_step, exports_end}
 use Rattle.check_inserter.proofs.faults.first_of_exports.Goals as goal

@@ -1,5 +1,5 @@
 use Rattle.std.proofs.Common.{◌≡◌, take, fold}
-use Rattle.object_form.specs.Spelling.{fields}
+use Rattle.code_model.specs.Fields.{fields}
 use Rattle.insert_model.specs.Inserted.{place_map, moved_data}
 use Rattle.check_inserter.proofs.moving.moved_bytes.Given as goal
 

@@ -1,5 +1,5 @@
 use Rattle.std.proofs.Common.{◌≡◌, map, take}
-use Rattle.object_form.specs.Spelling.{fields}
+use Rattle.code_model.specs.Fields.{fields}
 use Rattle.insert_model.specs.Inserted.{place_map, moved_export}
 use Rattle.check_inserter.proofs.moving.moved_exports.Given as goal
 

@@ -1,5 +1,5 @@
 use Rattle.std.proofs.Common.{◌≡◌, ◌<◌, ℕ, map, take, slice_index}
-use Rattle.object_form.specs.Spelling.{fields}
+use Rattle.code_model.specs.Fields.{fields}
 use Rattle.insert_model.specs.Inserted.{place_map, moved}
 use Rattle.check_inserter.proofs.moving.moved_words.Given as goal
 

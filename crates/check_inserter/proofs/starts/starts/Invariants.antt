@@ -1,5 +1,5 @@
 use Rattle.std.proofs.Common.{◌↔◌, ℕ, take}
-use Rattle.object_form.specs.Bitmap.{Has}
+use Rattle.kernel_model.specs.Bitmap.{Has}
 use Rattle.check_inserter.specs.Read.{StartsIn}
 use Rattle.check_inserter.proofs.starts.starts.Given as goal
 

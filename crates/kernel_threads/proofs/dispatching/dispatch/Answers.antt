@@ -1,5 +1,5 @@
 use Rattle.kernel_model.specs.Layout.{kernel_of}
-use Rattle.thread_model.specs.Dispatching.{dispatched}
+use Rattle.kernel_model.specs.Dispatching.{dispatched}
 use Rattle.kernel_threads.proofs.ChoiceLemmas.{dispatched_leaves}
 use Rattle.kernel_threads.proofs.ChainLemmas.{settled_by}
 use Rattle.kernel_threads.proofs.dispatching.dispatch.Goals as goal

@@ -1,6 +1,6 @@
 use Rattle.std.proofs.Common.{rules}
 use Rattle.kernel_model.specs.Layout.{kernel_of}
-use Rattle.thread_model.specs.Dispatching.{moved_to_end}
+use Rattle.kernel_model.specs.Dispatching.{moved_to_end}
 use Rattle.kernel_threads.proofs.ChainLemmas.{settled_by}
 use Rattle.kernel_threads.proofs.dispatching.to_end.Goals as goal
 

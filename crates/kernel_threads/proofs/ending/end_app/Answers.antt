@@ -1,6 +1,6 @@
 use Rattle.std.proofs.Common.{sym}
 use Rattle.kernel_model.specs.Layout.{kernel_of}
-use Rattle.thread_model.specs.Ending.{ended}
+use Rattle.kernel_model.specs.Ending.{ended}
 use Rattle.kernel_threads.proofs.ChainLemmas.{settled_by}
 use Rattle.kernel_threads.proofs.EndingLemmas.{end_left, ended_running, ended_elsewhere, line_identities}
 use Rattle.kernel_threads.proofs.ending.end_app.Goals as goal

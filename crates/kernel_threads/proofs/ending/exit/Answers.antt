@@ -1,5 +1,5 @@
 use Rattle.kernel_model.specs.Layout.{kernel_of}
-use Rattle.thread_model.specs.Ending.{exited}
+use Rattle.kernel_model.specs.Ending.{exited}
 use Rattle.kernel_threads.proofs.ChainLemmas.{settled_by}
 use Rattle.kernel_threads.proofs.ExitLemmas.{exited_last, exited_other}
 use Rattle.kernel_threads.proofs.ending.exit.Goals as goal

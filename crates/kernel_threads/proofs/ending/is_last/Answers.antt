@@ -4,7 +4,7 @@ use Rattle.kernel_model.specs.Kernel.{Kernel, app_at}
 use Rattle.kernel_model.specs.Layout.{kernel_of}
 use Rattle.kernel_model.specs.Words.{app_of, identity}
 use Rattle.kernel_model.specs.declared.rows.AppRow.{AppRow}
-use Rattle.thread_model.specs.Starting.{is_free_thread}
+use Rattle.kernel_model.specs.Starting.{is_free_thread}
 use Rattle.kernel_threads.proofs.RangeLemmas.{all_pass, one_fails}
 use Rattle.kernel_threads.proofs.ending.is_last.Goals as goal
 

@@ -3,7 +3,7 @@ use Rattle.kernel_model.specs.Kernel.{Kernel, app_at}
 use Rattle.kernel_model.specs.Layout.{kernel_of}
 use Rattle.kernel_model.specs.Words.{identity}
 use Rattle.kernel_model.specs.declared.rows.AppRow.{AppRow}
-use Rattle.thread_model.specs.Starting.{is_free_thread}
+use Rattle.kernel_model.specs.Starting.{is_free_thread}
 use Rattle.kernel_threads.proofs.RangeLemmas.{filter_first, filter_none}
 use Rattle.kernel_threads.proofs.entries.free_thread.Goals as goal
 

@@ -1,7 +1,7 @@
 use Rattle.std.proofs.Common.{◌≡◌, ℕ, ◌<◌, false}
 use Rattle.kernel_model.specs.Layout.{kernel_of}
 use Rattle.kernel_model.specs.Words.{identity}
-use Rattle.thread_model.specs.Starting.{is_free_thread}
+use Rattle.kernel_model.specs.Starting.{is_free_thread}
 use Rattle.kernel_threads.proofs.entries.free_thread.Given as goal
 
 abbrev pub invariant-loop-n : goal.invariant-loop-n

@@ -4,7 +4,7 @@ use Rattle.kernel_model.specs.Kernel.{Kernel}
 use Rattle.kernel_model.specs.Words.{running, app_of}
 use Rattle.kernel_model.specs.Layout.{kernel_of}
 use Rattle.kernel_model.specs.Queues.{Leaves}
-use Rattle.thread_model.specs.Starting.{begun, free_threads}
+use Rattle.kernel_model.specs.Starting.{begun, free_threads}
 use Rattle.kernel_threads.specs.Returns.{IsOwnMark}
 use Rattle.kernel_threads.proofs.EntryLemmas.{spawned_by, full_by, begun_as}
 use Rattle.kernel_threads.proofs.entries.spawn.Goals as goal

@@ -1,5 +1,5 @@
 use Rattle.std.proofs.Common.{◌<◌, ◌≤◌, length, map, sym, ap, arith}
-use Rattle.thread_model.specs.Ending.{others}
+use Rattle.kernel_model.specs.Ending.{others}
 use Rattle.kernel_model.specs.Kernel.{Kernel}
 use Rattle.kernel_model.specs.Layout.{kernel_of}
 use Rattle.kernel_threads.specs.Leaving.{with_lines}

@@ -1,5 +1,5 @@
 use Rattle.std.proofs.Common.{◌≡◌, ◌≤◌, length, take}
-use Rattle.thread_model.specs.Ending.{others}
+use Rattle.kernel_model.specs.Ending.{others}
 use Rattle.kernel_threads.proofs.leaving.others.Given as goal
 
 abbrev pub invariant-loop-t : goal.invariant-loop-t

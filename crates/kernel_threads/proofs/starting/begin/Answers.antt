@@ -1,6 +1,6 @@
 use Rattle.std.proofs.Common.{rules}
 use Rattle.kernel_model.specs.Layout.{kernel_of}
-use Rattle.thread_model.specs.Starting.{begun}
+use Rattle.kernel_model.specs.Starting.{begun}
 use Rattle.kernel_threads.proofs.ChainLemmas.{settled_by}
 use Rattle.kernel_threads.proofs.StackLemmas.{beginning_stack}
 use Rattle.kernel_threads.proofs.starting.begin.Goals as goal

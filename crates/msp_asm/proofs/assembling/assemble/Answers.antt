@@ -1,5 +1,5 @@
 use Rattle.std.proofs.Common.{◌∙◌, sym, Ok}
-use Rattle.asm_text.specs.Drafts.{draft_by}
+use Rattle.asm_model.specs.Drafts.{draft_by}
 use Rattle.msp_asm.specs.Given.{output_of}
 use Rattle.msp_asm.proofs.Whole.{first_is, meets_is}
 use Rattle.msp_asm.proofs.assembling.assemble.Goals as goal

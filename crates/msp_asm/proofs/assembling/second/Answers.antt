@@ -1,6 +1,6 @@
 use Rattle.std.proofs.Common.{◌≡◌, ◌+◌, ◌≤◌, arith, ap, sym, length}
-use Rattle.asm_text.specs.SecondPass.{Output, second_pass, known_from}
-use Rattle.asm_text.specs.Sound.{code_total, initialised_total}
+use Rattle.asm_model.specs.SecondPass.{Output, second_pass, known_from}
+use Rattle.asm_model.specs.Sound.{code_total, initialised_total}
 use Rattle.msp_asm.proofs.Sounding.{are_legal}
 use Rattle.msp_asm.proofs.assembling.second.Goals as goal
 

@@ -1,6 +1,6 @@
 use Rattle.std.proofs.Common.{◌≡◌, ◌+◌, ◌≤◌, length, drop}
-use Rattle.asm_text.specs.Sound.{code_total, initialised_total}
-use Rattle.asm_text.specs.SecondPass.{empty_output, known_from, second_pass}
+use Rattle.asm_model.specs.Sound.{code_total, initialised_total}
+use Rattle.asm_model.specs.SecondPass.{empty_output, known_from, second_pass}
 use Rattle.msp_asm.specs.Given.{output_of}
 use Rattle.msp_asm.proofs.Sounding.{AreLegal}
 use Rattle.msp_asm.proofs.assembling.second.Given as goal

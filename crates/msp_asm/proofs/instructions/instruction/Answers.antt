@@ -1,5 +1,5 @@
 use Rattle.std.proofs.Common.{ap, sym, ◌∙◌, ◌∷◌, ◌≡◌, false}
-use Rattle.asm_text.specs.Lines.{is_nil}
+use Rattle.asm_model.specs.Lines.{is_nil}
 use Rattle.msp_asm.proofs.Listing.{many}
 use Rattle.msp_asm.proofs.instructions.instruction.Goals as goal
 

@@ -1,5 +1,5 @@
 use Rattle.std.proofs.Common.{◌≡◌, ◌≤◌, drop}
-use Rattle.asm_text.specs.Numbers.{number_from, capped}
+use Rattle.asm_model.specs.Numbers.{number_from, capped}
 use Rattle.msp_asm.proofs.numbers.size.Given as goal
 
 abbrev pub invariant-loop-i : goal.invariant-loop-i

@@ -1,6 +1,6 @@
 use Rattle.std.proofs.Common.{◌≡◌, is_some}
 use Rattle.std.specs.List.{list_all}
-use Rattle.asm_text.specs.Directives.{datum_of}
+use Rattle.asm_model.specs.Directives.{datum_of}
 use Rattle.msp_asm.specs.Parts.{parts_of}
 use Rattle.msp_asm.proofs.Rests.{parts_left, size_left}
 use Rattle.msp_asm.proofs.static_data.each_formed.Given as goal

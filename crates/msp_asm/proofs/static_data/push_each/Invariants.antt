@@ -1,6 +1,6 @@
 use Rattle.std.proofs.Common.{◌≡◌, ◌++◌, map}
-use Rattle.asm_text.specs.Drafts.{placed}
-use Rattle.asm_text.specs.Directives.{datum_of, datum_piece}
+use Rattle.asm_model.specs.Drafts.{placed}
+use Rattle.asm_model.specs.Directives.{datum_of, datum_piece}
 use Rattle.msp_asm.specs.Parts.{parts_of}
 use Rattle.msp_asm.proofs.Rests.{parts_left, size_left}
 use Rattle.msp_asm.proofs.static_data.push_each.Given as goal

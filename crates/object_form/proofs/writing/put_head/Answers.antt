@@ -1,5 +1,6 @@
 use Rattle.std.proofs.lemmas.Result.{on_ok_weaker}
-use Rattle.object_form.specs.Spelling.{fields, start_bytes, size_bytes, run_bytes}
+use Rattle.object_form.specs.Spelling.{start_bytes, size_bytes, run_bytes}
+use Rattle.code_model.specs.Fields.{fields}
 use Rattle.object_form.proofs.Appending.{joined_three}
 use Rattle.object_form.proofs.writing.put_head.Goals as goal
 

@@ -1,5 +1,5 @@
 use Rattle.std.proofs.Common.{◌≡◌, ℕ, ◌+◌, ◌*◌, [], subst, arith}
-use Rattle.image_model.specs.Domains.{Domain}
+use Rattle.load_model.specs.Domains.{Domain}
 use Rattle.reloc_loader.specs.Loading.{domain_at}
 use Rattle.reloc_loader.specs.Sections.{key_at, IsNext}
 use Rattle.reloc_loader.proofs.Words.{section_more, section_none}

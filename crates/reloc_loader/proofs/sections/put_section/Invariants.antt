@@ -1,7 +1,7 @@
 use Rattle.std.specs.Prelude.{◌≡◌, ◌*◌, []}
 use Rattle.std.specs.List.{flat_map}
 use Rattle.flat_mem.specs.Bytes.{patch, word_bytes}
-use Rattle.image_model.specs.Images.{placed_words}
+use Rattle.load_model.specs.Images.{placed_words}
 use Rattle.reloc_loader.specs.Sections.{key_at, IsNext}
 use Rattle.reloc_loader.specs.Loading.{domain_at}
 use Rattle.reloc_loader.proofs.sections.put_section.Given as goal

@@ -1,6 +1,6 @@
 use Rattle.std.proofs.Common.{◌+◌, ◌*◌, ◌%◌, [], ap, arith}
-use Rattle.image_model.specs.Domains.{Domain}
-use Rattle.image_model.specs.Images.{placed_word}
+use Rattle.load_model.specs.Domains.{Domain}
+use Rattle.load_model.specs.Images.{placed_word}
 use Rattle.reloc_loader.specs.Loading.{domain_at}
 use Rattle.reloc_loader.proofs.Words.{word_placed, word_put}
 use Rattle.reloc_loader.proofs.sections.put_word.Goals as goal

@@ -1,5 +1,5 @@
 use Rattle.std.proofs.Common.{◌↔◌, ℕ}
-use Rattle.object_form.specs.Bitmap.{Has}
+use Rattle.kernel_model.specs.Bitmap.{Has}
 use Rattle.static_checker.specs.Marked.{CoveredBelow}
 use Rattle.static_checker.proofs.covering.covered.Given as goal
 

@@ -1,5 +1,5 @@
 use Rattle.std.proofs.Common.{◌↔◌, ℕ, ◌<◌, ◌+◌, List, sym, subst, arith}
-use Rattle.object_form.specs.Bitmap.{Has}
+use Rattle.kernel_model.specs.Bitmap.{Has}
 use Rattle.code_model.specs.Guards.{UnitStart}
 use Rattle.static_checker.proofs.Guarding.{not_true}
 use Rattle.static_checker.proofs.PlaceLemmas.{grown_add, grown_skip, units_end}

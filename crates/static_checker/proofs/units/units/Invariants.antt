@@ -1,5 +1,5 @@
 use Rattle.std.proofs.Common.{◌↔◌, ℕ, ◌<◌}
-use Rattle.object_form.specs.Bitmap.{Has}
+use Rattle.kernel_model.specs.Bitmap.{Has}
 use Rattle.code_model.specs.Guards.{UnitStart}
 use Rattle.static_checker.proofs.units.units.Given as goal
 

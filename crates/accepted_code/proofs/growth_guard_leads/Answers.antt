@@ -1,5 +1,0 @@
-use Rattle.accepted_code.proofs.Steps.{growth-guard_leads}
-use Rattle.accepted_code.proofs.growth_guard_leads.Goals as goal
-
-pub returns : goal.returns
-returns c = growth-guard_leads c.code_laws.ensures c.own_leads.ensures c.push_stays.ensures c.call_stays.ensures

@@ -1,5 +1,0 @@
-use Rattle.accepted_code.proofs.Steps.{instruction-leads}
-use Rattle.accepted_code.proofs.instruction_leads.Goals as goal
-
-pub returns : goal.returns
-returns c = instruction-leads record { store = c.store_guard_leads.ensures; growth = c.growth_guard_leads.ensures; pop = c.pop_guard_leads.ensures; sp = c.sp_guard_leads.ensures } c.unit_leads.ensures

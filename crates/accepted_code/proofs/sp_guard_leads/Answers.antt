@@ -1,5 +1,0 @@
-use Rattle.accepted_code.proofs.Steps.{sp-guard_leads}
-use Rattle.accepted_code.proofs.sp_guard_leads.Goals as goal
-
-pub returns : goal.returns
-returns c = sp-guard_leads c.code_laws.ensures c.own_leads.ensures c.sp_stays.ensures

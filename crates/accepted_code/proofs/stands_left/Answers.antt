@@ -1,5 +1,0 @@
-use Rattle.accepted_code.proofs.Keeping.{stands-left}
-use Rattle.accepted_code.proofs.stands_left.Goals as goal
-
-pub returns : goal.returns
-returns c = stands-left c.memory_stays.ensures c.part_stays.ensures c.word_stays.ensures

@@ -1,5 +1,0 @@
-use Rattle.accepted_code.proofs.Steps.{store-guard_leads}
-use Rattle.accepted_code.proofs.store_guard_leads.Goals as goal
-
-pub returns : goal.returns
-returns c = store-guard_leads c.code_laws.ensures c.own_leads.ensures c.store_stays.ensures

@@ -1,5 +1,0 @@
-use Rattle.accepted_code.proofs.UnitLeading.{unit-leads}
-use Rattle.accepted_code.proofs.unit_leads.Goals as goal
-
-pub returns : goal.returns
-returns c = unit-leads c.code_laws.ensures c.plain_passes.ensures c.branch_goes.ensures c.jump_goes.ensures c.save_saves.ensures

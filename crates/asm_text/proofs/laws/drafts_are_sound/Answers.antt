@@ -1,5 +1,0 @@
-use Rattle.asm_text.proofs.LinesSound.{drafts_are_sound}
-use Rattle.asm_text.proofs.laws.drafts_are_sound.Goals as goal
-
-pub returns : goal.returns
-returns c = drafts_are_sound

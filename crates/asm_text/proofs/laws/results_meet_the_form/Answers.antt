@@ -1,5 +1,0 @@
-use Rattle.asm_text.proofs.Formed.{results_meet_the_form}
-use Rattle.asm_text.proofs.laws.results_meet_the_form.Goals as goal
-
-pub returns : goal.returns
-returns c = results_meet_the_form

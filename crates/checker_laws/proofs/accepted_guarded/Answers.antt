@@ -1,5 +1,0 @@
-use Rattle.checker_laws.proofs.DangerLemmas.{accepted_guarded}
-use Rattle.checker_laws.proofs.accepted_guarded.Goals as goal
-
-pub returns : goal.returns
-returns c = accepted_guarded

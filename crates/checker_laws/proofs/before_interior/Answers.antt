@@ -1,5 +1,0 @@
-use Rattle.checker_laws.proofs.Landing.{before_interior}
-use Rattle.checker_laws.proofs.before_interior.Goals as goal
-
-pub returns : goal.returns
-returns c = before_interior

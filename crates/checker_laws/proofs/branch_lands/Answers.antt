@@ -1,5 +1,0 @@
-use Rattle.checker_laws.proofs.Landing.{branch_lands}
-use Rattle.checker_laws.proofs.branch_lands.Goals as goal
-
-pub returns : goal.returns
-returns c = branch_lands

@@ -1,5 +1,0 @@
-use Rattle.checker_laws.proofs.Landing.{call_lands}
-use Rattle.checker_laws.proofs.call_lands.Goals as goal
-
-pub returns : goal.returns
-returns c = call_lands

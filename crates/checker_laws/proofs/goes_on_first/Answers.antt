@@ -1,5 +1,0 @@
-use Rattle.checker_laws.proofs.Landing.{goes_on_first}
-use Rattle.checker_laws.proofs.goes_on_first.Goals as goal
-
-pub returns : goal.returns
-returns c = goes_on_first

@@ -1,5 +1,0 @@
-use Rattle.checker_laws.proofs.Landing.{guarded_free}
-use Rattle.checker_laws.proofs.guarded_free.Goals as goal
-
-pub returns : goal.returns
-returns c = guarded_free

@@ -1,5 +1,0 @@
-use Rattle.checker_laws.proofs.Landing.{guarded_leaves}
-use Rattle.checker_laws.proofs.guarded_leaves.Goals as goal
-
-pub returns : goal.returns
-returns c = guarded_leaves

@@ -1,5 +1,0 @@
-use Rattle.checker_laws.proofs.Landing.{jump_lands}
-use Rattle.checker_laws.proofs.jump_lands.Goals as goal
-
-pub returns : goal.returns
-returns c = jump_lands

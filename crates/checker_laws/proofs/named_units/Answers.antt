@@ -1,5 +1,0 @@
-use Rattle.checker_laws.proofs.Landing.{named_units}
-use Rattle.checker_laws.proofs.named_units.Goals as goal
-
-pub returns : goal.returns
-returns c = named_units

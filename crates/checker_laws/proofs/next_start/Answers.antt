@@ -1,5 +1,0 @@
-use Rattle.checker_laws.proofs.Starting.{next_start}
-use Rattle.checker_laws.proofs.next_start.Goals as goal
-
-pub returns : goal.returns
-returns c = next_start

@@ -1,5 +1,0 @@
-use Rattle.checker_laws.proofs.Landing.{one_stands}
-use Rattle.checker_laws.proofs.one_stands.Goals as goal
-
-pub returns : goal.returns
-returns c = one_stands

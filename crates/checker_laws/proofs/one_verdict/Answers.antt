@@ -1,5 +1,0 @@
-use Rattle.checker_laws.proofs.Refusing.{one_verdict}
-use Rattle.checker_laws.proofs.one_verdict.Goals as goal
-
-pub returns : goal.returns
-returns c = one_verdict

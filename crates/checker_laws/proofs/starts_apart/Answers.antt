@@ -1,5 +1,0 @@
-use Rattle.checker_laws.proofs.Starting.{starts_apart}
-use Rattle.checker_laws.proofs.starts_apart.Goals as goal
-
-pub returns : goal.returns
-returns c = starts_apart

@@ -1,0 +1,48 @@
+//! Objects.
+
+ghost use Rattle.std.specs.Prelude.{◌≡◌, ◌+◌, ◌*◌, ◌/◌, ◌≤◌, length};
+ghost use Rattle.code_model.specs.Form.{MeetsForm};
+
+use super::lists::{CodeWords, Exports, Relocs};
+use super::parts::Kind;
+use edge_io::lists::Bytes;
+
+/// The largest number of code words.
+pub const CODE_WORDS_MAX: usize = 8192;
+
+/// The largest static part, initialised and zeroed bytes together.
+pub const STATIC_BYTES_MAX: usize = 16384;
+
+/// The largest number of relocations.
+pub const RELOCS_MAX: usize = 16384;
+
+/// An object as data. It always meets the form.
+#[derive(Drop)]
+pub struct Object {
+    pub kind: Kind,
+    /// The version of the form.
+    pub version: u8,
+    pub code: CodeWords,
+    /// The initialised bytes of the static part.
+    pub init: Bytes,
+    /// How many zeroed bytes of the static part follow the initialised ones.
+    pub zeroed: u16,
+    /// The bytes of each thread's stack.
+    pub stack: u16,
+    pub threads: u8,
+    /// The offset in bytes of an application's first instruction.
+    pub entry: u16,
+    pub relocs: Relocs,
+    pub exports: Exports,
+    pub ghost form: { MeetsForm kind version code init zeroed stack threads entry relocs exports },
+}
+
+impl Object {
+    /// The bytes of the static part, initialised and zeroed together, rounded up to even.
+    pub fn static_bytes(&self) -> u16
+        ensures size { result ≡ (length self.now.init + self.now.zeroed + 1) / 2 * 2 }
+        ensures most { result ≤ 16384 }
+    {
+        (self.init.len() as u16 + self.zeroed + 1) / 2 * 2
+    }
+}

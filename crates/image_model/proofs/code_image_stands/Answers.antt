@@ -1,5 +1,0 @@
-use Rattle.image_model.proofs.Imaging.{code-stands}
-use Rattle.image_model.proofs.code_image_stands.Goals as goal
-
-pub returns : goal.returns
-returns c = code-stands

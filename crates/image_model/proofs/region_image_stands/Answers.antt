@@ -1,5 +1,0 @@
-use Rattle.image_model.proofs.Imaging.{region-stands}
-use Rattle.image_model.proofs.region_image_stands.Goals as goal
-
-pub returns : goal.returns
-returns c = region-stands

@@ -1,5 +1,0 @@
-use Rattle.image_model.proofs.Imaging.{region-words}
-use Rattle.image_model.proofs.region_is_words.Goals as goal
-
-pub returns : goal.returns
-returns c = region-words

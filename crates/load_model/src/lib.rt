@@ -1,0 +1,42 @@
+//! The bytes of a placed object, as definitions: its relocated code, and its region.
+//!
+//! `specs/Domains.antt` has a placed object and what each kind of relocation adds, `specs/Images.antt` the bytes of its code and of
+//! its region, and `specs/Standing.antt` what a memory with these bytes has. The laws are functions that do nothing.
+//! It stands on objects (`object_form`), on the definitions of `code_model` and on those of `flat_mem`.
+#![tactic(auto)]
+
+ghost use Rattle.std.specs.Prelude.{◌≡◌, ℕ, ◌-◌, ◌/◌, ◌%◌, ◌<◌, ◌≤◌, length, false, slice_index};
+ghost use Rattle.std.specs.List.{flat_map};
+ghost use Rattle.flat_mem.specs.Bytes.{word_bytes};
+ghost use Rattle.load_model.specs.Domains.{Domain, code_length};
+ghost use Rattle.load_model.specs.Images.{code_image, region_image, placed_words};
+ghost use Rattle.load_model.specs.Standing.{CodeImageLaw, RegionImageLaw};
+
+/// The code's image is as long as the code, and the region's as the region, where the initialised bytes fit.
+pub fn image_lengths()
+    ensures code { (d : Domain) → length (code_image d) ≡ code_length d.object }
+    ensures region { (d : Domain) → length d.object.init ≤ d.hi - d.lo → length (region_image d) ≡ d.hi - d.lo }
+{}
+
+/// The images are bytes.
+pub fn images_are_bytes()
+    ensures code { (d : Domain) (k : ℕ) → slice_index (code_image d) k < 256 }
+    ensures region { (d : Domain) (k : ℕ) → slice_index (region_image d) k < 256 }
+{}
+
+/// Where the bytes of code are its image, its words stand: those without a relocation as they are, and the relocated ones plus what
+/// their kind adds.
+pub fn code_image_stands()
+    ensures { CodeImageLaw }
+{}
+
+/// Where the bytes of a region are its image, the initialised bytes stand, relocated, and the rest is 0.
+pub fn region_image_stands()
+    ensures { RegionImageLaw }
+{}
+
+/// A region of whole words is the words of the initialised bytes, of which those behind the last one are 0.
+pub fn region_is_words()
+    ensures { (d : Domain) → length d.object.init ≤ d.hi - d.lo → (d.hi - d.lo) % 2 ≡ 0
+        → region_image d ≡ flat_map word_bytes (placed_words d false ((d.hi - d.lo) / 2)) }
+{}

@@ -1,0 +1,63 @@
+-- One step at a guarded instruction.
+use Rattle.std.specs.Prelude.{◌≡◌, ◌≢◌, ℕ, ◌+◌, ◌*◌, ◌%◌, ◌<◌, ◌≤◌, List, true}
+use Rattle.std.specs.List.{AllByRecursion}
+use Rattle.machine_model.specs.Memory.{IsMemory}
+use Rattle.machine_model.specs.Context.{reg}
+use Rattle.machine_model.specs.Alu.{writes, changes}
+use Rattle.machine_model.specs.Does.{does, Effect}
+use Rattle.msp_encode.specs.declared.instr.Width.{Width}
+use Rattle.msp_encode.specs.declared.instr.Width.TheVariants.{Wide}
+use Rattle.msp_encode.specs.declared.instr.Op2.TheVariants.{Mov}
+use Rattle.msp_encode.specs.declared.instr.Op1.TheVariants.{Push, Call}
+use Rattle.msp_encode.specs.declared.instr.Src.{Src}
+use Rattle.msp_encode.specs.declared.instr.Src.TheVariants as src
+use Rattle.msp_encode.specs.declared.instr.Dst.TheVariants as dst
+use Rattle.msp_encode.specs.declared.instr.Instr.{Instr}
+use Rattle.msp_encode.specs.declared.instr.Instr.TheVariants as instr
+use Rattle.machine_laws.specs.Steady.{IsSteady, Bounds, AreBounds}
+
+-- a source that moves neither SP nor R4
+abbrev pub IsQuiet : Src → Type 0
+IsQuiet (src.AutoInc n) = (4 < n) × (n < 16)
+IsQuiet _ = Unit {0}
+
+-- what a store guard guards: a write to 0(R4) or to @R4
+abbrev pub IsStore : Instr → Type 0
+IsStore (instr.Two op w s (dst.Indexed n x)) = (writes op ≡ true) × (n ≡ 4) × (x ≡ 0) × IsQuiet s
+IsStore (instr.One op w (src.Indirect n)) = (changes op ≡ true) × (n ≡ 4)
+IsStore _ = ⊥
+
+-- PC is at an address, and what was written lies in [from, to)
+pub record Passes (from to : ℕ) (b : Bounds) (kb next : ℕ) (e : Effect) : Type 0 where
+  pub steady : IsSteady kb b.low b.top e.context
+  pub pc : reg e.context 0 ≡ next
+  pub inside : AllByRecursion (λ w. (from ≤ w.0) × (w.0 < to)) e.written
+
+-- a store whose address was tested writes in the region
+abbrev pub StoreLaw : Type 0
+StoreLaw = (b : Bounds) (kb : ℕ) (m r : List ℕ) (i : Instr) (n : ℕ) → AreBounds b → IsSteady kb b.low b.top r → reg r 0 + 2 * n < 65536
+    → IsStore i → b.lo ≤ reg r 4 → reg r 4 < b.hi → Passes b.lo b.hi b kb (reg r 0 + 2 * n) (does m r i n)
+
+-- a push where there is room for six bytes writes in the stack
+abbrev pub PushLaw : Type 0
+PushLaw = (b : Bounds) (kb : ℕ) (m r : List ℕ) (w : Width) (s : Src) (n : ℕ) → IsSteady kb b.low b.top r → reg r 0 + 2 * n < 65536
+    → IsQuiet s → b.low + 6 ≤ reg r 1 → Passes b.low b.top b kb (reg r 0 + 2 * n) (does m r (instr.One Push w s) n)
+
+-- a call leaves its return address on the stack
+pub record Calls (x : ℕ) (b : Bounds) (kb : ℕ) (e : Effect) : Type 0 where
+  pub done : Passes b.low b.top b kb x e
+  pub pushed : reg e.context 1 + 2 ≤ b.top
+
+abbrev pub CallLaw : Type 0
+CallLaw = (b : Bounds) (kb : ℕ) (m r : List ℕ) (w : Width) (x n : ℕ) → IsSteady kb b.low b.top r
+    → x % 2 ≡ 0 → x < 65536 → b.low + 6 ≤ reg r 1 → Calls x b kb (does m r (instr.One Call w (src.Immediate x)) n)
+
+-- a pop where SP isn't at the stack's top
+abbrev pub PopLaw : Type 0
+PopLaw = (b : Bounds) (kb : ℕ) (m r : List ℕ) (d n : ℕ) → IsMemory m → b.top % 2 ≡ 0 → b.top < 65536 → IsSteady kb b.low b.top r → reg r 0 + 2 * n < 65536
+    → 4 ≤ d → d < 16 → reg r 1 ≢ b.top → Passes b.low b.top b kb (reg r 0 + 2 * n) (does m r (instr.Two Mov Wide (src.AutoInc 1) (dst.Reg d)) n)
+
+-- SP set from a tested R4
+abbrev pub SpLaw : Type 0
+SpLaw = (b : Bounds) (kb : ℕ) (m r : List ℕ) (n : ℕ) → b.low % 2 ≡ 0 → IsSteady kb b.low b.top r → reg r 0 + 2 * n < 65536
+    → b.low + 6 ≤ reg r 4 → reg r 4 ≤ b.top → Passes b.low b.top b kb (reg r 0 + 2 * n) (does m r (instr.Two Mov Wide (src.Reg 4) (dst.Reg 1)) n)

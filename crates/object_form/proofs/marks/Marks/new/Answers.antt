@@ -1,5 +1,0 @@
-use Rattle.object_form.proofs.Bits.{none_has}
-use Rattle.object_form.proofs.marks.Marks.new.Goals as goal
-
-pub returns-clause-empty : goal.returns-clause-empty
-returns-clause-empty c = none_has 1024

@@ -1,0 +1,132 @@
+-- Where running the unit of a source instruction ends.
+use Rattle.std.specs.Prelude.{◌≡◌, ℕ, ◌+◌, ◌*◌, ◌%◌, ◌≤◌, ◌⊎◌, List, map, length, Option, None, Some}
+use Rattle.std.specs.List.{Contains}
+use Rattle.msp_encode.specs.declared.instr.Op1.TheVariants.{Call}
+use Rattle.msp_encode.specs.declared.instr.Width.{Width}
+use Rattle.msp_encode.specs.declared.instr.Width.TheVariants.{Wide}
+use Rattle.msp_encode.specs.declared.instr.Src.{Src}
+use Rattle.msp_encode.specs.declared.instr.Src.TheVariants as src
+use Rattle.msp_encode.specs.declared.instr.Instr.{Instr}
+use Rattle.msp_encode.specs.declared.instr.Instr.TheVariants as instr
+use Rattle.machine_model.specs.Memory.{word_at, IsMemory}
+use Rattle.machine_model.specs.Context.{reg, set_reg, IsContext}
+use Rattle.machine_model.specs.Does.{does, target}
+use Rattle.machine_model.specs.Operands.{source_value, stored}
+use Rattle.code_model.specs.declared.object.Object.{Object}
+use Rattle.code_model.specs.Fields.{fields}
+use Rattle.code_model.specs.Starts.{Start}
+use Rattle.code_model.specs.Guards.{DstIs}
+use Rattle.code_model.specs.Rules.{IsCall}
+use Rattle.load_model.specs.Domains.{Domain}
+use Rattle.load_model.specs.Images.{code_image}
+use Rattle.load_model.specs.Standing.{HasBytes}
+use Rattle.confinement_laws.specs.Placed.{IsWellPlaced}
+use Rattle.insert_model.specs.declared.line.Line.{Line}
+use Rattle.insert_model.specs.Words.{count, unit_words}
+use Rattle.insert_model.specs.Source.{lines, own}
+use Rattle.insert_model.specs.Units.{static_bytes, unit}
+use Rattle.insert_model.specs.Faults.{IsInserted, IsSourceJump, IsSourceCall}
+use Rattle.insert_laws.specs.Shapes.{IsCleanLine}
+use Rattle.unit_laws.specs.Guards.{WordsAt}
+use Rattle.unit_laws.specs.Running.{IsInside}
+use Rattle.unit_laws.specs.Rows.{Follows, Hands, Halts, SameButPc}
+use Rattle.placed_unit_laws.specs.Placed.{unit_address, unit_at, unit_behind, placed_word, placed_src, placed, source_does}
+use Rattle.placed_unit_laws.specs.Checks.{check_of, Fails, entry_of, before_check, handed}
+
+-- An object with guards was placed, its code's bytes are in memory with the two limit words of a stack [low, top), and PC is at the unit
+-- of a source instruction. Each context that is good for the domain is a context.
+pub record IsAtUnit (o : Object) (d : Domain) (low top : ℕ) (m r : List ℕ) (l : Line) : Type 0 where
+  pub inserted : IsInserted o d.object
+  pub line : Contains (lines (fields o)) l
+  pub placed : IsWellPlaced d
+  pub memory : IsMemory m
+  pub code : HasBytes m d.code_lo (code_image d)
+  pub limit : word_at m 0x0200 ≡ low + 6
+  pub last : word_at m 0x0202 ≡ top
+  pub context : IsContext r
+  pub pc : reg r 0 ≡ unit_at o d l
+
+-- ---- where a unit leads
+
+-- the instruction names an offset, or an address
+abbrev pub SrcNames : Src → ℕ → Type 0
+SrcNames (src.Immediate v) x = v ≡ x
+SrcNames (src.Reg n) x = ⊥
+SrcNames (src.Indexed n v) x = ⊥
+SrcNames (src.Symbolic v) x = ⊥
+SrcNames (src.Absolute v) x = ⊥
+SrcNames (src.Indirect n) x = ⊥
+SrcNames (src.AutoInc n) x = ⊥
+SrcNames (src.Const c) x = ⊥
+
+abbrev pub Names : (at : ℕ) → Instr → ℕ → Type 0
+Names at (instr.Two op w s t) x = SrcNames s x
+Names at (instr.One op w s) x = SrcNames s x
+Names at instr.Reti x = ⊥
+Names at (instr.Jump c k) x = target (2 * at) k ≡ x
+
+-- a start that the instruction names, and the address of its unit
+unfoldable pub IsTargetUnit : Object → Domain → Line → ℕ → Type 0
+IsTargetUnit o d l a = (t : ℕ) × Start o.code t × Names l.at l.instr (2 * t) × (a ≡ unit_address o d (2 * t))
+
+-- an entry that it names
+abbrev pub IsNamedEntry : Object → Line → ℕ → Type 0
+IsNamedEntry o l a = Names l.at l.instr a × (IsSourceJump o.kind a ⊎ IsSourceCall o.kind a)
+
+-- the next unit, the unit of the target, or the entry that the instruction names
+abbrev pub Lands : Object → Domain → Line → ℕ → Type 0
+Lands o d l a = (a ≡ unit_behind o d l) ⊎ (IsTargetUnit o d l a ⊎ IsNamedEntry o l a)
+
+-- ---- how it ends
+
+-- The run does what the source instruction does, but for R4 and R5, and leads to a unit or an entry that is named
+pub record EndsWell (o : Object) (d : Domain) (m r : List ℕ) (l : Line) : Type 0 where
+  pub follows : Follows m r (unit_at o d l) (unit_behind o d l) (source_does o d m r l)
+  pub lands : Lands o d l (reg (source_does o d m r l).context 0)
+
+-- by the entry that takes over, if one does: R4 has the target's value, and all but R4, R5 and PC is as the source instruction leaves it
+abbrev pub EndsBy : Object → Domain → (m r : List ℕ) → Line → Option (ℕ × Src) → Type 0
+EndsBy o d m r l None = EndsWell o d m r l
+EndsBy o d m r l (Some h) = Hands m r (unit_at o d l) (unit_behind o d l) (source_does o d m r l) h.0 (source_value Wide (placed_src o d (own l).source h.1) 0 m r)
+
+-- the check fails and the unit ends at its entry with nothing written, and all but PC, R4, R5 and the four flags as before the check, or it doesn't fail
+pub data UnitEnds (o : Object) (d : Domain) (low top : ℕ) (m r : List ℕ) (l : Line) : Type 0 where
+  Halted : Fails o d low top m r (check_of o l) → Halts m r (unit_at o d l) (unit_behind o d l) (entry_of (check_of o l)) (before_check o d r l (check_of o l) l.instr) → UnitEnds o d low top m r l
+  Done : (Fails o d low top m r (check_of o l) → ⊥) → EndsBy o d m r l (handed l.instr) → UnitEnds o d low top m r l
+
+-- ---- the laws
+
+abbrev pub UnitEndsLaw : Type 0
+UnitEndsLaw = (o : Object) (d : Domain) (low top : ℕ) (m r : List ℕ) (l : Line) → IsAtUnit o d low top m r l → UnitEnds o d low top m r l
+
+-- what a call pushes is the address of the next unit
+abbrev pub PushedLaw : Type 0
+PushedLaw = (o : Object) (d : Domain) (low top : ℕ) (m r : List ℕ) (l : Line) (w : Width) (s : Src) → IsAtUnit o d low top m r l → l.instr ≡ instr.One Call w s
+    → (source_does o d m r l).written ≡ stored Wide (reg (source_does o d m r l).context 1) (unit_behind o d l)
+
+-- the words of a unit in memory
+pub record UnitStands (o : Object) (d : Domain) (m : List ℕ) (l : Line) : Type 0 where
+  pub clean : IsCleanLine o l
+  pub words : WordsAt m (unit_at o d l) 0 (map (placed_word o d) (unit_words (unit (static_bytes (fields o)) l)))
+  pub behind : unit_behind o d l ≡ unit_at o d l + 2 * length (unit_words (unit (static_bytes (fields o)) l))
+  pub even : unit_at o d l % 2 ≡ 0
+  pub below : unit_behind o d l ≤ 0xE000
+  -- no start's unit begins within this one
+  pub apart : (t : ℕ) → Start o.code t → IsInside (unit_at o d l) (unit_behind o d l) (unit_address o d (2 * t)) → ⊥
+
+abbrev pub UnitStandsLaw : Type 0
+UnitStandsLaw = (o : Object) (d : Domain) (low top : ℕ) (m r : List ℕ) (l : Line) → IsAtUnit o d low top m r l → UnitStands o d m l
+
+-- ---- where a source instruction stands
+
+-- an instruction that leads to the next one, and pushes no address
+abbrev pub StaysInLine : Instr → Type 0
+StaysInLine (instr.Two op w s t) = DstIs t 0 → ⊥
+StaysInLine (instr.One op w s) = IsCall op → ⊥
+StaysInLine instr.Reti = ⊥
+StaysInLine (instr.Jump c k) = ⊥
+
+-- it does the same wherever it stands, but for PC
+abbrev pub SourcePlaceLaw : Type 0
+SourcePlaceLaw = (o : Object) (d : Domain) (low top : ℕ) (m r : List ℕ) (l : Line) (p : ℕ) → IsAtUnit o d low top m r l → StaysInLine l.instr
+    → SameButPc (source_does o d m r l) (does m (set_reg r 0 p) (placed o d (own l)) (count l.instr))

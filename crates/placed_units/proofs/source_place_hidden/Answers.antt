@@ -1,5 +1,0 @@
-use Rattle.placed_units.proofs.Anywhere.{source-place}
-use Rattle.placed_units.proofs.source_place_hidden.Goals as goal
-
-pub returns : goal.returns
-returns c = source-place c.lines_are_clean.ensures c.place_hidden.ensures

@@ -1,5 +1,0 @@
-use Rattle.placed_units.proofs.Ending.{unit-ends}
-use Rattle.placed_units.proofs.unit_ends.Goals as goal
-
-pub returns : goal.returns
-returns c = unit-ends c.row_laws.ensures c.unit_stands.ensures
