@@ -1,5 +1,5 @@
 -- Expressions.
-use Rattle.std.specs.Prelude.{ℕ, ◌+◌, ◌%◌, ◌==◌, ◌||◌, Bool, true, false, List, length, take, drop, Option, Some, None, option_map, if◌then◌else◌}
+use Rattle.std.specs.Prelude.{ℕ, ◌+◌, ◌%◌, ◌==◌, ◌||◌, nat_le, Bool, true, false, List, length, take, drop, Option, Some, None, option_map, if◌then◌else◌}
 use Rattle.std.specs.List.{position_or_len, slice_index_or}
 use Rattle.std.specs.Char.{is_ascii_digit}
 use Rattle.asm_model.specs.declared.name.Name.{Name}
@@ -12,9 +12,13 @@ use Rattle.asm_model.specs.declared.expression.Expression.{Expression}
 use Rattle.asm_model.specs.Numbers.{first_byte, size_of, numeral_by, numeral_of, numeral_fits, numeral_word}
 use Rattle.asm_model.specs.Names.{is_lo, is_hi, is_label, name_of, value_of}
 
--- a base and a word on it, with a number added
+-- a number that stands alone
+unfoldable pub number_alone : Numeral → Expression
+number_alone n = record { base = base.Number; word = numeral_word n; fits = numeral_fits n }
+
+-- a base and a word on it, with a number added, whose size is at most 65,535 behind either sign
 unfoldable pub added : Base → ℕ → Numeral → Expression
-added base word n = record { base = base; word = (word + numeral_word n) % 65536; fits = numeral_fits n }
+added base word n = record { base = base; word = (word + numeral_word n) % 65536; fits = nat_le n.size 65535 }
 
 -- a name given by `.equ` counts as its number, any other is a label
 abbrev pub named : Name → Option Value → Numeral → Expression
@@ -54,7 +58,7 @@ over_name names word =
 -- a number, or an expression over a name
 unfoldable pub expression_of : List (Name × Value) → List ℕ → Option Expression
 expression_of names word =
-    if is_ascii_digit (first_byte word) || first_byte word == 45 then option_map (added base.Number 0) (numeral_of word)
+    if is_ascii_digit (first_byte word) || first_byte word == 45 then option_map number_alone (numeral_of word)
     else over_name names word
 
 -- a number or a label: LO and HI stand in immediates alone

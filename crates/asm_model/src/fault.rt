@@ -10,7 +10,7 @@ use thiserror::Error;
 #[derive(Clone, Copy, PartialEq, Eq, Debug, Drop, Error)]
 pub enum AsmKind {
     /// The line has a byte that isn't allowed.
-    #[error("notext")]
+    #[error("nottext")]
     NotText,
     /// A label or a name given by `.equ` was defined before, or is reserved.
     #[error("doublelabel")]

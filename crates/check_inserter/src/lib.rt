@@ -28,6 +28,3 @@ mod words;
 
 pub use insert_model::fault::{InsertFault, InsertKind};
 pub use inserter::insert;
-
-#[cfg(test)]
-mod tests;

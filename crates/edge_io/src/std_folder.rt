@@ -15,11 +15,20 @@ use std::marker::Model;
 use std::os::unix::fs::FileExt;
 use std::str;
 
-/// The files below the working folder. It keeps the file that it created open, and appends to it.
+/// A file that is being read.
+#[derive(Drop)]
+struct Opened {
+    name: Name,
+    file: File,
+}
+
+/// The files below the working folder. It keeps the file that it created open, and appends to it, and keeps the file that it
+/// reads open from its first byte on.
 #[derive(Drop)]
 pub struct StdFolder {
     rt: HostRuntime,
     file: Option<File>,
+    reading: Option<Opened>,
     read_faults: u64,
     write_faults: u64,
     last_failed: Option<Name>,
@@ -42,6 +51,7 @@ impl StdFolder {
         StdFolder {
             rt,
             file: None,
+            reading: None,
             read_faults: 0,
             write_faults: 0,
             last_failed: None,
@@ -55,22 +65,39 @@ fn path_of(name: &Name) -> Option<&str> {
     str::from_utf8(name.as_slice()).ok()
 }
 
-/// Reads bytes of a file from a place on.
-fn read_file(rt: &HostRuntime, name: &Name, at: u32, into: &mut [u8]) -> Result<usize, ReadErr>
-    ensures { IfOk result (λ n. n ≤ length into.old) }
-{
-    let Some(path) = path_of(name) else {
-        return Err(ReadErr::Failed);
-    };
-    let file = match File::open(rt, path) {
-        Ok(file) => file,
-        Err(error) if error.kind() == ErrorKind::NotFound => return Err(ReadErr::Absent),
-        Err(_) => return Err(ReadErr::Failed),
-    };
-    match file.read_at(into, u64::from(at)) {
-        Ok(count) => Ok(count),
+/// Opens a file to read it.
+fn open_file(rt: &HostRuntime, name: &Name) -> Result<Opened, ReadErr> {
+    let path = path_of(name).ok_or(ReadErr::Failed)?;
+    match File::open(rt, path) {
+        Ok(file) => Ok(Opened {
+            name: name.copied(),
+            file,
+        }),
+        Err(error) if error.kind() == ErrorKind::NotFound => Err(ReadErr::Absent),
         Err(_) => Err(ReadErr::Failed),
     }
+}
+
+/// Reads bytes of a file from a place on: of the one that is kept open, if it has this name and isn't read from its start again.
+fn read_file(
+    rt: &HostRuntime,
+    kept: &mut Option<Opened>,
+    name: &Name,
+    at: u32,
+    into: &mut [u8],
+) -> Result<usize, ReadErr>
+    ensures { IfOk result (λ n. n ≤ length into.old) }
+{
+    let opened = match kept.take() {
+        Some(opened) if at > 0 && opened.name.as_slice() == name.as_slice() => opened,
+        _ => open_file(rt, name)?,
+    };
+    let answer = match opened.file.read_at(into, u64::from(at)) {
+        Ok(count) => Ok(count),
+        Err(_) => Err(ReadErr::Failed),
+    };
+    *kept = Some(opened);
+    answer
 }
 
 /// Makes a file empty, and opens it.
@@ -87,7 +114,7 @@ impl Folder for StdFolder {
         ensures size { IfOk result (λ n. n ≤ length into.old) }
         ensures after { self.new ≡ record self.old { read_faults = up_if (read_failed result) self.old.read_faults; last_failed = (if read_failed result then Some name.now else self.old.last_failed) } }
     {
-        let answer = read_file(&self.rt, name, at, into);
+        let answer = read_file(&self.rt, &mut self.reading, name, at, into);
         if let Err(ReadErr::Failed) = answer {
             self.read_faults = one_up(self.read_faults);
             self.last_failed = Some(name.copied());

@@ -1,4 +1,3 @@
 pub mod Classes
 pub mod Given
 pub mod Parts
-pub mod Answers

@@ -2,7 +2,7 @@
 
 ghost use Rattle.std.specs.Prelude.{◌≡◌, None};
 ghost use Rattle.asm_model.specs.Numbers.{numeral_by};
-ghost use Rattle.asm_model.specs.Expressions.{added, named, name_plus, with_numeral, over_name, expression_of, is_plain, is_over_label};
+ghost use Rattle.asm_model.specs.Expressions.{number_alone, added, named, name_plus, with_numeral, over_name, expression_of, is_plain, is_over_label};
 
 use crate::bytes::{Class, byte_at, position};
 use crate::names::{Names, can_be_label, is_high, is_low, name};
@@ -10,7 +10,22 @@ use crate::numbers::{fits, numeral, unsigned, word as numeral_word};
 use asm_model::expression::{Base, Expression, Numeral};
 use asm_model::name::{Name, Value};
 
-/// A base and a word on it, with a number added.
+/// The largest number behind a sign.
+const ADDED_MAX: u32 = 65_535;
+
+/// A number that stands alone.
+#[tactic(auto, unfolding(asm_model::specs::Expressions::number_alone))]
+fn alone(n: Numeral) -> Expression
+    ensures { result ≡ number_alone n }
+{
+    Expression {
+        base: Base::Number,
+        word: numeral_word(n),
+        fits: fits(n),
+    }
+}
+
+/// A base and a word on it, with a number added, which behind either sign goes to 65535.
 #[tactic(auto, unfolding(asm_model::specs::Expressions::added))]
 fn add(base: Base, word: u16, n: Numeral) -> Expression
     ensures { result ≡ added base word n }
@@ -18,7 +33,7 @@ fn add(base: Base, word: u16, n: Numeral) -> Expression
     Expression {
         base,
         word: word.wrapping_add(numeral_word(n)),
-        fits: fits(n),
+        fits: n.size <= ADDED_MAX,
     }
 }
 
@@ -87,7 +102,7 @@ pub(crate) fn expression(names: &Names, word: &[u8]) -> Option<Expression>
     if first.is_ascii_digit() || first == b'-' {
         match numeral(word) {
             None => None,
-            Some(n) => Some(add(Base::Number, 0, n)),
+            Some(n) => Some(alone(n)),
         }
     } else {
         with_sign(names, word)

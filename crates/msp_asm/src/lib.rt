@@ -17,8 +17,6 @@ mod bytes;
 mod directives;
 mod drafts;
 mod expressions;
-#[cfg(test)]
-mod fault_tests;
 mod first_pass;
 mod instructions;
 mod keywords;
@@ -27,8 +25,6 @@ mod numbers;
 mod operands;
 mod second_pass;
 mod static_data;
-#[cfg(test)]
-mod tests;
 mod text;
 mod words;
 

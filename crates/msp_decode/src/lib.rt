@@ -17,6 +17,3 @@ mod words;
 
 pub use reading::NoInstr;
 pub use words::decode;
-
-#[cfg(test)]
-mod tests;

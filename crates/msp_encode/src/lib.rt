@@ -13,6 +13,3 @@ pub mod legality;
 
 pub use encoder::encode;
 pub use legality::legal;
-
-#[cfg(test)]
-mod tests;

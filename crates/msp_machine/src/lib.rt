@@ -17,6 +17,3 @@ pub mod writes;
 
 pub use regs::Regs;
 pub use writes::Writes;
-
-#[cfg(test)]
-mod tests;

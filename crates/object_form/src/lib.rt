@@ -18,8 +18,6 @@ mod head;
 pub mod laws;
 pub mod reading;
 mod sections;
-#[cfg(test)]
-mod tests;
 pub mod writing;
 
 pub use code_model::lists::{CodeWords, Exports, Relocs};

@@ -47,7 +47,7 @@ room_text (rooms.Region need gap) = codes ": no room, region, need " ++ decimal 
 room_text (rooms.Taken number) = codes ": function " ++ decimal number ++ codes " taken"
 
 abbrev pub asm_word : AsmKind → List ℕ
-asm_word asm.NotText = codes "notext"
+asm_word asm.NotText = codes "nottext"
 asm_word asm.DoubleLabel = codes "doublelabel"
 asm_word asm.UnknownWord = codes "unknownword"
 asm_word asm.BadDirective = codes "baddirective"

@@ -92,7 +92,7 @@ fn asm_word(kind: AsmKind) -> &'static [u8]
     ensures size { length result.now ≤ 12 }
 {
     match kind {
-        AsmKind::NotText => b"notext",
+        AsmKind::NotText => b"nottext",
         AsmKind::DoubleLabel => b"doublelabel",
         AsmKind::UnknownWord => b"unknownword",
         AsmKind::BadDirective => b"baddirective",
