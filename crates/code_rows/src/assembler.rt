@@ -44,7 +44,7 @@ fn a_jump_to_itself_has_22_bytes(rt: HostRuntime) -> Result<(), Fail> {
 }
 
 /// Sources with the words that they assemble to.
-const WORDS: [(&str, &[u16]); 12] = [
+const WORDS: [(&str, &[u16]); 13] = [
     (
         ".app 16 1\n.entry s\ns: MOV R5,R6\nADD R5,R6\nADDC R5,R6\nSUBC R5,R6\nSUB R5,R6\nCMP R5,R6\nDADD R5,R6\nBIT R5,R6\nBIC R5,R6\nBIS R5,R6\nXOR R5,R6\nAND R5,R6\nmov.b r5,r6\nMOV.W R5,R6\n",
         &[

@@ -2,7 +2,7 @@
 
 use super::faults::Faulty;
 use super::{CODE, DATA, HI, LO};
-use crate::InsertKind;
+use check_inserter::InsertKind;
 
 pub(super) const UNDECODED: [Faulty; 3] = [
     (&[0x4303, 0x0000], &[], InsertKind::NotDecoded, 2),
