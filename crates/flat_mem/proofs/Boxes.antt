@@ -35,4 +35,8 @@ bytes_drop = impl (none.symbol ∷ []) (tcons (layout Bytes) tnil) dnil
 
 -- a box of the bytes
 abbrev pub boxed : box.Bx
-boxed = record { row = Bytes; laws = bytes_laws; al = record { row = Heap; laws = heap_laws; g = ghosts; d = dict; drops = handle_drop } }
+boxed = record {
+  row = Bytes;
+  laws = bytes_laws;
+  al = record { row = Heap; laws = heap_laws; g = ghosts; d = dict; drops = handle_drop };
+}

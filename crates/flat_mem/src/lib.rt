@@ -2,6 +2,9 @@
 //!
 //! It stands on nothing. Contracts see a `FlatMem` as the list of its bytes; a word lies at an even address, low byte first, and
 //! an access of a word takes its address with bit 0 cleared. `specs/Bytes.antt` has the words of the contracts.
+//!
+//! The bytes lie in one raw block. Its pointer is used in `from_box`, `into_box`, `cell` and `set_cell` alone, which are proved
+//! by hand; all else is safe code over these.
 #![tactic(auto)]
 
 ghost use Rattle.std.specs.Prelude.{◌≡◌, ℕ, ◌+◌, ◌≤◌, ◌<◌, length, replicate, slice_index, slice_set, List, IfOk};

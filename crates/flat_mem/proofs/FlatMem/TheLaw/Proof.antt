@@ -19,7 +19,10 @@ use Rattle.flat_mem.proofs.FlatMem.TheLaw.Statement.{statement}
 pub shares : statement
 shares =
     let S = array_shared u8-field (copy_shared u8-field u8-copy) 65536 in
-    of_Lends C.struct (C.the_codes (G.the_row).coded) C.the_heap C.the_lent (λ d p. lent_at_shr_laws Bytes S.shr_laws d.block d.bytes) (copy_shared RawPtr-field RawPtr-copy, (G'.the_field_shared, tt)) (λ M 𝓤 𝓛 d p.
+    of_Lends C.struct (C.the_codes (G.the_row).coded) C.the_heap C.the_lent
+    (λ d p. lent_at_shr_laws Bytes S.shr_laws d.block d.bytes) (copy_shared RawPtr-field RawPtr-copy, (G'.the_field_shared, tt))
+    (λ M 𝓤 𝓛 d p.
     let l = (C.the_row).lives in
-    Lends-first 𝓛 (lies_at Bytes full_share d.block d.bytes) (ghosts.dealloc_token d.alloc (raw (lone Bytes.mir)) d.block) (lent_at Bytes d.block d.bytes) l
+    Lends-first 𝓛 (lies_at Bytes full_share d.block d.bytes) (ghosts.dealloc_token d.alloc (raw (lone Bytes.mir)) d.block)
+    (lent_at Bytes d.block d.bytes) l
     (Lends-lies 𝓛 Bytes l d.block d.bytes (Shares-less 𝓛 Bytes [] l (λ a m. m) (S.shares M 𝓤 𝓛) d.bytes)))

@@ -42,21 +42,29 @@ stayed = (stay_ref (0 ∷ []) tt (plain (λ _. R)), (stay_dropped (plain (λ _. 
 pub set_cell_spec : {M : Type 1} → statement M
 set_cell_spec 𝓤 𝓛 𝓜 𝓡 wired =
     let c = f.clauses 𝓛 𝓜.mem 𝓡.returns in let W = walk_of 𝓛 f.ended stayed c in let 𝓣 = tables 𝓤 𝓛.H 𝓜 𝓡 𝓡.env in
-    proved 𝓛 f.ended stayed c 𝓜 𝓡 (Goes-ref 𝓛 1 0 tt (plain (λ _. R)), (Goes-dropped 𝓛 1 (plain (λ _. usize)) yes (λ κs x w. refl), (Goes-dropped 𝓛 1 (plain (λ _. u8)) yes (λ κs x w. refl), tt)))
+    proved 𝓛 f.ended stayed c 𝓜 𝓡 (
+      Goes-ref 𝓛 1 0 tt (plain (λ _. R)),
+      (Goes-dropped 𝓛 1 (plain (λ _. usize)) yes (λ κs x w. refl), (Goes-dropped 𝓛 1 (plain (λ _. u8)) yes (λ κs x w. refl), tt)),
+    )
     f.Key.name code.function (code.unfolded 𝓤 𝓛.H 𝓜 𝓡 wired)
-    (λ κs. (mut_vals, (uint_vals w64, (uint_vals w8, tt)))) (λ κs. (mut_Tells (named 0) κs.0 R, (uint_Tells w64, (uint_Tells w8, tt)))) (λ κs qs bounds a _ are.
+    (λ κs. (mut_vals, (uint_vals w64, (uint_vals w8, tt))))
+    (λ κs. (mut_Tells (named 0) κs.0 R, (uint_Tells w64, (uint_Tells w8, tt)))) (λ κs qs bounds a _ are.
     let b = a.0.ref_ptr.0 in let o = a.0.ref_ptr.1 in let h = a.0.now in let at = a.1.0 in let v = a.1.1.0 in
     let us0 = mut_vals a.0 in let us1 = uint_vals w64 at in let us2 = uint_vals w8 v in
     let y : W.Ghost = ((κs, qs, bounds, a, (us0, (us1, (us2, tt)))), tt) in
-    qed 𝓛 (((‵ (flft κs.0 qs.0) ⊛ ‵ ftrue) ⊛ ‵ (owns (MutRef (named 0) κs.0 R ∷ usize ∷ u8 ∷ []) a (us0, (us1, (us2, tt))))) ∷ raw (fact 𝓤 (at < 65536)) ∷ []) ∵
+    qed 𝓛 (((‵ (flft κs.0 qs.0) ⊛ ‵ ftrue) ⊛ ‵ (owns (MutRef (named 0) κs.0 R ∷ usize ∷ u8 ∷ []) a (us0, (us1, (us2, tt)))))
+    ∷ raw (fact 𝓤 (at < 65536)) ∷ []) ∵
     move ! (1 ∷ []) $ heard ! (at < 65536) (λ inside. split ! $ split ! $ move ! (2 ∷ []) $ fsplit ! $ keep ! (0 ∷ 2 ∷ []) $
-    enter ! _ _ _ _ _ $ alloc_all ! (λ l. pass_all ! refl ((tt, tt), ((tt, record { fits = are.1.0.1 }), ((tt, record { fits = are.1.1.0.1 }), tt))) $
+    enter ! _ _ _ _ _ $ alloc_all ! (λ l. pass_all ! refl
+    ((tt, tt), ((tt, record { fits = are.1.0.1 }), ((tt, record { fits = are.1.1.0.1 }), tt))) $
     fsplit3 ! $ move ! (1 ∷ 2 ∷ 3 ∷ []) $ opens ! tt R b o (λ us.
-    move ! (1 ∷ []) $ fpick ! (λ x. fsplit ! $ move ! (1 ∷ []) $ drop ! $ peeks ! I _ (shows 𝓛 I) x.0 us (λ is. fsplit ! $ move ! (1 ∷ []) $ fsplit ! $
+    move ! (1 ∷ []) $ fpick ! (λ x. fsplit ! $ move ! (1 ∷ []) $ drop ! $ peeks ! I _ (shows 𝓛 I) x.0 us (λ is. fsplit ! $
+    move ! (1 ∷ []) $ fsplit ! $
     -- [the block; its token; what the fields own; the struct's cell; the open borrow, in three entries]
     in_a_block ! x.0.block (λ p. lies_at Bytes full_share p x.0.bytes) (id⊢ 𝓤 _) (λ b' o' e.
     let xs = x.0.bytes in let size : length xs ≡ 65536 = x.1.1.size in
-    use1 𝓛 (‵ (Cell 𝓛 full_share 65536 xs at b' o' (get_or xs at 0)) ⊛ ‵ (Rest 𝓛 full_share 65536 xs at b' o')) (cell_out 𝓛 full_share 65536 xs at b' o' size inside) $ split ! $
+    use1 𝓛 (‵ (Cell 𝓛 full_share 65536 xs at b' o' (get_or xs at 0)) ⊛ ‵ (Rest 𝓛 full_share 65536 xs at b' o'))
+    (cell_out 𝓛 full_share 65536 xs at b' o' size inside) $ split ! $
     -- [the byte; the other bytes; the token; what the fields own; the struct's cell; ..]
     let word = lowers.val_is x.0 us is ∙ ap (λ (p : Ptr). lowers.lowered (record x.0 { block = p }) ∷ []) e in
     rewrite ! 4 (λ (ws : List Val). ‵ (cell_at full_share R.mir ws b o)) word refl $
@@ -68,13 +76,16 @@ set_cell_spec 𝓤 𝓛 𝓜 𝓡 wired =
     sets ! (of_opd ! (unit_lit !)) refl (tt, tt) $
     let ys = set xs at v in
     use2 𝓛 (‵ (part_at Bytes full_share ys b' o')) (cell_in 𝓛 full_share 65536 xs at b' o' v size inside) $
-    rewrite ! 0 (λ (p : Ptr). ‵ (lies_at Bytes full_share p ys)) (sym e) refl $ rewrite ! 3 (λ (ws : List Val). ‵ (cell_at full_share R.mir ws b o)) (sym word) refl $
+    rewrite ! 0 (λ (p : Ptr). ‵ (lies_at Bytes full_share p ys)) (sym e) refl $
+    rewrite ! 3 (λ (ws : List Val). ‵ (cell_at full_share R.mir ws b o)) (sym word) refl $
     fjoin ! $ move ! (1 ∷ []) $ fjoin ! $ nothing ! $ move ! (1 ∷ []) $ fjoin ! $
-    fpack ! _ (λ (z : (d : I.Denot) × ((d.bytes ≡ ys) × IsFlat d.bytes)). fsep (I.own_val z.0 us) ftrue) (record x.0 { bytes = ys }, (refl, flat_set xs at v x.1.1 are.1.1.0.1)) $
+    fpack ! _ (λ (z : (d : I.Denot) × ((d.bytes ≡ ys) × IsFlat d.bytes)). fsep (I.own_val z.0 us) ftrue)
+    (record x.0 { bytes = ys }, (refl, flat_set xs at v x.1.1 are.1.1.0.1)) $
     move ! (1 ∷ []) $ closes ! tt R ys us b o $
     -- [two parts of self; the token; self's first part]
     returns ! (look_at ! 0 refl) $ free_all ! refl $ move ! (3 ∷ []) $
     suffices ! _ (ends_at 𝓛 f.ended stayed c y vunit tt (ys, (tt, (tt, tt))) (tt, (tt, (tt, tt)))) $
     says_both ! (ap (λ (z : List ℕ). set z at v) x.1.0) (length-set xs at v ∙ size) $
-    group ! 3 $ nothing ! $ nothing ! $ join ! $ nothing ! $ join ! $ move ! (1 ∷ 0 ∷ []) $ join ! $ nothing ! $ move ! (2 ∷ 0 ∷ []) $ join ! $ frame ! $ frame ! $
+    group ! 3 $ nothing ! $ nothing ! $ join ! $ nothing ! $ join ! $ move ! (1 ∷ 0 ∷ []) $ join ! $ nothing ! $
+    move ! (2 ∷ 0 ∷ []) $ join ! $ frame ! $ frame ! $
     feq_i ! _ (vunit ∷ []) _ refl $ done !)))))))
