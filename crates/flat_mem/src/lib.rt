@@ -2,10 +2,13 @@
 //!
 //! It stands on nothing. Contracts see a `FlatMem` as the list of its bytes; a word lies at an even address, low byte first, and
 //! an access of a word takes its address with bit 0 cleared. `specs/Bytes.antt` has the words of the contracts.
+//!
+//! The bytes lie in one raw block. Its pointer is used in `from_box`, `into_box`, `cell` and `set_cell` alone, which are proved
+//! by hand; all else is safe code over these.
 #![tactic(auto)]
 
-ghost use Rattle.std.specs.Prelude.{◌≡◌, ℕ, ◌+◌, ◌≤◌, ◌<◌, length, replicate, slice_index, slice_set, IfOk};
-ghost use Rattle.flat_mem.specs.Bytes.{even, word_at, word_bytes, with_word, patch};
+ghost use Rattle.std.specs.Prelude.{◌≡◌, ℕ, ◌+◌, ◌≤◌, ◌<◌, length, replicate, slice_index, slice_set, List, IfOk};
+ghost use Rattle.flat_mem.specs.Bytes.{IsFlat, even, word_at, word_bytes, with_word, patch};
 
 use std::alloc::{AllocError, Global};
 use std::marker::Model;
@@ -13,21 +16,27 @@ use std::marker::Model;
 /// How many bytes a memory has.
 pub const MEMORY_BYTES: usize = 65536;
 
-/// A memory of 65,536 bytes.
-#[derive(Drop)]
+/// A memory of 65,536 bytes, in a block of its own: `new` takes it, and the drop frees it.
 pub struct FlatMem {
-    bytes: Vec<u8>,
+    block: *mut u8,
+    alloc: Global,
+    ghost bytes: { List ℕ },
 }
 
 impl Model for FlatMem {
     ghost use Rattle.std.specs.Prelude.{List, ℕ};
     ghost use Rattle.flat_mem.specs.Bytes.{IsFlat};
+    ghost use Rattle.flat_mem.specs.Block.{owns_block, lends_block};
 
     ghost Value = { List ℕ };
 
-    ghost view = { λ memory. memory.bytes.items };
+    ghost view = { λ memory. memory.bytes };
 
-    ghost invariant = { λ memory. IsFlat memory.bytes.items };
+    ghost invariant = { λ memory. IsFlat memory.bytes };
+
+    ghost also_owns = { λ memory. owns_block memory.alloc memory.block memory.bytes };
+
+    ghost also_shares = { λ memory _ κ. lends_block memory.block memory.bytes κ };
 }
 
 impl FlatMem {
@@ -35,15 +44,56 @@ impl FlatMem {
     pub fn new(alloc: Global) -> Result<FlatMem, AllocError>
         ensures { IfOk result (λ m. m ≡ replicate 65536 0) }
     {
-        let bytes = zeroes(alloc, MEMORY_BYTES)?;
-        Ok(FlatMem { bytes })
+        let zeroes = zero_block(alloc)?;
+        Ok(FlatMem::from_box(zeroes))
+    }
+
+    /// The memory whose block is a box's.
+    fn from_box(bytes: Box<[u8; MEMORY_BYTES]>) -> FlatMem
+        requires { IsFlat bytes.value }
+        ensures { result ≡ bytes.value }
+    {
+        let (whole, alloc) = Box::into_raw_with_allocator(bytes);
+        FlatMem {
+            block: whole as *mut u8,
+            alloc,
+        }
+    }
+
+    /// The box of a memory's block, which frees it.
+    fn into_box(self) -> Box<[u8; MEMORY_BYTES]>
+        ensures { result.value ≡ self }
+    {
+        let FlatMem { block, alloc } = self;
+        unsafe { Box::from_raw(alloc, block as *mut [u8; MEMORY_BYTES]) }
+    }
+
+    /// The byte at a place in the block.
+    #[inline(always)]
+    fn cell(&self, at: usize) -> u8
+        requires { at < 65536 }
+        ensures { result ≡ slice_index self.now at }
+    {
+        unsafe { *self.block.add(at) }
+    }
+
+    /// Writes the byte at a place in the block.
+    #[inline(always)]
+    fn set_cell(&mut self, at: usize, value: u8)
+        requires { at < 65536 }
+        ensures written { self.new ≡ slice_set self.old at value }
+        ensures size { length self.new ≡ 65536 }
+    {
+        unsafe {
+            *self.block.add(at) = value;
+        }
     }
 
     /// The byte at an address.
     pub fn byte(&self, at: u16) -> u8
         ensures { result ≡ slice_index self.now at }
     {
-        self.bytes[at as usize]
+        self.cell(at as usize)
     }
 
     /// Writes one byte.
@@ -51,7 +101,7 @@ impl FlatMem {
         ensures written { self.new ≡ slice_set self.old at value }
         ensures size { length self.new ≡ 65536 }
     {
-        self.bytes[at as usize] = value;
+        self.set_cell(at as usize, value);
     }
 
     /// The word at an address with bit 0 cleared.
@@ -59,7 +109,7 @@ impl FlatMem {
         ensures { result ≡ word_at self.now at }
     {
         let low = even(at);
-        self.bytes[low] as u16 + 256 * self.bytes[low + 1] as u16
+        self.cell(low) as u16 + 256 * self.cell(low + 1) as u16
     }
 
     /// Writes a word at an address with bit 0 cleared.
@@ -70,8 +120,9 @@ impl FlatMem {
         ensures size { length self.new ≡ 65536 }
     {
         let first = even(at);
-        self.bytes[first] = (value % 256) as u8;
-        self.bytes[first + 1] = (value / 256) as u8;
+        self.is_flat();
+        self.set_cell(first, (value % 256) as u8);
+        self.set_cell(first + 1, (value / 256) as u8);
     }
 
     /// Writes bytes from an address on. They have to end by the memory's end.
@@ -80,7 +131,10 @@ impl FlatMem {
         ensures patched { self.new ≡ patch self.old at from.now }
         ensures size { length self.new ≡ 65536 }
     {
-        overwrite(&mut self.bytes, at as usize, from);
+        self.is_flat();
+        for i in 0..from.len() {
+            self.set_cell(at as usize + i, from[i]);
+        }
     }
 
     /// What holds of every memory.
@@ -88,7 +142,19 @@ impl FlatMem {
         ensures size { length self.now ≡ 65536 }
         ensures small { (k : ℕ) → slice_index self.now k < 256 }
     {
-        let _ = &self.bytes;
+        let _ = &self.alloc;
+    }
+}
+
+/// A block of zeroes.
+#[tactic(auto, using(crate::proofs::Flat::zero_flat))]
+fn zero_block(alloc: Global) -> Result<Box<[u8; MEMORY_BYTES]>, AllocError>
+    ensures flat { IfOk result (λ b. IsFlat b.value) }
+    ensures zero { IfOk result (λ b. b.value ≡ replicate 65536 0) }
+{
+    match Box::new(alloc, [0; MEMORY_BYTES]) {
+        Ok(zeroes) => Ok(zeroes),
+        Err(_) => Err(AllocError),
     }
 }
 
@@ -100,30 +166,36 @@ fn even(at: u16) -> usize
     at as usize / 2 * 2
 }
 
-/// So many zeroes.
-fn zeroes(alloc: Global, count: usize) -> Result<Vec<u8>, AllocError>
-    ensures zero { IfOk result (λ v. v.items ≡ replicate count 0) }
-    ensures size { IfOk result (λ v. length v.items ≡ count) }
-    ensures small { IfOk result (λ v. (k : ℕ) → slice_index v.items k < 256) }
-{
-    vec![in alloc; 0; count]
-}
-
-/// Writes bytes from a place on.
-#[tactic(auto, using(crate::proofs::Patch::mid_as_patch))]
-fn overwrite(bytes: &mut [u8], at: usize, from: &[u8])
-    requires { at + length from.now ≤ length bytes.old }
-    ensures patched { bytes.new ≡ patch bytes.old at from.now }
-    ensures size { length bytes.new ≡ length bytes.old }
-    ensures small { (k : ℕ) → slice_index bytes.new k < 256 }
-{
-    bytes[at..at + from.len()].copy_from_slice(from);
+impl Drop for FlatMem {
+    fn drop(self) {
+        drop(self.into_box());
+    }
 }
 
 #[cfg(test)]
 mod tests {
     use super::*;
+    use std::fs;
     use std::test::Fail;
+
+    /// How many pages of addresses the process has: the first number of the file that Linux keeps of it.
+    fn pages(rt: &HostRuntime) -> Result<u64, Fail> {
+        let text = fs::read_to_string(rt, "/proc/self/statm")?;
+        let first = text.split(' ').next().ok_or("no number")?;
+        Ok(first.parse::<u64>()?)
+    }
+
+    #[test]
+    fn ten_thousand_memories_take_the_room_of_few(rt: HostRuntime) -> Result<(), Fail> {
+        let before = pages(&rt)?;
+        for _ in 0..10_000u32 {
+            let mut m = FlatMem::new(rt.alloc())?;
+            m.set_byte(0xFFFF, 1);
+            assert_eq!(rt; (m.byte(0xFFFE), m.byte(0xFFFF)), (0, 1));
+        }
+        assert!(rt; pages(&rt)?.saturating_sub(before) < 1_000);
+        Ok(())
+    }
 
     #[test]
     fn words_lie_low_byte_first_at_even_addresses(rt: HostRuntime) -> Result<(), Fail> {

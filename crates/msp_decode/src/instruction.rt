@@ -64,6 +64,7 @@ fn offset(word: u16) -> i16
 }
 
 /// The instruction of two operands that begins with a word.
+#[inline(always)]
 fn two(word: u16, first: u16, second: u16) -> Option<Instr>
     ensures { MatchOption result
         ((op : Op2) (width : Width) (src : Src) (dst : Dst) → TwoFields op width src dst word → ⊥)
@@ -86,6 +87,7 @@ fn two(word: u16, first: u16, second: u16) -> Option<Instr>
 }
 
 /// The instruction of one operand that begins with a word.
+#[inline(always)]
 fn one(word: u16, first: u16) -> Option<Instr>
     requires { word / 1024 ≡ 4 }
     ensures { MatchOption result
@@ -105,6 +107,7 @@ fn one(word: u16, first: u16) -> Option<Instr>
 }
 
 /// The jump that a word is.
+#[inline(always)]
 fn jump(word: u16) -> Instr
     requires { word / 8192 ≡ 1 }
     ensures { First result word × (words_after result ≡ []) }
@@ -117,6 +120,7 @@ fn jump(word: u16) -> Instr
 
 /// The instruction that begins with a word, if there is one. `first` and `second` are what the words
 /// behind it would be.
+#[inline(always)]
 pub(crate) fn instruction(word: u16, first: u16, second: u16) -> Option<Instr>
     ensures { MatchOption result ((i : Instr) → First i word → ⊥)
         (λ i. First i word × Leads (words_after i) (first ∷ second ∷ [])) }

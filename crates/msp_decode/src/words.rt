@@ -12,6 +12,7 @@ use crate::reading::NoInstr;
 use msp_encode::instr::Instr;
 
 /// The reading as the fields tell it.
+#[inline(always)]
 fn read(w0: u16, w1: u16, w2: u16, have: u8) -> Result<(Instr, u8), NoInstr>
     ensures right { Reads w0 (w1 ∷ w2 ∷ []) have result }
     ensures legal { IfOk result (λ x. Legal x.0) }
@@ -37,6 +38,7 @@ fn read(w0: u16, w1: u16, w2: u16, have: u8) -> Result<(Instr, u8), NoInstr>
 /// length in words, 1 to 3. `Unknown` comes exactly where there is a word and no instruction begins
 /// with it, and `Short` exactly where there is none, or an instruction begins with `w0` and needs more
 /// than `have` words.
+#[inline(always)]
 pub fn decode(w0: u16, w1: u16, w2: u16, have: u8) -> Result<(Instr, u8), NoInstr>
     ensures right { Reads w0 (w1 ∷ w2 ∷ []) have result }
     ensures only { (answer : Result (Instr × ℕ) NoInstr) →

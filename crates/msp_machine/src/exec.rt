@@ -18,6 +18,7 @@ use msp_encode::instr::{Cond, Dst, Instr, Op1, Op2, Src, Width};
 
 /// Runs one legal instruction of `len` words, and gives the bytes that it wrote, two at most.
 #[tactic(auto, using(machine_model::proofs::Written::few_written))]
+#[inline(always)]
 pub fn exec(m: &mut FlatMem, r: &mut Regs, i: &Instr, len: u8) -> Writes
     requires legal { Legal i.now }
     requires size { len ≡ 1 + length (words_after i.now) }
@@ -35,6 +36,7 @@ pub fn exec(m: &mut FlatMem, r: &mut Regs, i: &Instr, len: u8) -> Writes
 
 /// Runs an instruction by its form.
 #[tactic(auto, unfolding(machine_model::specs::Does::does, machine_model::specs::Does::reti, machine_model::specs::Does::jump))]
+#[inline(always)]
 fn by_form(m: &mut FlatMem, r: &mut Regs, i: &Instr, len: u8) -> Writes
     requires form { FormOk i.now }
     requires size { 1 ≤ len }
@@ -81,6 +83,7 @@ fn raise(r: &mut Regs)
 
 /// An operation of two operands.
 #[tactic(auto, unfolding(machine_model::specs::Does::two))]
+#[inline(always)]
 fn two(op: Op2, width: Width, src: Src, dst: Dst, len: u8, m: &mut FlatMem, r: &mut Regs) -> Writes
     requires source { NamesRegisters src }
     requires destination { NamesRegister dst }
@@ -227,6 +230,7 @@ fn target(pc: u16, offset: i16) -> u16
 
 /// A jump.
 #[tactic(auto, unfolding(machine_model::specs::Does::jump))]
+#[inline(always)]
 fn jump(cond: Cond, offset: i16, r: &mut Regs) -> Writes
     requires low { negsuc 511 ≤ℤ offset }
     requires high { offset ≤ℤ pos 511 }

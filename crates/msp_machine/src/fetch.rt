@@ -14,6 +14,7 @@ use msp_encode::instr::Instr;
 /// The instruction that stands at `pc` and how many words it has, 1 to 3. The words behind `pc` are taken modulo 65,536, so
 /// `Short` never comes, and `Unknown` says that no instruction begins with the word at `pc`.
 #[tactic(auto, using(crate::proofs::Fetching::fetched))]
+#[inline(always)]
 pub fn fetch(m: &FlatMem, pc: u16) -> Result<(Instr, u8), NoInstr>
     ensures right { Fetches m.now pc result }
     ensures only { (answer : Result (Instr × ℕ) NoInstr) → Fetches m.now pc answer → result ≡ answer }
