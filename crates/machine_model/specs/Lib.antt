@@ -4,5 +4,6 @@ pub mod Status
 pub mod Operands
 pub mod Alu
 pub mod Does
+pub mod Accepting
 pub mod Fetching
 pub mod Pairs

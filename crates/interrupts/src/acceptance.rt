@@ -1,0 +1,96 @@
+//! What the machine does when it accepts an interrupt.
+
+ghost use Rattle.std.specs.Prelude.{◌≡◌, ◌≢◌, ◌<◌, ◌≤◌, ◌+◌, ◌/◌, ◌%◌, length};
+ghost use Rattle.flat_mem.specs.Bytes.{with_word};
+ghost use Rattle.machine_model.specs.Memory.{IsMemory, even, word_at};
+ghost use Rattle.machine_model.specs.Context.{reg};
+ghost use Rattle.machine_model.specs.Pairs.{put_pair};
+ghost use Rattle.machine_model.specs.Operands.{sum_of};
+ghost use Rattle.machine_model.specs.Does.{lowered, memory_after};
+ghost use Rattle.machine_model.specs.Accepting.{accepted, vector_address};
+ghost use Rattle.msp_machine.specs.Rising.{Lacks};
+ghost use Rattle.interrupts.specs.Pushed.{pushed_bytes};
+
+use crate::lines::LINES;
+use flat_mem::FlatMem;
+use msp_machine::regs::{PC, Regs, SP, SR};
+use msp_machine::writes::Writes;
+
+/// Where the vector of line 0 lies. That of line n lies n words above it.
+const VECTORS: u16 = 0xFFE0;
+
+/// The one bit of SR that an acceptance keeps: SCG0.
+const SCG0: u16 = 0x0040;
+
+/// Accepts an interrupt of a line, 0 to 13: pushes PC and then SR, clears SR but for SCG0, and goes to the address that was at the
+/// line's vector before the pushes. Gives the four bytes that were written.
+#[tactic(auto, using(crate::proofs::Pairs::pairs, crate::proofs::Stack::scg0_kept), unfolding(machine_model::specs::Accepting::accepted))]
+pub fn accept(m: &mut FlatMem, r: &mut Regs, line: u8) -> Writes
+    requires { line < LINES }
+    ensures context { r.new ≡ (accepted line m.old r.old).context }
+    ensures written { result ≡ (accepted line m.old r.old).written }
+    ensures memory { m.new ≡ memory_after m.old (accepted line m.old r.old) }
+    ensures four { length result ≡ 4 }
+    ensures is_memory { IsMemory m.new }
+{
+    let routine = vector(m, line);
+    let pc = r.get(PC);
+    let status = r.get(SR);
+    let upper = push(pc, m, r);
+    let lower = push(status, m, r);
+    r.set(SR, status & SCG0);
+    r.set(PC, routine);
+    m.is_flat();
+    written(lower, status, upper, pc)
+}
+
+/// The word at a line's vector.
+#[tactic(auto, unfolding(machine_model::specs::Memory::word_at))]
+fn vector(m: &FlatMem, line: u8) -> u16
+    requires { line < LINES }
+    ensures { result ≡ word_at m.now (vector_address line) }
+{
+    m.word(VECTORS + 2 * line as u16)
+}
+
+/// Lowers SP by two, and writes a word there. Gives its address, which is even.
+#[tactic(auto, using(crate::proofs::Stack::sp_after))]
+fn push(value: u16, m: &mut FlatMem, r: &mut Regs) -> u16
+    ensures context { r.new ≡ lowered r.old }
+    ensures at { result ≡ sum_of (reg r.old 1) 65534 }
+    ensures sp { reg r.new 1 ≡ result }
+    ensures even { result % 2 ≡ 0 }
+    ensures memory { m.new ≡ with_word m.old result value }
+{
+    r.is_context();
+    let at = r.get(SP).wrapping_sub(2);
+    r.set(SP, at);
+    m.set_word(at, value);
+    at
+}
+
+/// The bytes of two words that were written apart, by address.
+fn written(lower: u16, status: u16, upper: u16, pc: u16) -> Writes
+    requires { even lower ≢ even upper }
+    ensures bytes { result ≡ pushed_bytes lower status upper pc }
+    ensures four { length result ≡ 4 }
+{
+    let mut bytes = Writes::new();
+    add_word(upper, pc, &mut bytes);
+    add_word(lower, status, &mut bytes);
+    bytes
+}
+
+/// Puts the bytes of a word in their places by address.
+#[tactic(auto, using(crate::proofs::Pairs::pairs))]
+fn add_word(at: u16, value: u16, bytes: &mut Writes)
+    requires room { length bytes.old ≤ 2 }
+    requires low_absent { Lacks (even at) bytes.old }
+    requires high_absent { Lacks (even at + 1) bytes.old }
+    ensures bytes { bytes.new ≡ put_pair (even at, value % 256) (put_pair (even at + 1, value / 256) bytes.old) }
+    ensures longer { length bytes.new ≡ length bytes.old + 2 }
+{
+    let low = at / 2 * 2;
+    bytes.add(low + 1, (value / 256) as u8);
+    bytes.add(low, (value % 256) as u8);
+}
