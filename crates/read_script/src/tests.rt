@@ -1,0 +1,1 @@
+//! Scripts of a few lines, and their faults.

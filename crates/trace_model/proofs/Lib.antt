@@ -1,0 +1,2 @@
+mod ScriptExamples
+pub mod ReadScripts

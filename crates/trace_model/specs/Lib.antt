@@ -1,0 +1,4 @@
+pub mod Scripts
+pub mod Grammar
+pub mod Draws
+pub mod ScriptLaws
