@@ -1,0 +1,5 @@
+pub mod Mutexes
+pub mod Conditions
+pub mod SyncRules
+pub mod WokenRules
+pub mod WaiterRules
