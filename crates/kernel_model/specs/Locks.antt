@@ -4,9 +4,8 @@ use Rattle.kernel_model.specs.Kernel.{Kernel, thread_at, mutex_at, condition_at}
 use Rattle.kernel_model.specs.Words.{none, ready, running, running_module, identity, owner_of, waiters_of}
 
 -- thread n of application a owns mutex i
-pub record IsOwner (k : Kernel) (a i n : ℕ) : Type 0 where
-  pub owner : owner_of k a i ≡ n
-  pub some : n ≢ none
+abbrev pub IsOwner : Kernel → (a i n : ℕ) → Type 0
+IsOwner k a i n = (owner_of k a i ≡ n) × (n ≢ none)
 
 -- it waits for mutex i
 abbrev pub WaitsForMutex : Kernel → (a i n : ℕ) → Type 0
@@ -17,15 +16,12 @@ abbrev pub WaitsForCondition : Kernel → (a c n : ℕ) → Type 0
 WaitsForCondition k a c n = Contains (condition_at k a c) n
 
 -- it owns mutex i, and is ready
-pub record HasTaken (k : Kernel) (a i n : ℕ) : Type 0 where
-  pub owner : owner_of k a i ≡ n
-  pub is_ready : (thread_at k (identity a n)).state ≡ ready
+abbrev pub HasTaken : Kernel → (a i n : ℕ) → Type 0
+HasTaken k a i n = (owner_of k a i ≡ n) × ((thread_at k (identity a n)).state ≡ ready)
 
--- it came to wait for mutex i behind all that waited before
-pub record HasJoined (before after : Kernel) (a i n : ℕ) : Type 0 where
-  pub came : List ℕ
-  pub behind : waiters_of after a i ≡ waiters_of before a i ++ came
-  pub member : Contains came n
+-- it came to wait for mutex i, behind all that waited before
+abbrev pub HasJoined : (before after : Kernel) → (a i n : ℕ) → Type 0
+HasJoined k k' a i n = (came : List ℕ) × (waiters_of k' a i ≡ waiters_of k a i ++ came) × Contains came n
 
 -- ---- between two kernels, where no application ends
 

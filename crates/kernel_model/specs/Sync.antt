@@ -67,9 +67,13 @@ unlock_code k i = first_code ((nat_lt 3 i, BadArgument) ∷ (not (owns k i), Not
 abbrev pub unlocked : Kernel → (i : ℕ) → Kernel
 unlocked k i = handed_over k (own_app k) i
 
+-- handed over where the running thread owns it
+abbrev pub given_up : Kernel → (i : ℕ) → Kernel
+given_up k i = if owns k i then unlocked k i else k
+
 -- each mutex that the running thread owns is handed over, in rising number
 unfoldable pub all_handed_over : Kernel → Kernel
-all_handed_over k = fold (λ k i. if owns k i then unlocked k i else k) k (range_with_len 0 4)
+all_handed_over k = fold given_up k (range_with_len 0 4)
 
 -- ---- conditions
 

@@ -3,3 +3,5 @@ pub mod Conditions
 pub mod SyncRules
 pub mod WokenRules
 pub mod WaiterRules
+pub mod KeptMutexes
+pub mod KeptLocks

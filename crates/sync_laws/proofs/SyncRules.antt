@@ -9,7 +9,7 @@ use Rattle.kernel_model.specs.declared.rows.MutexRow.{MutexRow}
 use Rattle.kernel_model.specs.declared.rows.ThreadRow.{ThreadRow}
 use Rattle.place_model.specs.Settled.{IsSettledKernel}
 use Rattle.kernel_model.specs.Running.{ThreadRuns}
-use Rattle.kernel_model.specs.Sync.{own_app, own_number, with_mutex_row, is_free_mutex, owns, queued, handed_to, unlocked, all_handed_over}
+use Rattle.kernel_model.specs.Sync.{own_app, own_number, with_mutex_row, is_free_mutex, owns, queued, handed_to, unlocked, given_up, all_handed_over}
 use Rattle.thread_laws.specs.Facts.{IsRunning}
 use Rattle.thread_laws.proofs.Spots.{running_is}
 use Rattle.thread_laws.proofs.Moving.{IsOrderlyBut}
@@ -100,18 +100,15 @@ hands_more k j n r ln h false e = record {
       (cases_eq i n);
 }
 
-abbrev pub one_over : Kernel → (i : ℕ) → Kernel
-one_over k i = cond (owns k i) (unlocked k i) k
-
 pub all_handed_stay_settled : AllHandedLaw
 unfolding all_handed_over
 all_handed_stay_settled k h r =
     let h0 : IsHandedOver k k 0 = record { settled = h; running = refl; in_module = refl; given = λ i l. absurd (omega arith) } in
-    let h1 : IsHandedOver k (one_over k 0) 1 = hands_more k k 0 r (omega arith) h0 (owns k 0) refl in
-    let h2 : IsHandedOver k (one_over (one_over k 0) 1) 2 = hands_more k (one_over k 0) 1 r (omega arith) h1 (owns (one_over k 0) 1) refl in
-    let k2 : Kernel = one_over (one_over k 0) 1 in
-    let h3 : IsHandedOver k (one_over k2 2) 3 = hands_more k k2 2 r (omega arith) h2 (owns k2 2) refl in
-    hands_more k (one_over k2 2) 3 r (omega arith) h3 (owns (one_over k2 2) 3) refl
+    let h1 : IsHandedOver k (given_up k 0) 1 = hands_more k k 0 r (omega arith) h0 (owns k 0) refl in
+    let h2 : IsHandedOver k (given_up (given_up k 0) 1) 2 = hands_more k (given_up k 0) 1 r (omega arith) h1 (owns (given_up k 0) 1) refl in
+    let k2 : Kernel = given_up (given_up k 0) 1 in
+    let h3 : IsHandedOver k (given_up k2 2) 3 = hands_more k k2 2 r (omega arith) h2 (owns k2 2) refl in
+    hands_more k (given_up k2 2) 3 r (omega arith) h3 (owns (given_up k2 2) 3) refl
 
 -- ---- the running thread rests with another row
 

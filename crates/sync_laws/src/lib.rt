@@ -2,6 +2,7 @@
 #![tactic(auto)]
 
 ghost use Rattle.sync_laws.specs.Laws.{AllHandedLaw, HandedLaw, LockedLaw, UnlockedLaw, WaitedLaw, WokenLaw};
+ghost use Rattle.sync_laws.specs.Promises.{AllHandedKeepsLaw, HandedRunsLaw, LockedKeepsLaw, OwnerLaw, StaysLaw, UnlockedKeepsLaw, WaitedKeepsLaw};
 ghost use Rattle.sync_laws.specs.Waiters.{GoingLaw, NumbersLaw, RoomLaw, WaiterLaw};
 
 /// A mutex that is handed over.
@@ -48,4 +49,35 @@ pub fn running_thread_has_room()
 /// Those that leave a condition's list may go for their mutexes, one after another.
 pub fn waiters_may_go()
     ensures { GoingLaw }
+{}
+
+/// A mutex that is handed over leaves who runs as it was.
+pub fn handed_runs_on()
+    ensures { HandedRunsLaw }
+{}
+
+/// A mutex has at most one owner, a live thread of its application that doesn't wait for it.
+pub fn owners_are_single()
+    ensures { OwnerLaw }
+{}
+
+/// A kernel that stays keeps what is promised of mutexes and conditions.
+pub fn staying_keeps_locks()
+    ensures { StaysLaw }
+{}
+
+/// So does a mutex that is unlocked, and all that the running thread owns.
+pub fn handing_over_keeps_locks()
+    ensures unlocked { UnlockedKeepsLaw }
+    ensures all { AllHandedKeepsLaw }
+{}
+
+/// So does one that is locked or waited for.
+pub fn locking_keeps_locks()
+    ensures { LockedKeepsLaw }
+{}
+
+/// So does the running thread's wait for a condition.
+pub fn waiting_keeps_locks()
+    ensures { WaitedKeepsLaw }
 {}
