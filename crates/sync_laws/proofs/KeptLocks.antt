@@ -41,7 +41,7 @@ few_wait k h a i n la li c = (waiter_may k a i n h la li c).number
 pub keeps_conditions : (k k' : Kernel) → KeepsMutexes k k' → k'.conditions ≡ k.conditions → KeepsLocks k k'
 keeps_conditions k k' h e = record { mutexes = h; conditions = λ a c n la lc w. inl (subst (λ (ls : List (List ℕ)). Contains (get_or ls (4 * a + c) []) n) (sym e) w) }
 
-stays_keeps : (k : Kernel) → KeepsMutexes k k
+pub stays_keeps : (k : Kernel) → KeepsMutexes k k
 stays_keeps k = record { owners = λ a i n la li is other. is.0; readies = λ t l e. e; waiters = λ a i n la li c. inl c }
 
 pub all_stays : StaysLaw

@@ -5,3 +5,4 @@ pub mod WokenRules
 pub mod WaiterRules
 pub mod KeptMutexes
 pub mod KeptLocks
+pub mod KeptWoken

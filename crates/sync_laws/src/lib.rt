@@ -2,7 +2,7 @@
 #![tactic(auto)]
 
 ghost use Rattle.sync_laws.specs.Laws.{AllHandedLaw, HandedLaw, LockedLaw, UnlockedLaw, WaitedLaw, WokenLaw};
-ghost use Rattle.sync_laws.specs.Promises.{AllHandedKeepsLaw, HandedRunsLaw, LockedKeepsLaw, OwnerLaw, StaysLaw, UnlockedKeepsLaw, WaitedKeepsLaw};
+ghost use Rattle.sync_laws.specs.Promises.{AllHandedKeepsLaw, HandedRunsLaw, LockedKeepsLaw, OwnerLaw, StaysLaw, UnlockedKeepsLaw, WaitedKeepsLaw, WokenKeepsLaw, WokenRunsLaw};
 ghost use Rattle.sync_laws.specs.Waiters.{GoingLaw, NumbersLaw, RoomLaw, WaiterLaw};
 
 /// A mutex that is handed over.
@@ -80,4 +80,10 @@ pub fn locking_keeps_locks()
 /// So does the running thread's wait for a condition.
 pub fn waiting_keeps_locks()
     ensures { WaitedKeepsLaw }
+{}
+
+/// So does the waking of some that wait for one, and it leaves who runs as it was.
+pub fn waking_keeps_locks()
+    ensures keeps { WokenKeepsLaw }
+    ensures runs { WokenRunsLaw }
 {}
