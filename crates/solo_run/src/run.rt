@@ -4,13 +4,14 @@ ghost use Rattle.std.specs.Prelude.{◌≡◌, ◌<◌, ◌≤◌, ◌+◌, ◌-
 ghost use Rattle.edge_io.specs.Known.{appended, GotPrefix};
 ghost use Rattle.edge_io.specs.Causes.{HasCause};
 ghost use Rattle.solo_model.specs.Running.{step, run, fault_count, count_faults};
-ghost use Rattle.solo_model.specs.Trace.{record_text, records_text, run_text, placement_line};
+ghost use Rattle.solo_model.specs.Trace.{fault_line, record_text, records_text, run_text, placement_line};
 
 use super::lines::{of_end, of_fault, of_placement};
 use super::solo::Solo;
 use code_model::object::Object;
 use edge_io::sink::Sink;
 use edge_io::whole::{SinkFault, write_all};
+use solo_model::fault::Fault;
 
 /// How many steps were made, and how many of them were faults.
 #[derive(Drop)]
@@ -80,10 +81,21 @@ fn turn<S: Sink>(solo: &mut Solo, out: &mut S) -> Result<u32, SinkFault>
     ensures cause { HasCause (S.state out.old).faults (S.state out.new).faults result }
 {
     match solo.step() {
-        Some(fault) => match write_all(out, of_fault(solo.steps(), &fault).as_slice()) {
+        Some(fault) => match print_fault(solo.steps(), &fault, out) {
             Ok(()) => Ok(1),
             Err(fault) => Err(fault),
         },
         None => Ok(0),
     }
+}
+
+/// Prints the line of a fault. It stands alone, so that a step without one doesn't pay for the line's room.
+#[cold]
+#[inline(never)]
+fn print_fault<S: Sink>(step: u32, fault: &Fault, out: &mut S) -> Result<(), SinkFault>
+    ensures whole { OnOk result ((S.state out.new).bytes ≡ appended (S.state out.old).bytes (fault_line step fault.now)) }
+    ensures prefix { OnErr result (GotPrefix (S.state out.old).bytes (S.state out.new).bytes (fault_line step fault.now)) }
+    ensures cause { HasCause (S.state out.old).faults (S.state out.new).faults result }
+{
+    write_all(out, of_fault(step, fault).as_slice())
 }
