@@ -1,7 +1,7 @@
 -- Lines and words that are cut off a text.
-use Rattle.std.proofs.Common.{◌≡◌, ℕ, ◌+◌, ◌-◌, not, ◌≤◌, ◌<◌, ◌==◌, Bool, true, false, List, [], ◌∷◌, ◌++◌, length, take, drop, get_or, eqb, suc, subst, refl, ap, sym, ◌∙◌, arith, cond, add-one, drop-cons}
+use Rattle.std.proofs.Common.{◌≡◌, ℕ, ◌+◌, ◌-◌, not, ◌≤◌, ◌<◌, ◌==◌, Bool, true, false, List, [], ◌∷◌, length, take, drop, get_or, eqb, suc, subst, refl, ap, sym, ◌∙◌, arith, cond, add-one, drop-cons}
 use Rattle.std.specs.Prelude.{filter}
-use Rattle.std.specs.List.{slice_split, position_or_len, onto_first, before_first, after_first}
+use Rattle.std.specs.List.{slice_split, position_or_len, onto_first}
 use Rattle.std.specs.Str.Lines.{lines, lines_of_parts, strip_carriage_return}
 use Rattle.std.proofs.lemmas.List.Splits.{slice_split_first}
 use Rattle.std.proofs.lemmas.Grind.{common_steps}

@@ -1,11 +1,9 @@
 -- The script that a text stands for meets the rules.
-use Rattle.std.proofs.Common.{◌≡◌, ◌≢◌, ◌≤◌, ◌<◌, ◌+◌, ◌⊎◌, ℕ, Bool, true, false, cond, not, zero, suc, eq-eqb, option_map, length-append, ◌&&◌, ◌||◌, eqb, leb, ltb, List, [], ◌∷◌, ◌++◌, length, get_or, codes, Option, Some, None, is_some, Result, Ok, Err, refl, ap, sym, subst, ◌∙◌, inl, inr, arith}
+use Rattle.std.proofs.Common.{◌≡◌, ◌≢◌, ◌≤◌, ◌<◌, ◌+◌, ℕ, Bool, true, false, cond, not, zero, suc, eq-eqb, option_map, length-append, ◌&&◌, ◌||◌, eqb, leb, List, [], ◌∷◌, ◌++◌, length, get_or, Option, Some, None, Result, Ok, refl, subst, arith}
 use Rattle.std.specs.Prelude.{All, fold, option_and_then}
-use Rattle.std.specs.List.{AllPairs, list_all, list_any}
+use Rattle.std.specs.List.{AllPairs}
 use Rattle.std.specs.Str.Parse.{digits_value}
-use Rattle.std.specs.Char.{is_ascii}
 use Rattle.std.proofs.lemmas.Bool.Decides.{nat_tests}
-use Rattle.std.proofs.lemmas.Grind.{common_steps}
 use Rattle.std.proofs.lemmas.List.Quantifiers.{all_pairs_push}
 use Rattle.std.proofs.lemmas.List.Elements.{All-append}
 use Rattle.trace_model.specs.declared.scripts.AtKind.{AtKind}
@@ -13,8 +11,8 @@ use Rattle.trace_model.specs.declared.scripts.AtKind.TheVariants.{Raise, Pick}
 use Rattle.trace_model.specs.declared.scripts.At.{At}
 use Rattle.trace_model.specs.declared.scripts.Every.{Every}
 use Rattle.trace_model.specs.declared.scripts.Script.{Script}
-use Rattle.trace_model.specs.Scripts.{IsStep, IsKind, IsAt, IsEvery, IsMix, IsPick, Rises, PicksApart, IsScript}
-use Rattle.trace_model.specs.Grammar.{words_of, word_is, is_comment, is_decimal, number_in, every_by, every_of, kind_of, at_by, at_of, mix_of, with_every, last_step, is_pick, is_pick_at, has_pick_at, may_follow, with_at, with_mix, with_statement, with_words, with_line, empty_script, behind_line, script_from, script_of}
+use Rattle.trace_model.specs.Scripts.{IsStep, IsKind, IsAt, IsEvery, IsPick, Rises, PicksApart, IsScript}
+use Rattle.trace_model.specs.Grammar.{words_of, number_in, every_by, every_of, kind_of, at_by, at_of, mix_of, with_every, last_step, is_pick, is_pick_at, has_pick_at, may_follow, with_at, with_mix, with_statement, with_words, with_line, empty_script, behind_line, script_from, script_of}
 use Rattle.std.specs.Str.Lines.{lines}
 
 -- a choice that is there was made

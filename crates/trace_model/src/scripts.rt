@@ -96,7 +96,7 @@ pub struct Every {
 }
 
 /// The `every` lines, at most 16.
-pub type Everys = ArrayVec<Every, 16>;
+pub type Everys = ArrayVec<Every, EVERYS_MAX>;
 
 /// A script. The scripts that are read from a text meet `IsScript` of `specs/Scripts.antt`.
 #[derive(Drop)]
