@@ -1,3 +1,4 @@
 pub mod Members
 pub mod Pairs
-pub mod Stack
+pub mod Pushes
+pub mod Words

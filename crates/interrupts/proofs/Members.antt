@@ -1,5 +1,5 @@
 -- The members of sets of lines.
-use Rattle.std.proofs.Common.{◌≡◌, ◌≢◌, ℕ, zero, suc, ◌+◌, ◌-◌, ◌*◌, ◌/◌, ◌%◌, ◌^◌, ◌<◌, ◌≤◌, min, max, Bool, true, false, ◌&&◌, ◌||◌, not, eqb, nat_eq, nat_lt, length, refl, sym, ap, ◌∙◌, arith, bit_and, bit_or}
+use Rattle.std.proofs.Common.{◌≡◌, ◌≢◌, ℕ, zero, suc, ◌+◌, ◌*◌, ◌%◌, ◌^◌, ◌<◌, ◌≤◌, min, max, true, false, ◌&&◌, ◌||◌, not, eqb, nat_eq, nat_lt, refl, sym, ap, ◌∙◌, arith, bit_and, bit_or}
 use Rattle.std.specs.List.{range_with_len, list_any}
 use Rattle.std.specs.Int.{w16, bit_at, bit_not}
 use Rattle.std.specs.Ordering.{nat_cmp}
@@ -36,7 +36,7 @@ contains-lines_of w q =
     ∙ (any-filter_same (λ y. nat_eq y q) (λ n. eqb (bit_at w n) 1) (eqb (bit_at w q) 1) (λ k e. ap (λ n. eqb (bit_at w n) 1) (eqb-true k q e)) every_line
     ∙ ap (λ b. eqb (bit_at w q) 1 && b) (is_line q))
 
-contains-lines_of-line : (w q : ℕ) → q < 14 → set.contains (lines_of w) q ≡ eqb (bit_at w q) 1
+pub contains-lines_of-line : (w q : ℕ) → q < 14 → set.contains (lines_of w) q ≡ eqb (bit_at w q) 1
 contains-lines_of-line w q h = contains-lines_of w q ∙ (ap (λ b. eqb (bit_at w q) 1 && b) (lt-ltb q 14 h) ∙ and-true (eqb (bit_at w q) 1))
 
 contains-lines_of-none : (w q : ℕ) → 14 ≤ q → set.contains (lines_of w) q ≡ false

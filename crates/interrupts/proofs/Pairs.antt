@@ -1,5 +1,5 @@
 -- Pairs put in rising address.
-use Rattle.std.proofs.Common.{◌≡◌, ◌≢◌, ℕ, ◌+◌, ◌*◌, ◌/◌, ◌%◌, Bool, true, false, cond, nat_lt, List, [], ◌∷◌, length, refl, sym, ap, ◌∙◌, arith}
+use Rattle.std.proofs.Common.{◌≡◌, ◌≢◌, ℕ, ◌+◌, ◌/◌, ◌%◌, true, false, cond, nat_lt, List, [], ◌∷◌, length, refl, sym, ap, ◌∙◌, arith}
 use Rattle.std.specs.Prelude.{slice_set}
 use Rattle.std.proofs.lemmas.List.{set_comm}
 use Rattle.flat_mem.specs.Bytes.{with_word}
@@ -47,4 +47,4 @@ pushed_memory m b s a p ne =
     (apart_lacks (even b + 1) a p (λ e. omega arith) (λ e. omega arith))
     ∙ ap (λ n. with_word n b s) (word_put m a p [] tt tt)
 
-pub ruleset pairs = (length-put_pair, lacks_after, pushed_memory)
+pub ruleset pairs = (length-put_pair, lacks_after)

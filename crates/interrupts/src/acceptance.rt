@@ -24,7 +24,7 @@ const SCG0: u16 = 0x0040;
 
 /// Accepts an interrupt of a line, 0 to 13: pushes PC and then SR, clears SR but for SCG0, and goes to the address that was at the
 /// line's vector before the pushes. Gives the four bytes that were written.
-#[tactic(auto, using(crate::proofs::Pairs::pairs, crate::proofs::Stack::scg0_kept), unfolding(machine_model::specs::Accepting::accepted))]
+#[tactic(auto, using(crate::proofs::Pushes::pushes), unfolding(machine_model::specs::Accepting::accepted))]
 pub fn accept(m: &mut FlatMem, r: &mut Regs, line: u8) -> Writes
     requires { line < LINES }
     ensures context { r.new ≡ (accepted line m.old r.old).context }
@@ -54,7 +54,7 @@ fn vector(m: &FlatMem, line: u8) -> u16
 }
 
 /// Lowers SP by two, and writes a word there. Gives its address, which is even.
-#[tactic(auto, using(crate::proofs::Stack::sp_after))]
+#[tactic(auto, using(crate::proofs::Pushes::sp_after))]
 fn push(value: u16, m: &mut FlatMem, r: &mut Regs) -> u16
     ensures context { r.new ≡ lowered r.old }
     ensures at { result ≡ sum_of (reg r.old 1) 65534 }

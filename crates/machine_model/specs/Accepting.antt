@@ -1,5 +1,5 @@
--- How an interrupt is accepted (SLAU049, "System Resets, Interrupts, and Operating Modes", "Interrupt Acceptance"): PC and then SR are
--- pushed, SR is cleared but for SCG0, and PC becomes the word at the line's vector. It knows no pending lines and no kernel.
+-- How an interrupt is accepted (SLAU049, "System Resets, Interrupts, and Operating Modes", "Interrupt Acceptance"): PC and then
+-- SR are pushed, SR is cleared but for SCG0, and PC becomes the word at the line's vector. It knows no pending lines and no kernel.
 use Rattle.std.specs.Prelude.{ℕ, ◌+◌, ◌*◌, ◌/◌, ◌%◌, List, [], ◌∷◌, ◌++◌}
 use Rattle.machine_model.specs.Memory.{word_at}
 use Rattle.machine_model.specs.Context.{reg, set_reg}
@@ -21,8 +21,8 @@ abbrev pub by_address : List (ℕ × ℕ) → List (ℕ × ℕ)
 by_address [] = []
 by_address (p ∷ ps) = put_pair p (by_address ps)
 
--- The context behind the acceptance of a line, and the bytes that it wrote. PC lies at SP - 2 and SR at SP - 4, modulo 65,536, and the
--- vector is read in memory as it was before.
+-- The context behind the acceptance of a line, and the bytes that it wrote. PC lies at SP - 2 and SR at SP - 4, modulo 65,536,
+-- and the vector is read in memory as it was before.
 unfoldable pub accepted : (line : ℕ) → (memory context : List ℕ) → Effect
 accepted n m r =
     let r1 = lowered r in

@@ -1,6 +1,6 @@
-use Rattle.std.proofs.Common.{◌≡◌, ◌≢◌, ℕ, ◌+◌, ◌-◌, ◌*◌, ◌/◌, ◌%◌, ◌^◌, ◌<◌, ◌≤◌, ◌↔◌, IsTrue, IsNone, IfSome, Bool, true, false, refl, sym, ap, ◌∙◌, subst, arith, bit_and, bit_or, rules}
+use Rattle.std.proofs.Common.{sym, ap, ◌∙◌}
 use Rattle.std.specs.FinSet as set
-use Rattle.interrupts.specs.LineSets.{LineSet, lines_of}
+use Rattle.interrupts.specs.LineSets.{LineSet}
 use Rattle.interrupts.proofs.Members.{lines_of-clear, lines_of-no_line}
 use Rattle.interrupts.proofs.lines.Lines.drop_line.Goals as goal
 

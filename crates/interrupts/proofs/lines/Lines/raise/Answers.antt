@@ -1,7 +1,6 @@
-use Rattle.std.proofs.Common.{◌≡◌, ◌≢◌, ℕ, ◌+◌, ◌-◌, ◌*◌, ◌/◌, ◌%◌, ◌^◌, ◌<◌, ◌≤◌, ◌↔◌, IsTrue, IsNone, IfSome, Bool, true, false, refl, sym, ap, ◌∙◌, subst, arith, bit_and, bit_or, rules}
+use Rattle.std.proofs.Common.{◌∙◌, arith, bit_and}
 use Rattle.std.specs.FinSet as set
 use Rattle.std.proofs.lemmas.Nat.{and_le_r, or_lt}
-use Rattle.interrupts.specs.LineSets.{LineSet, lines_of}
 use Rattle.interrupts.proofs.Members.{lines_of-low, lines_of-or}
 use Rattle.interrupts.proofs.lines.Lines.raise.Goals as goal
 
