@@ -3,6 +3,8 @@ pub mod Starting
 pub mod Numbers
 pub mod Refusing
 pub mod DangerLemmas
+pub mod Lines
+pub mod GuardRelocs
 pub mod Inside
 pub mod Deciding
 pub mod Landing

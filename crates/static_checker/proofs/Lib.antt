@@ -1,9 +1,13 @@
 pub mod Search
 pub mod Standing
-pub mod Walking
+pub mod CursorLemmas
 pub mod Guarding
-pub mod CoverLemmas
+pub mod MarkLemmas
 pub mod PlaceLemmas
 pub mod Targeting
-pub mod RuleLemmas
+pub mod UnitLemmas
+pub mod FirstLemmas
+pub mod LocalLemmas
+pub mod PassLemmas
+pub mod LandingLemmas
 pub mod Judging

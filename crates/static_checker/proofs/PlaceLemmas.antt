@@ -7,11 +7,10 @@ use Rattle.code_model.specs.declared.object.Object.{Object}
 use Rattle.code_model.specs.declared.parts.Export.{Export}
 use Rattle.kernel_model.specs.Bitmap.{Has}
 use Rattle.code_model.specs.Form.{IsInCode}
-use Rattle.code_model.specs.Guards.{UnitStart, AreUnits}
 use Rattle.code_model.specs.Rules.{IsExported, IsNamed}
 use Rattle.static_checker.specs.Marked.{Adds}
 use Rattle.static_checker.specs.Places.{ExportsAt, ExportedBelow, IsEntry, AreNamed}
-use Rattle.static_checker.proofs.CoverLemmas.{adds_same, adds_none}
+use Rattle.static_checker.proofs.MarkLemmas.{adds_same, adds_none}
 
 -- ---- one more mark
 
@@ -30,39 +29,6 @@ adds_one old new at marked others k = (go, back)
       | inl same ↦ subst (λ (n : ℕ). Has new n) (sym same) marked
       | inr other ↦ let differs : k ≢ at = elim other [ inl less ↦ omega arith | inr more ↦ omega arith ] in (others k differs).1 was
     ]
-
--- ---- a set by a loop over its places
-
-pub grown_add : (P : ℕ → Type 0) (old new : List ℕ) (at : ℕ) → ((k : ℕ) → Has old k ↔ (P k × (k < at))) → P at
-    → Has new at → ((k : ℕ) → k ≢ at → Has new k ↔ Has old k) → (k : ℕ) → Has new k ↔ (P k × (k < at + 1))
-grown_add P old new at was here marked others k = (go, back)
-  where
-    adds : Adds old new (λ n. n ≡ at)
-    adds = adds_one old new at marked others
-
-    go : Has new k → P k × (k < at + 1)
-    go h = elim ((adds k).0 h) [
-      | inl before ↦ (((was k).0 before).0, omega (arith, ((was k).0 before).1))
-      | inr same ↦ (subst P (sym same) here, omega arith)
-    ]
-
-    back : P k × (k < at + 1) → Has new k
-    back x = let most : k ≤ at = omega (arith, x.1) in
-        elim (eq-or-lt_of_le most) [ inl same ↦ (adds k).1 (inr same) | inr less ↦ (adds k).1 (inl ((was k).1 (x.0, less))) ]
-
-pub grown_skip : (P : ℕ → Type 0) (old : List ℕ) (at : ℕ) → ((k : ℕ) → Has old k ↔ (P k × (k < at))) → (P at → ⊥)
-    → (k : ℕ) → Has old k ↔ (P k × (k < at + 1))
-grown_skip P old at was never k = (go, back)
-  where
-    go : Has old k → P k × (k < at + 1)
-    go h = (((was k).0 h).0, omega (arith, ((was k).0 h).1))
-
-    back : P k × (k < at + 1) → Has old k
-    back x = let most : k ≤ at = omega (arith, x.1) in
-        elim (eq-or-lt_of_le most) [ inl same ↦ absurd (never (subst P same x.0)) | inr less ↦ (was k).1 (x.0, less) ]
-
-pub units_end : (o : Object) (m : List ℕ) (end : ℕ) → length o.code ≤ end → ((k : ℕ) → Has m k ↔ (UnitStart o k × (k < end))) → AreUnits o m
-units_end o m end past was k = ((λ h. ((was k).0 h).0), (λ u. (was k).1 (u, omega (arith, u.0.below))))
 
 -- ---- exports
 

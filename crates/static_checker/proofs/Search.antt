@@ -7,6 +7,7 @@ use Rattle.code_model.specs.declared.parts.Reloc.{Reloc}
 use Rattle.code_model.specs.declared.parts.RelKind.{RelKind}
 use Rattle.code_model.specs.Form.{InOrder, key}
 use Rattle.code_model.specs.Relocs.{HasReloc, Unrelocated}
+use Rattle.code_laws.proofs.GuardRelocs.{none_has}
 
 -- what lies below `low` is below the target, and what lies from `high` on isn't
 pub record IsSplit (relocs : List Reloc) (target low high : ℕ) : Type 0 where
@@ -39,11 +40,11 @@ all_above relocs target m rise inside here k d h within =
 abbrev pub on_word : ℕ → RelKind → Reloc
 on_word at k = record { in_code = true; kind = k; offset = 2 * at }
 
-record IsIndexed (relocs : List Reloc) (at : ℕ) (j : RelKind) (i : ℕ) : Type 0 where
-  inside : i < length relocs
-  is : slice_index_or relocs i (on_word at j) ≡ on_word at j
+pub record IsIndexed (relocs : List Reloc) (at : ℕ) (j : RelKind) (i : ℕ) : Type 0 where
+  pub inside : i < length relocs
+  pub is : slice_index_or relocs i (on_word at j) ≡ on_word at j
 
-indexed : (relocs : List Reloc) (at : ℕ) (j : RelKind) → HasReloc relocs at j → (i : ℕ) × IsIndexed relocs at j i
+pub indexed : (relocs : List Reloc) (at : ℕ) (j : RelKind) → HasReloc relocs at j → (i : ℕ) × IsIndexed relocs at j i
 unfolding HasReloc
 indexed relocs at j h = (h.0, record { inside = h.1; is = h.2 })
 
@@ -58,7 +59,7 @@ got : (relocs : List Reloc) (at : ℕ) (j : RelKind) (i : ℕ) → IsIndexed rel
 got relocs at j i h = let e : slice_get relocs i ≡ Some (slice_index_or relocs i (on_word at j)) = slice_get-get_or relocs i (on_word at j) h.inside in let f = h.is in cc
 
 -- at any default
-key_got : (relocs : List Reloc) (at : ℕ) (j : RelKind) (i : ℕ) (d : Reloc) → IsIndexed relocs at j i → key (slice_index_or relocs i d) ≡ 2 * at
+pub key_got : (relocs : List Reloc) (at : ℕ) (j : RelKind) (i : ℕ) (d : Reloc) → IsIndexed relocs at j i → key (slice_index_or relocs i d) ≡ 2 * at
 key_got relocs at j i d h = ap key (get_or_from_slice_get relocs i (on_word at j) d (got relocs at j i h))
 
 -- the relocations of a word stand at one index
@@ -116,10 +117,6 @@ none_at relocs at index rise below above other j h =
     let e : i ≡ index = at_split relocs at index j i rise below above ii in
     let P : ℕ → Type 0 = λ n. slice_get relocs n ≡ Some (on_word at j) in
     other (on_word at j) (subst P e (got relocs at j i ii)) refl
-
-pub none_has : (relocs : List Reloc) (at : ℕ) (k : RelKind) → Unrelocated relocs at → HasReloc relocs at k → ⊥
-unfolding Unrelocated
-none_has relocs at k none = none k
 
 pub ruleset reloc_rules = none_has
 

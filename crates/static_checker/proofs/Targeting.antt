@@ -1,19 +1,27 @@
 -- Targets by their offsets.
-use Rattle.std.proofs.Common.{◌≡◌, ◌≢◌, ◌↔◌, ℕ, ◌+◌, ◌/◌, ◌%◌, ◌≤◌, ◌<◌, List, arith, sym, subst, ℤ, pos, ◌+ℤ◌, Bool, true, false, not, IsTrue, refl, ◌∙◌, ◌-◌, drop, w16, to_z, of_z, SFits}
+use Rattle.std.proofs.Common.{◌≡◌, ◌≢◌, ◌↔◌, ℕ, zero, suc, [], ◌∷◌, length, ap, inl, inr, ◌+◌, ◌/◌, ◌%◌, ◌≤◌, ◌<◌, List, arith, sym, subst, ℤ, pos, ◌+ℤ◌, Bool, true, false, not, IsTrue, refl, ◌∙◌, drop, w16, to_z, of_z, SFits}
 use Rattle.std.proofs.lemmas.Int.{to_z-of_z}
+use Rattle.std.proofs.lemmas.List.{length-append, length-take}
+use Rattle.std.proofs.lemmas.Bool.{cases_order}
+use Rattle.msp_encode.specs.declared.instr.Src.{Src}
+use Rattle.msp_encode.specs.declared.instr.Src.TheVariants as src
+use Rattle.msp_encode.specs.declared.instr.Dst.{Dst}
+use Rattle.msp_encode.specs.declared.instr.Dst.TheVariants as dst
 use Rattle.msp_encode.specs.declared.instr.Instr.{Instr}
+use Rattle.msp_encode.specs.declared.instr.Instr.TheVariants as instr
+use Rattle.msp_encode.specs.Spelling.{src_words, dst_words, words_after}
 use Rattle.code_model.specs.declared.object.Object.{Object}
 use Rattle.code_model.specs.declared.parts.RelKind.{RelKind}
 use Rattle.kernel_model.specs.Bitmap.{Has}
-use Rattle.code_model.specs.Starts.{Start}
+use Rattle.code_model.specs.Starts.{Begins, Stands}
 use Rattle.code_model.specs.Relocs.{HasReloc, Unrelocated}
 use Rattle.code_model.specs.Guards.{UnitStart, AreUnits}
-use Rattle.code_model.specs.Rules.{IsUnitOffset, IsJumpTarget, IsRightWord, HasWrongReloc, CarriesFrom, Carries}
-use Rattle.code_laws.proofs.Standing.{same_instr}
-use Rattle.static_checker.proofs.Guarding.{not_true}
-use Rattle.static_checker.proofs.Search.{none_has}
+use Rattle.code_model.specs.Rules.{IsUnitOffset, IsJumpTarget, SrcCarries, DstCarries, Carries, IsRightWord, HasWrongReloc}
+use Rattle.code_laws.proofs.Starting.{starts_apart}
+use Rattle.static_checker.proofs.Guarding.{not_true, instr_of}
+use Rattle.code_laws.proofs.GuardRelocs.{none_has}
 use Rattle.static_checker.specs.declared.spot.Spot.{Spot}
-use Rattle.static_checker.specs.Spots.{IsSpot, CarriesBehind}
+use Rattle.static_checker.specs.Spots.{IsStartSpot}
 
 not_both : (b : Bool) → IsTrue (not b) → IsTrue b → ⊥
 not_both true h k = absurd (not_true false refl h)
@@ -55,23 +63,66 @@ no_jump_target o at k fits none (t, unit, e) = none t (omega (arith, unit.0.belo
 
 -- ---- words with relocations
 
-pub carries_at : (o : Object) (start word : ℕ) (k : RelKind) (s : Spot) (b : Bool) → Start o.code start → IsSpot o.code start s → IsTrue b ↔ Carries s.instr word k → IsTrue b ↔ CarriesFrom o start word k
-carries_at o start word k s b begins is iff = (
-  (λ h. record { starts = begins; instr = s.instr; words = s.words; stands = is.stands; carries = iff.0 h }),
-  (λ f. iff.1 (subst (λ (i : Instr). Carries i word k) (same_instr f.instr s.instr (drop start o.code) f.words s.words f.stands is.stands) f.carries)),
-)
+src_one : (s : Src) (k : RelKind) → SrcCarries s k → length (src_words s) ≡ 1
+src_one (src.Immediate x) k h = refl
+src_one (src.Absolute x) k h = refl
+src_one (src.Indexed n x) k h = refl
+src_one (src.Reg n) k h = absurd h
+src_one (src.Symbolic x) k h = absurd h
+src_one (src.Indirect n) k h = absurd h
+src_one (src.AutoInc n) k h = absurd h
+src_one (src.Const c) k h = absurd h
 
-pub carries_behind : (o : Object) (at word : ℕ) (k : RelKind) (b : Bool) → word ≤ at → IsTrue b ↔ CarriesFrom o (at - word) word k → IsTrue b ↔ CarriesBehind o at word k
-carries_behind o at word k b inside iff = (
-  (λ h. record { start = at - word; is = omega arith; from = iff.0 h }),
-  (λ f. let e : f.start ≡ at - word = omega (arith, f.is) in iff.1 (subst (λ (n : ℕ). CarriesFrom o n word k) e f.from)),
-)
+dst_one : (d : Dst) (k : RelKind) → DstCarries d k → length (dst_words d) ≡ 1
+dst_one (dst.Absolute x) k h = refl
+dst_one (dst.Indexed n x) k h = refl
+dst_one (dst.Reg n) k h = absurd h
+dst_one (dst.Symbolic x) k h = absurd h
 
-pub wrong_reloc : (o : Object) (at : ℕ) (k : RelKind) (b : Bool) → HasReloc o.relocs at k → ((i j : RelKind) → HasReloc o.relocs at i → HasReloc o.relocs at j → i ≡ j)
-    → IsTrue b ↔ IsRightWord o at k → IsTrue (not b) ↔ HasWrongReloc o at
-wrong_reloc o at k b has one iff = (
-  (λ h. record { kind = k; has = has; wrong = λ right. not_both b h (iff.1 right) }),
-  (λ w. let e : w.kind ≡ k = one w.kind k w.has has in by_not b (λ h. w.wrong (subst (λ (j : RelKind). IsRightWord o at j) (sym e) (iff.0 h)))),
+carried_in : (i : Instr) (m : ℕ) (k : RelKind) → Carries i m k → m < 1 + length (words_after i)
+carried_in (instr.Two op w s d) m k (inl h) = omega (arith, h.0, src_one s k h.1, length-append (src_words s) (dst_words d))
+carried_in (instr.Two op w s d) m k (inr h) = omega (arith, h.0, dst_one d k h.1, length-append (src_words s) (dst_words d))
+carried_in (instr.One op w s) m k h = omega (arith, h.0, src_one s k h.1)
+carried_in instr.Reti m k h = absurd h
+carried_in (instr.Jump c j) m k h = absurd h
+
+-- a word that may have a relocation is one of the instruction's
+carried : (i : Instr) (m n : ℕ) (k : RelKind) (ws : List ℕ) → Begins ws i n → Carries i m k → m < n
+carried i m zero k ws h c = absurd h.1
+carried i m (suc n) k [] h c = absurd h.1
+carried i m (suc n) k (w ∷ ws) h c = omega (arith, carried_in i m k c, ap length h.1.1, length-take n ws, h.0)
+
+-- an instruction's words have no other start
+owner : (o : Object) (s : Spot) (m : ℕ) (k : RelKind) → IsStartSpot o.code s → m < s.words → IsRightWord o (s.at + m) k → Carries s.instr m k
+owner o s m k is inside right =
+    let f = right.from in
+    let most : right.word < f.words = carried f.instr right.word f.words k (drop right.start o.code) f.stands f.carries in
+    elim (cases_order right.start s.at) [
+      | inl same ↦
+          let word : right.word ≡ m = omega (arith, right.is) in
+          let one : f.instr ≡ s.instr = instr_of o.code s f.instr f.words is (subst (λ (n : ℕ). Stands o.code n f.instr f.words) same f.stands) in
+          subst (λ (n : ℕ). Carries s.instr n k) word (subst (λ (i : Instr). Carries i right.word k) one f.carries)
+      | inr other ↦ elim other [
+        | inl less ↦ absurd (omega (arith, right.is, starts_apart o.code right.start s.at f.instr f.words f.starts f.stands is.start less))
+        | inr more ↦ absurd (omega (arith, right.is, starts_apart o.code s.at right.start s.instr s.words is.start is.is.stands f.starts more))
+      ]
+    ]
+
+right_word : (o : Object) (s : Spot) (m : ℕ) (k : RelKind) → IsStartSpot o.code s → m < s.words → Carries s.instr m k → IsRightWord o (s.at + m) k
+right_word o s m k is inside carries = record {
+  start = s.at;
+  word = m;
+  is = refl;
+  from = record { starts = is.start; instr = s.instr; words = s.words; stands = is.is.stands; carries = carries };
+}
+
+pub wrong_reloc : (o : Object) (s : Spot) (m : ℕ) (k : RelKind) (b : Bool) → IsStartSpot o.code s → m < s.words → HasReloc o.relocs (s.at + m) k
+    → ((i j : RelKind) → HasReloc o.relocs (s.at + m) i → HasReloc o.relocs (s.at + m) j → i ≡ j)
+    → IsTrue b ↔ Carries s.instr m k → IsTrue (not b) ↔ HasWrongReloc o (s.at + m)
+wrong_reloc o s m k b is inside has one iff = (
+  (λ h. record { kind = k; has = has; wrong = λ right. not_both b h (iff.1 (owner o s m k is inside right)) }),
+  (λ w. let e : w.kind ≡ k = one w.kind k w.has has in
+      by_not b (λ h. w.wrong (subst (λ (j : RelKind). IsRightWord o (s.at + m) j) (sym e) (right_word o s m k is inside (iff.0 h))))),
 )
 
 pub no_wrong_reloc : (o : Object) (at : ℕ) → Unrelocated o.relocs at → HasWrongReloc o at → ⊥

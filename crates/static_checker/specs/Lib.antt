@@ -1,4 +1,8 @@
+pub mod Cursors
 pub mod Spots
 pub mod Marked
 pub mod Places
-pub mod Refusals
+pub mod Firsts
+pub mod CodeUnits
+pub mod Advances
+pub mod Passed

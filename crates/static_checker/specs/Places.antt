@@ -4,11 +4,7 @@ use Rattle.code_model.specs.declared.object.Object.{Object}
 use Rattle.code_model.specs.declared.parts.Export.{Export}
 use Rattle.kernel_model.specs.declared.kinds.Kind.TheVariants.{App}
 use Rattle.kernel_model.specs.Bitmap.{Has}
-use Rattle.code_model.specs.Guards.{AreUnits}
 use Rattle.code_model.specs.Rules.{IsNamed}
-use Rattle.static_checker.specs.declared.units.Places.{Places}
-use Rattle.static_checker.specs.Spots.{AreAllStarts}
-use Rattle.static_checker.specs.Marked.{AreCovered}
 
 abbrev pub IsEntry : Object → ℕ → Type 0
 IsEntry o at = (o.kind ≡ App) × (o.entry ≡ 2 * at)
@@ -20,12 +16,6 @@ ExportsAt exports index at = (e : Export) × (index < length exports) × (slice_
 -- the marks are the entry and the exports
 abbrev pub AreNamed : Object → List ℕ → Type 0
 AreNamed o marks = (at : ℕ) → Has marks at ↔ IsNamed o at
-
-pub record ArePlaces (o : Object) (p : Places) : Type 0 where
-  pub all : AreAllStarts o p.starts
-  pub covered : AreCovered o p.covered
-  pub units : AreUnits o p.units
-  pub named : AreNamed o p.named
 
 -- an export below the index has this place
 unfoldable pub ExportedBelow : List Export → (at end : ℕ) → Type 0

@@ -1,53 +1,53 @@
 //! Guards: which instruction a guard may stand before, and whether one does.
 
 ghost use Rattle.std.specs.Prelude.{◌≡◌, ℕ, ◌+◌, ◌<◌, ◌≤◌, ◌↔◌, IsTrue, length};
-ghost use Rattle.code_model.specs.Starts.{AreStarts};
-ghost use Rattle.code_model.specs.Guards.{IsPlainStore, IsStoreForm, IsGrowthForm, IsPopForm, IsSpForm, Serves, Guarded};
-ghost use Rattle.static_checker.specs.Spots.{IsStartSpot, IsBehind};
+ghost use Rattle.code_model.specs.declared.guards.GuardKind.{GuardKind};
+ghost use Rattle.code_model.specs.Guards.{IsPlainStore, IsStoreForm, IsGrowthForm, IsPopForm, IsSpForm, Serves};
+ghost use Rattle.static_checker.specs.Cursors.{IsCursor};
+ghost use Rattle.code_laws.specs.SecondWords.{SecondIs};
+ghost use Rattle.static_checker.specs.CodeUnits.{OnlyKind};
 
+use crate::cursor::{Cursor, unrelocated};
 use crate::forms::{
     changes, dst_is, is_at_r4, is_high, is_mov, is_quiet, is_wide, pops, src_is, src_size, stacks,
     writes,
 };
-use crate::marking::is_marked;
-use crate::relocs::unrelocated;
-use crate::slots::{fit_all, slots};
-use crate::spot::Spot;
-use code_model::guards::{GuardKind, Slot};
-use code_model::marks::Marks;
+use crate::spot::word_at;
+use code_model::guards::GuardKind;
 use code_model::object::Object;
 use msp_encode::instr::{Dst, Instr};
 
-/// Tells whether a guard of this kind stands before the instruction that starts at a spot.
-pub fn is_guarded(o: &Object, starts: &Marks, spot: &Spot, kind: GuardKind) -> bool
-    requires starts { AreStarts o.now.code starts.now }
-    requires spot { IsStartSpot o.now.code spot.now }
-    ensures { IsTrue result ↔ Guarded o.now spot.now.at kind }
+/// The kind of a guard that begins at a start with `MOV SR,R5`, by its second word: a guard that does begin there is of this
+/// kind.
+pub fn kind_at(o: &Object, at: usize) -> GuardKind
+    requires { at < length o.now.code }
+    ensures { OnlyKind o.now at result }
 {
-    serves(kind, o, spot.at, spot.instr) && is_behind(o, starts, spot.at, slots(kind))
+    kind_by(word_at(&o.code, at + 1))
 }
 
-/// Tells whether a place follows on words that fit the slots, the first of them a start.
-fn is_behind(o: &Object, starts: &Marks, at: usize, slots: &[Slot]) -> bool
-    requires starts { AreStarts o.now.code starts.now }
-    requires within { at < length o.now.code }
-    requires few { length slots.now ≤ 13 }
-    ensures { IsTrue result ↔ IsBehind o.now at slots.now }
+/// The kind of the guard that has this second word, if one has.
+fn kind_by(second: u16) -> GuardKind
+    ensures { (g : GuardKind) → SecondIs g second → g ≡ result }
 {
-    if at < slots.len() {
-        return false;
+    match second {
+        // `CMP &x,SP`, `CMP SP,&x` and `CMP &x,R4`
+        0x9211 => GuardKind::Growth,
+        0x9182 => GuardKind::Pop,
+        0x9214 => GuardKind::Sp,
+        _ => GuardKind::Store,
     }
-    let first = at - slots.len();
-    fit_all(o, first, slots) && is_marked(starts, first)
 }
 
 /// Tells whether a guard of this kind may stand before an instruction at a place.
-fn serves(kind: GuardKind, o: &Object, at: usize, i: Instr) -> bool
-    requires { at < 8192 }
+pub fn serves(kind: GuardKind, o: &Object, cursor: Cursor, at: usize, i: Instr) -> bool
+    requires cursor { IsCursor o.now.relocs cursor }
+    requires order { cursor.at ≤ at }
+    requires within { at < 8192 }
     ensures { IsTrue result ↔ Serves kind o.now at i }
 {
     match kind {
-        GuardKind::Store => is_store_form(o, at, i),
+        GuardKind::Store => is_store_form(o, cursor, at, i),
         GuardKind::Growth => is_growth_form(i),
         GuardKind::Pop => is_pop_form(i),
         GuardKind::Sp => is_sp_form(i),
@@ -55,13 +55,15 @@ fn serves(kind: GuardKind, o: &Object, at: usize, i: Instr) -> bool
 }
 
 /// Tells whether an instruction writes 0(R4) as its destination or @R4 as its operand.
-fn is_store_form(o: &Object, at: usize, i: Instr) -> bool
-    requires { at < 8192 }
+fn is_store_form(o: &Object, cursor: Cursor, at: usize, i: Instr) -> bool
+    requires cursor { IsCursor o.now.relocs cursor }
+    requires order { cursor.at ≤ at }
+    requires within { at < 8192 }
     ensures { IsTrue result ↔ IsStoreForm o.now at i }
 {
     match i {
         Instr::Two { op, src, dst, .. } => writes(op)
-            && is_plain_store(o, at + 1 + src_size(src), dst)
+            && is_plain_store(o, cursor, at + 1 + src_size(src), dst)
             && is_quiet(src),
         Instr::One { op, src, .. } => changes(op) && is_at_r4(src),
         _ => false,
@@ -69,12 +71,14 @@ fn is_store_form(o: &Object, at: usize, i: Instr) -> bool
 }
 
 /// Tells whether a destination is 0(R4), and its word, at a place, isn't relocated.
-fn is_plain_store(o: &Object, at: usize, dst: Dst) -> bool
-    requires { at < 32768 }
+fn is_plain_store(o: &Object, cursor: Cursor, at: usize, dst: Dst) -> bool
+    requires cursor { IsCursor o.now.relocs cursor }
+    requires order { cursor.at ≤ at }
+    requires within { at < 32768 }
     ensures { IsTrue result ↔ IsPlainStore o.now at dst }
 {
     match dst {
-        Dst::Indexed(n, x) => n == 4 && x == 0 && unrelocated(o, at),
+        Dst::Indexed(n, x) => n == 4 && x == 0 && unrelocated(o, cursor, at),
         _ => false,
     }
 }

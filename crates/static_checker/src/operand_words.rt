@@ -1,60 +1,27 @@
 //! The rule on the words that may have a relocation.
 
-ghost use Rattle.std.specs.Prelude.{◌≡◌, ℕ, ◌+◌, ◌<◌, ◌≤◌, ◌↔◌, IsTrue, length};
-ghost use Rattle.code_model.specs.Starts.{AreStarts};
-ghost use Rattle.static_checker.specs.Spots.{CarriesBehind};
-ghost use Rattle.code_model.specs.Rules.{IsData, SrcCarries, DstCarries, Carries, CarriesFrom, IsRightWord, HasWrongReloc};
+ghost use Rattle.std.specs.Prelude.{◌≡◌, ◌+◌, ◌<◌, ◌≤◌, ◌↔◌, IsTrue, length};
+ghost use Rattle.code_model.specs.Rules.{IsData, SrcCarries, DstCarries, Carries, HasWrongReloc};
+ghost use Rattle.static_checker.specs.Cursors.{IsCursor};
+ghost use Rattle.static_checker.specs.Spots.{IsStartSpot};
 
+use crate::cursor::{Cursor, reloc_on};
 use crate::forms::src_size;
-use crate::marking::is_marked;
-use crate::relocs::reloc_at;
-use crate::spot::spot_at;
-use code_model::marks::Marks;
+use crate::spot::Spot;
 use code_model::object::Object;
 use code_model::parts::RelKind;
 use msp_encode::instr::{Dst, Instr, Src};
 
-/// Tells whether the word at a place has a relocation that it may not have.
-pub(crate) fn has_wrong_reloc(o: &Object, starts: &Marks, at: usize) -> bool
-    requires starts { AreStarts o.now.code starts.now }
-    requires within { at < length o.now.code }
-    ensures { IsTrue result ↔ HasWrongReloc o.now at }
+/// Tells whether a word of an instruction, counted from 0, has a relocation that it may not have.
+pub(crate) fn has_wrong_reloc(o: &Object, cursor: Cursor, spot: &Spot, word: usize) -> bool
+    requires cursor { IsCursor o.now.relocs cursor }
+    requires order { cursor.at ≤ spot.now.at }
+    requires spot { IsStartSpot o.now.code spot.now }
+    requires within { word < spot.now.words }
+    ensures { IsTrue result ↔ HasWrongReloc o.now (spot.now.at + word) }
 {
-    match reloc_at(o, at) {
-        Some(kind) => !is_right_word(o, starts, at, kind),
-        None => false,
-    }
-}
-
-/// Tells whether the word at a place may have a relocation of this kind: it is the second or third word of an instruction.
-fn is_right_word(o: &Object, starts: &Marks, at: usize, kind: RelKind) -> bool
-    requires starts { AreStarts o.now.code starts.now }
-    requires within { at < length o.now.code }
-    ensures { IsTrue result ↔ IsRightWord o.now at kind }
-{
-    carries_behind(o, starts, at, 1, kind) || carries_behind(o, starts, at, 2, kind)
-}
-
-/// Tells whether an instruction starts so many words before a place and may have such a relocation there.
-fn carries_behind(o: &Object, starts: &Marks, at: usize, word: usize, kind: RelKind) -> bool
-    requires starts { AreStarts o.now.code starts.now }
-    requires within { at < length o.now.code }
-    ensures { IsTrue result ↔ CarriesBehind o.now at word kind }
-{
-    word <= at && carries_from(o, starts, at - word, word, kind)
-}
-
-/// Tells whether an instruction starts at a place and may have such a relocation on this of its words, counted from 0.
-fn carries_from(o: &Object, starts: &Marks, start: usize, word: usize, kind: RelKind) -> bool
-    requires starts { AreStarts o.now.code starts.now }
-    requires within { start < length o.now.code }
-    ensures { IsTrue result ↔ CarriesFrom o.now start word kind }
-{
-    if !is_marked(starts, start) {
-        return false;
-    }
-    match spot_at(&o.code, start) {
-        Some(spot) => carries(spot.instr, word, kind),
+    match reloc_on(o, cursor, spot.at + word) {
+        Some(kind) => !carries(spot.instr, word, kind),
         None => false,
     }
 }

@@ -1,22 +1,27 @@
 //! The rules on registers and the stack: PC, SP, SR, pops and pushes.
 
-ghost use Rattle.std.specs.Prelude.{ℕ, ◌<◌, ◌↔◌, IsTrue};
-ghost use Rattle.code_model.specs.Starts.{AreStarts};
-ghost use Rattle.code_model.specs.Guards.{Guarded};
-ghost use Rattle.code_model.specs.declared.guards.GuardKind.TheVariants as guard;
+ghost use Rattle.std.specs.Prelude.{◌≡◌, ◌<◌, ◌≤◌, ◌↔◌, IsTrue};
+ghost use Rattle.code_model.specs.declared.guards.GuardKind.TheVariants as kind;
+ghost use Rattle.static_checker.specs.Cursors.{IsCursor};
 ghost use Rattle.code_model.specs.Rules.{WritesReg, IsImmediate, IsBranch, NamesFlags, ChangesFlags, ReadsStack, IsPushOrCall};
-ghost use Rattle.static_checker.specs.Spots.{IsStartSpot};
 
+use crate::cursor::{Cursor, unrelocated};
 use crate::forms::{
     const_value, dst_is, is_bis_or_bic, is_flags, is_mov, is_wide, pops, stacks, writes_reg,
 };
-use crate::guards::is_guarded;
-use crate::relocs::unrelocated;
-use crate::spot::Spot;
 use code_model::guards::GuardKind;
-use code_model::marks::Marks;
 use code_model::object::Object;
 use msp_encode::instr::{Instr, Src};
+
+/// Tells whether a guard is of this kind.
+pub(crate) fn is_by(guard: Option<GuardKind>, by: GuardKind) -> bool
+    ensures { IsTrue result ↔ (guard ≡ Some by) }
+{
+    match guard {
+        Some(kind) => kind == by,
+        None => false,
+    }
+}
 
 /// Tells whether PC is written by another instruction than `MOV #imm,PC`.
 pub fn breaks_pc(i: Instr) -> bool
@@ -26,38 +31,34 @@ pub fn breaks_pc(i: Instr) -> bool
 }
 
 /// Tells whether SP is written without its guard.
-pub fn breaks_sp(o: &Object, starts: &Marks, spot: &Spot) -> bool
-    requires starts { AreStarts o.now.code starts.now }
-    requires spot { IsStartSpot o.now.code spot.now }
-    ensures { IsTrue result ↔ (WritesReg spot.now.instr 1 × (Guarded o.now spot.now.at guard.Sp → ⊥)) }
+pub fn breaks_sp(i: Instr, guard: Option<GuardKind>) -> bool
+    ensures { IsTrue result ↔ (WritesReg i 1 × (guard ≡ Some kind.Sp → ⊥)) }
 {
-    writes_reg(spot.instr, 1) && !is_guarded(o, starts, spot, GuardKind::Sp)
+    writes_reg(i, 1) && !is_by(guard, GuardKind::Sp)
 }
 
 /// Tells whether more of SR than the flags is written.
-pub fn breaks_sr(o: &Object, at: usize, i: Instr) -> bool
-    requires { at < 8192 }
+pub fn breaks_sr(o: &Object, cursor: Cursor, at: usize, i: Instr) -> bool
+    requires cursor { IsCursor o.now.relocs cursor }
+    requires order { cursor.at ≤ at }
+    requires within { at < 8192 }
     ensures { IsTrue result ↔ (WritesReg i 2 × (ChangesFlags o.now at i → ⊥)) }
 {
-    writes_reg(i, 2) && !changes_flags(o, at, i)
+    writes_reg(i, 2) && !changes_flags(o, cursor, at, i)
 }
 
 /// Tells whether the stack is popped without a guard.
-pub fn breaks_pop(o: &Object, starts: &Marks, spot: &Spot) -> bool
-    requires starts { AreStarts o.now.code starts.now }
-    requires spot { IsStartSpot o.now.code spot.now }
-    ensures { IsTrue result ↔ (ReadsStack spot.now.instr × (Guarded o.now spot.now.at guard.Pop → ⊥)) }
+pub fn breaks_pop(i: Instr, guard: Option<GuardKind>) -> bool
+    ensures { IsTrue result ↔ (ReadsStack i × (guard ≡ Some kind.Pop → ⊥)) }
 {
-    reads_stack(spot.instr) && !is_guarded(o, starts, spot, GuardKind::Pop)
+    reads_stack(i) && !is_by(guard, GuardKind::Pop)
 }
 
 /// Tells whether the stack is pushed without a guard.
-pub fn breaks_push(o: &Object, starts: &Marks, spot: &Spot) -> bool
-    requires starts { AreStarts o.now.code starts.now }
-    requires spot { IsStartSpot o.now.code spot.now }
-    ensures { IsTrue result ↔ (IsPushOrCall spot.now.instr × (Guarded o.now spot.now.at guard.Growth → ⊥)) }
+pub fn breaks_push(i: Instr, guard: Option<GuardKind>) -> bool
+    ensures { IsTrue result ↔ (IsPushOrCall i × (guard ≡ Some kind.Growth → ⊥)) }
 {
-    is_push_or_call(spot.instr) && !is_guarded(o, starts, spot, GuardKind::Growth)
+    is_push_or_call(i) && !is_by(guard, GuardKind::Growth)
 }
 
 /// Tells whether an instruction is `MOV #imm,PC`.
@@ -83,26 +84,30 @@ fn is_immediate(src: Src) -> bool
 }
 
 /// Tells whether an instruction at a place changes flags alone, by a named mask.
-fn changes_flags(o: &Object, at: usize, i: Instr) -> bool
-    requires { at < 8192 }
+fn changes_flags(o: &Object, cursor: Cursor, at: usize, i: Instr) -> bool
+    requires cursor { IsCursor o.now.relocs cursor }
+    requires order { cursor.at ≤ at }
+    requires within { at < 8192 }
     ensures { IsTrue result ↔ ChangesFlags o.now at i }
 {
     match i {
         Instr::Two { op, width, src, .. } => is_bis_or_bic(op)
             && is_wide(width)
-            && names_flags(o, at, src),
+            && names_flags(o, cursor, at, src),
         _ => false,
     }
 }
 
 /// Tells whether the source of an instruction at a place is a constant or an unrelocated immediate within the flags.
-fn names_flags(o: &Object, at: usize, src: Src) -> bool
-    requires { at < 8192 }
+fn names_flags(o: &Object, cursor: Cursor, at: usize, src: Src) -> bool
+    requires cursor { IsCursor o.now.relocs cursor }
+    requires order { cursor.at ≤ at }
+    requires within { at < 8192 }
     ensures { IsTrue result ↔ NamesFlags o.now at src }
 {
     match src {
         Src::Const(constant) => is_flags(const_value(constant)),
-        Src::Immediate(x) => unrelocated(o, at + 1) && is_flags(x),
+        Src::Immediate(x) => unrelocated(o, cursor, at + 1) && is_flags(x),
         _ => false,
     }
 }

@@ -1,4 +1,5 @@
-//! The relocations of code words, found by a binary search.
+//! The relocation of a code word at any place, found by a binary search. The checker itself reads them along its passes
+//! (`cursor`).
 
 ghost use Rattle.std.specs.Prelude.{◌≡◌, ◌≢◌, ℕ, ◌*◌, ◌<◌, ◌≤◌, ◌↔◌, length, slice_index_or, IsTrue, true, MatchOption};
 ghost use Rattle.code_model.specs.declared.parts.Reloc.{Reloc};
@@ -9,18 +10,6 @@ ghost use Rattle.code_model.specs.Relocs.{HasReloc, Unrelocated};
 use code_model::lists::Relocs;
 use code_model::object::Object;
 use code_model::parts::{RelKind, Reloc};
-
-/// Tells whether the code word at a place has a relocation of this kind.
-#[tactic(auto, using(crate::proofs::Search::reloc_rules))]
-pub fn has_reloc(o: &Object, at: usize, kind: RelKind) -> bool
-    requires { at < 32768 }
-    ensures { IsTrue result ↔ HasReloc o.now.relocs at kind }
-{
-    match reloc_at(o, at) {
-        Some(found) => found == kind,
-        None => false,
-    }
-}
 
 /// Tells whether the code word at a place has no relocation.
 #[tactic(auto, using(crate::proofs::Search::reloc_rules))]
@@ -46,7 +35,7 @@ pub fn reloc_at(o: &Object, at: usize) -> Option<RelKind>
 }
 
 /// The kind of a relocation, if it stands on the code word at this offset.
-fn kind_at(r: &Reloc, offset: usize) -> Option<RelKind>
+pub(crate) fn kind_at(r: &Reloc, offset: usize) -> Option<RelKind>
     requires { offset < 65536 }
     ensures { MatchOption result (key r.now ≢ offset) (λ k. r.now ≡ record { in_code = true; kind = k; offset = offset }) }
 {
@@ -89,7 +78,7 @@ fn is_below(relocs: &Relocs, index: usize, target: usize) -> bool
 }
 
 /// What relocations are ordered by.
-fn key(r: &Reloc) -> usize
+pub(crate) fn key(r: &Reloc) -> usize
     ensures { result ≡ key r.now }
 {
     if r.in_code {

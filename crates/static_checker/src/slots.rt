@@ -1,16 +1,19 @@
 //! The words of guards.
 
-ghost use Rattle.std.specs.Prelude.{◌≡◌, ℕ, ◌+◌, ◌<◌, ◌≤◌, ◌↔◌, IsTrue, length};
-ghost use Rattle.code_model.specs.Guards.{IsLoad, Takes, Fits, FitAll, guard_words};
+ghost use Rattle.std.specs.Prelude.{◌≡◌, ℕ, ◌+◌, ◌<◌, ◌≤◌, ◌↔◌, IsTrue, slice_get};
+ghost use Rattle.code_model.specs.Guards.{IsLoad, Takes, Fits, guard_words};
+ghost use Rattle.static_checker.specs.Cursors.{IsCursor};
 
-use crate::relocs::{has_reloc, unrelocated};
+use crate::cursor::{Cursor, has_reloc, unrelocated};
 use crate::spot::word_at;
 use code_model::guards::{GuardKind, Slot};
 use code_model::object::Object;
 use code_model::parts::RelKind;
 
-/// `MOV SR,R5`.
-const SAVES: Slot = Slot::Word(0x4205);
+/// The first word of each guard, `MOV SR,R5`.
+pub const FIRST_WORD: u16 = 0x4205;
+
+const SAVES: Slot = Slot::Word(FIRST_WORD);
 
 /// `MOV R5,SR`.
 const RESTORES: Slot = Slot::Word(0x4502);
@@ -68,7 +71,7 @@ static SP: [Slot; 10] = [
 ];
 
 /// The words of a guard.
-pub fn slots(kind: GuardKind) -> &'static [Slot]
+fn slots(kind: GuardKind) -> &'static [Slot]
     ensures { result.now ≡ guard_words kind }
 {
     match kind {
@@ -79,36 +82,36 @@ pub fn slots(kind: GuardKind) -> &'static [Slot]
     }
 }
 
-/// Tells whether the words from a place on fit the slots.
-pub fn fit_all(o: &Object, at: usize, slots: &[Slot]) -> bool
-    requires { at + length slots.now < 32768 }
-    ensures { IsTrue result ↔ FitAll o.now at slots.now }
+/// The word of a guard at an index, counted from 0. None exactly behind its last.
+pub fn slot(kind: GuardKind, index: usize) -> Option<Slot>
+    ensures { result ≡ slice_get (guard_words kind) index }
 {
-    match slots {
-        [] => true,
-        [first, rest @ ..] => fits(o, at, *first) && fit_all(o, at + 1, rest),
-    }
+    slots(kind).get(index).copied()
 }
 
 /// Tells whether there is a word at a place that the slot takes.
-fn fits(o: &Object, at: usize, slot: Slot) -> bool
-    requires { at < 32768 }
+pub fn fits(o: &Object, cursor: Cursor, at: usize, slot: Slot) -> bool
+    requires cursor { IsCursor o.now.relocs cursor }
+    requires order { cursor.at ≤ at }
+    requires within { at < 32768 }
     ensures { IsTrue result ↔ Fits o.now at slot }
 {
-    at < o.code.len() && takes(o, at, word_at(&o.code, at), slot)
+    at < o.code.len() && takes(o, cursor, at, word_at(&o.code, at), slot)
 }
 
 /// Tells whether the slot takes the word at a place.
-fn takes(o: &Object, at: usize, word: u16, slot: Slot) -> bool
-    requires { at < 32768 }
+fn takes(o: &Object, cursor: Cursor, at: usize, word: u16, slot: Slot) -> bool
+    requires cursor { IsCursor o.now.relocs cursor }
+    requires order { cursor.at ≤ at }
+    requires within { at < 32768 }
     ensures { IsTrue result ↔ Takes o.now at word slot }
 {
     match slot {
-        Slot::Word(value) => word == value && unrelocated(o, at),
-        Slot::Load => is_load(word) && unrelocated(o, at),
+        Slot::Word(value) => word == value && unrelocated(o, cursor, at),
+        Slot::Load => is_load(word) && unrelocated(o, cursor, at),
         Slot::Free => true,
-        Slot::Low => word == 0 && has_reloc(o, at, RelKind::Lo),
-        Slot::High => word == 0 && has_reloc(o, at, RelKind::Hi),
+        Slot::Low => word == 0 && has_reloc(o, cursor, at, RelKind::Lo),
+        Slot::High => word == 0 && has_reloc(o, cursor, at, RelKind::Hi),
     }
 }
 

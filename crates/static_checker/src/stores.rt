@@ -1,40 +1,36 @@
 //! The rules on written memory.
 
-ghost use Rattle.std.specs.Prelude.{ℕ, ◌<◌, ◌↔◌, IsTrue};
-ghost use Rattle.code_model.specs.Starts.{AreStarts};
-ghost use Rattle.code_model.specs.Guards.{Guarded};
-ghost use Rattle.code_model.specs.declared.guards.GuardKind.TheVariants as guard;
+ghost use Rattle.std.specs.Prelude.{◌≡◌, ◌<◌, ◌≤◌, ◌↔◌, IsTrue};
+ghost use Rattle.code_model.specs.declared.guards.GuardKind.TheVariants as kind;
 ghost use Rattle.code_model.specs.Rules.{IsMemoryDst, IsMemorySrc, WritesMemory, InStatic, IsWildDst, IsWildSrc, WritesWild};
-ghost use Rattle.static_checker.specs.Spots.{IsStartSpot};
+ghost use Rattle.static_checker.specs.Cursors.{IsCursor};
 
+use crate::cursor::{Cursor, has_reloc};
 use crate::forms::{changes, src_size, writes};
-use crate::guards::is_guarded;
-use crate::relocs::has_reloc;
-use crate::spot::Spot;
+use crate::registers::is_by;
 use code_model::guards::GuardKind;
-use code_model::marks::Marks;
 use code_model::object::Object;
 use code_model::parts::RelKind;
 use msp_encode::instr::{Dst, Instr, Src};
 
 /// Tells whether memory is written through an indexed, symbolic or indirect operand without a guard.
-pub fn breaks_store(o: &Object, starts: &Marks, spot: &Spot) -> bool
-    requires starts { AreStarts o.now.code starts.now }
-    requires spot { IsStartSpot o.now.code spot.now }
-    ensures { IsTrue result ↔ (WritesMemory spot.now.instr × (Guarded o.now spot.now.at guard.Store → ⊥)) }
+pub fn breaks_store(i: Instr, guard: Option<GuardKind>) -> bool
+    ensures { IsTrue result ↔ (WritesMemory i × (guard ≡ Some kind.Store → ⊥)) }
 {
-    writes_memory(spot.instr) && !is_guarded(o, starts, spot, GuardKind::Store)
+    writes_memory(i) && !is_by(guard, GuardKind::Store)
 }
 
 /// Tells whether an instruction at a place writes an absolute operand that isn't in the static part.
-pub fn writes_wild(o: &Object, at: usize, i: Instr) -> bool
-    requires { at < 8192 }
+pub fn writes_wild(o: &Object, cursor: Cursor, at: usize, i: Instr) -> bool
+    requires cursor { IsCursor o.now.relocs cursor }
+    requires order { cursor.at ≤ at }
+    requires within { at < 8192 }
     ensures { IsTrue result ↔ WritesWild o.now at i }
 {
     match i {
         Instr::Two { op, src, dst, .. } => writes(op)
-            && is_wild_dst(o, at + 1 + src_size(src), dst),
-        Instr::One { op, src, .. } => changes(op) && is_wild_src(o, at + 1, src),
+            && is_wild_dst(o, cursor, at + 1 + src_size(src), dst),
+        Instr::One { op, src, .. } => changes(op) && is_wild_src(o, cursor, at + 1, src),
         _ => false,
     }
 }
@@ -66,31 +62,37 @@ fn is_memory_src(src: Src) -> bool
 }
 
 /// Tells whether a destination, whose word is at a place, is absolute and not in the static part.
-fn is_wild_dst(o: &Object, at: usize, dst: Dst) -> bool
-    requires { at < 32768 }
+fn is_wild_dst(o: &Object, cursor: Cursor, at: usize, dst: Dst) -> bool
+    requires cursor { IsCursor o.now.relocs cursor }
+    requires order { cursor.at ≤ at }
+    requires within { at < 32768 }
     ensures { IsTrue result ↔ IsWildDst o.now at dst }
 {
     match dst {
-        Dst::Absolute(x) => !in_static(o, at, x),
+        Dst::Absolute(x) => !in_static(o, cursor, at, x),
         _ => false,
     }
 }
 
 /// Tells whether a source, whose word is at a place, is absolute and not in the static part.
-fn is_wild_src(o: &Object, at: usize, src: Src) -> bool
-    requires { at < 32768 }
+fn is_wild_src(o: &Object, cursor: Cursor, at: usize, src: Src) -> bool
+    requires cursor { IsCursor o.now.relocs cursor }
+    requires order { cursor.at ≤ at }
+    requires within { at < 32768 }
     ensures { IsTrue result ↔ IsWildSrc o.now at src }
 {
     match src {
-        Src::Absolute(x) => !in_static(o, at, x),
+        Src::Absolute(x) => !in_static(o, cursor, at, x),
         _ => false,
     }
 }
 
 /// Tells whether the word at a place is the address of a byte of the static part.
-fn in_static(o: &Object, at: usize, word: u16) -> bool
-    requires { at < 32768 }
+fn in_static(o: &Object, cursor: Cursor, at: usize, word: u16) -> bool
+    requires cursor { IsCursor o.now.relocs cursor }
+    requires order { cursor.at ≤ at }
+    requires within { at < 32768 }
     ensures { IsTrue result ↔ InStatic o.now at word }
 {
-    has_reloc(o, at, RelKind::Data) && word < o.static_bytes()
+    has_reloc(o, cursor, at, RelKind::Data) && word < o.static_bytes()
 }

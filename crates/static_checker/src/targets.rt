@@ -4,26 +4,29 @@ ghost use Rattle.std.specs.Prelude.{◌≡◌, ℕ, ◌+◌, ◌*◌, ◌<◌, �
 ghost use Rattle.code_model.specs.declared.parts.RelKind.TheVariants.{Code};
 ghost use Rattle.code_model.specs.Relocs.{HasReloc};
 ghost use Rattle.code_model.specs.Guards.{UnitStart, AreUnits};
+ghost use Rattle.static_checker.specs.Cursors.{IsCursor};
 ghost use Rattle.code_model.specs.Rules.{IsJumpEntry, IsCallEntry, IsUnitOffset, IsBranchTarget, IsCallTarget, GoesAstray, IsJumpTarget, JumpsAstray, RunsOff};
 
+use crate::cursor::{Cursor, has_reloc, unrelocated};
 use crate::forms::{is_call, is_jmp};
 use crate::marking::{is_marked, jump_place};
 use crate::registers::is_branch;
-use crate::relocs::{has_reloc, unrelocated};
 use code_model::marks::Marks;
 use code_model::object::Object;
 use code_model::parts::{Kind, RelKind};
 use msp_encode::instr::{Instr, Src};
 
 /// Tells whether an instruction at a place is a branch or a call without an allowed target.
-pub fn goes_astray(o: &Object, units: &Marks, at: usize, i: Instr) -> bool
+pub fn goes_astray(o: &Object, cursor: Cursor, units: &Marks, at: usize, i: Instr) -> bool
+    requires cursor { IsCursor o.now.relocs cursor }
+    requires order { cursor.at ≤ at }
     requires units { AreUnits o.now units.now }
     requires within { at < 8192 }
     ensures { IsTrue result ↔ GoesAstray o.now at i }
 {
     match i {
-        Instr::Two { src, .. } => is_branch(i) && !is_branch_target(o, units, at + 1, src),
-        Instr::One { op, src, .. } => is_call(op) && !is_call_target(o, units, at + 1, src),
+        Instr::Two { src, .. } => is_branch(i) && !is_branch_target(o, cursor, units, at + 1, src),
+        Instr::One { op, src, .. } => is_call(op) && !is_call_target(o, cursor, units, at + 1, src),
         _ => false,
     }
 }
@@ -49,38 +52,44 @@ pub fn runs_off(o: &Object, at: usize, i: Instr, words: usize) -> bool
 }
 
 /// Tells whether a branch's operand, whose word is at a place, is an allowed target.
-fn is_branch_target(o: &Object, units: &Marks, at: usize, src: Src) -> bool
+fn is_branch_target(o: &Object, cursor: Cursor, units: &Marks, at: usize, src: Src) -> bool
+    requires cursor { IsCursor o.now.relocs cursor }
+    requires order { cursor.at ≤ at }
     requires units { AreUnits o.now units.now }
     requires within { at < 32768 }
     ensures { IsTrue result ↔ IsBranchTarget o.now at src }
 {
     match src {
-        Src::Immediate(x) => is_code_target(o, units, at, x)
-            || (unrelocated(o, at) && is_jump_entry(o.kind, x)),
+        Src::Immediate(x) => is_code_target(o, cursor, units, at, x)
+            || (unrelocated(o, cursor, at) && is_jump_entry(o.kind, x)),
         _ => false,
     }
 }
 
 /// Tells whether a call's operand, whose word is at a place, is an allowed target.
-fn is_call_target(o: &Object, units: &Marks, at: usize, src: Src) -> bool
+fn is_call_target(o: &Object, cursor: Cursor, units: &Marks, at: usize, src: Src) -> bool
+    requires cursor { IsCursor o.now.relocs cursor }
+    requires order { cursor.at ≤ at }
     requires units { AreUnits o.now units.now }
     requires within { at < 32768 }
     ensures { IsTrue result ↔ IsCallTarget o.now at src }
 {
     match src {
-        Src::Immediate(x) => is_code_target(o, units, at, x)
-            || (unrelocated(o, at) && is_call_entry(o.kind, x)),
+        Src::Immediate(x) => is_code_target(o, cursor, units, at, x)
+            || (unrelocated(o, cursor, at) && is_call_entry(o.kind, x)),
         _ => false,
     }
 }
 
 /// Tells whether the word at a place is the offset of a unit start, to which the code's address is added.
-fn is_code_target(o: &Object, units: &Marks, at: usize, word: u16) -> bool
+fn is_code_target(o: &Object, cursor: Cursor, units: &Marks, at: usize, word: u16) -> bool
+    requires cursor { IsCursor o.now.relocs cursor }
+    requires order { cursor.at ≤ at }
     requires units { AreUnits o.now units.now }
     requires within { at < 32768 }
     ensures { IsTrue result ↔ (HasReloc o.now.relocs at Code × IsUnitOffset o.now word) }
 {
-    has_reloc(o, at, RelKind::Code) && is_unit_offset(o, units, word)
+    has_reloc(o, cursor, at, RelKind::Code) && is_unit_offset(o, units, word)
 }
 
 /// Tells whether a word is the offset of a unit start.

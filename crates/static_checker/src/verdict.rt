@@ -1,19 +1,18 @@
 //! The verdict on an object.
 
-ghost use Rattle.std.specs.Prelude.{ℕ, ◌<◌, length, MatchOption};
-ghost use Rattle.code_model.specs.declared.rules.Rule.{Rule};
+ghost use Rattle.std.specs.Prelude.{ℕ, ◌<◌, ◌↔◌, length, IsTrue};
 ghost use Rattle.code_model.specs.declared.verdict.Verdict.{Verdict};
-ghost use Rattle.code_model.specs.Rules.{Refuses};
-ghost use Rattle.code_model.specs.Verdicts.{IsVerdict, IsAcceptance, SameVerdict};
+ghost use Rattle.code_model.specs.Verdicts.{IsVerdict, IsAcceptance, SameVerdict, Precedes};
 ghost use Rattle.code_model.specs.Dangers.{DangersGuarded};
-ghost use Rattle.static_checker.specs.Places.{ArePlaces};
-ghost use Rattle.static_checker.specs.Refusals.{IsFirstRefusal};
+ghost use Rattle.static_checker.specs.Firsts.{IsLocal, IsLanding, IsChecked, FirstIn};
+ghost use Rattle.static_checker.specs.Passed.{IsWhole};
 
+use crate::landing::first_landing;
 use crate::marking::offset;
-use crate::rules::{first_rule, rule_number};
-use crate::units::{Places, find_places};
+use crate::pass::{Pass, pass_over};
+use crate::refusal::Refusal;
+use crate::rules::rule_number;
 use code_model::object::Object;
-use code_model::rules::Rule;
 use code_model::verdict::Verdict;
 
 /// The verdict on an object: accepted, with the marks of its unit starts, or refused by a rule, 1 to 14, at an offset in
@@ -31,46 +30,56 @@ pub fn check(o: &Object) -> Verdict
 fn verdict(o: &Object) -> Verdict
     ensures { IsVerdict o.now result }
 {
-    match find_places(o) {
+    match pass_over(o) {
         Err(at) => Verdict::Refused {
             rule: 1,
             place: offset(at),
         },
-        Ok(places) => judge(o, places),
+        Ok(pass) => judge(o, pass),
     }
 }
 
 /// The verdict on an object whose instructions are all spelled.
-fn judge(o: &Object, places: Places) -> Verdict
-    requires { ArePlaces o.now places }
+fn judge(o: &Object, pass: Pass) -> Verdict
+    requires { IsWhole o.now pass }
     ensures { IsVerdict o.now result }
 {
-    match first_refusal(o, &places) {
+    let landing = first_landing(o, &pass);
+    match lesser(o, pass.first, landing) {
         Some(refusal) => Verdict::Refused {
             rule: rule_number(refusal.rule),
             place: offset(refusal.at),
         },
-        None => Verdict::Accepted(places.units),
+        None => Verdict::Accepted(pass.units),
     }
 }
 
-/// A rule and the place that it refuses.
-#[derive(Clone, Copy, Drop)]
-struct Refusal {
-    at: usize,
-    rule: Rule,
-}
-
-/// The least place that a rule refuses, and the least rule there. None exactly where nothing is refused.
-fn first_refusal(o: &Object, places: &Places) -> Option<Refusal>
-    requires { ArePlaces o.now places.now }
-    ensures { MatchOption result ((b : ℕ) (s : Rule) → Refuses s o.now b → ⊥) (λ r. IsFirstRefusal o.now r) }
+/// The lesser of two refusals, by place and then by rule.
+fn lesser(o: &Object, local: Option<Refusal>, landing: Option<Refusal>) -> Option<Refusal>
+    requires local { FirstIn o.now IsLocal 0 (length o.now.code) local }
+    requires landing { FirstIn o.now IsLanding 0 (length o.now.code) landing }
+    ensures { FirstIn o.now IsChecked 0 (length o.now.code) result }
 {
-    for at in 0..o.code.len() {
-        match first_rule(o, places, at) {
-            Some(rule) => return Some(Refusal { at, rule }),
-            None => {}
-        }
+    match local {
+        None => match landing {
+            None => None,
+            Some(other) => Some(other),
+        },
+        Some(first) => match landing {
+            None => Some(first),
+            Some(other) => if precedes(first, other) {
+                Some(first)
+            } else {
+                Some(other)
+            },
+        },
     }
-    None
+}
+
+/// Tells whether a refusal comes before another, by place and then by rule.
+fn precedes(first: Refusal, other: Refusal) -> bool
+    ensures { IsTrue result ↔ Precedes first.at first.rule other.at other.rule }
+{
+    first.at < other.at
+        || (first.at == other.at && rule_number(first.rule) <= rule_number(other.rule))
 }

@@ -1,0 +1,120 @@
+//! The pass over the code, from unit to unit.
+//!
+//! Its state has a fixed size: the place, the index of the next relocation, the guard that is begun there with the number of
+//! its words so far, two bitmaps, and the first refusal. All that it has found is of the places gone by.
+
+ghost use Rattle.std.specs.Prelude.{◌≡◌, ℕ, ◌+◌, ◌<◌, ◌≤◌, ◌↔◌, IsTrue, length, MatchResult};
+ghost use Rattle.kernel_model.specs.Bitmap.{Has};
+ghost use Rattle.code_model.specs.Starts.{Bad};
+ghost use Rattle.static_checker.specs.Cursors.{IsCursor};
+ghost use Rattle.static_checker.specs.Firsts.{IsLocal, FirstIn};
+ghost use Rattle.static_checker.specs.Marked.{Adds};
+ghost use Rattle.static_checker.specs.CodeUnits.{IsUnitSpot, IsCodeUnit, IsTransfer};
+ghost use Rattle.static_checker.specs.Passed.{IsPassed, IsWhole};
+
+use crate::code_units::{Advance, BegunGuard, CodeUnit, advance_from};
+use crate::cursor::{Cursor, at_start, go_to};
+use crate::forms::is_call;
+use crate::local::first_refusal;
+use crate::marking::mark;
+use crate::refusal::Refusal;
+use crate::registers::is_branch;
+use code_model::marks::Marks;
+use code_model::object::Object;
+use msp_encode::instr::Instr;
+
+/// How far the pass over the code has come, and what it found there.
+#[derive(Drop)]
+pub struct Pass {
+    /// The place that it has come to, the first of a unit.
+    pub cursor: Cursor,
+    /// The guard that is begun there, if one is.
+    pub begun: Option<BegunGuard>,
+    /// The unit starts gone by.
+    pub units: Marks,
+    /// The places gone by of jumps, branches and calls that are none of a guard's own.
+    pub transfers: Marks,
+    /// The first refusal at the places gone by, by the rules that need no target.
+    pub first: Option<Refusal>,
+}
+
+/// The pass over the whole code, or the place where it stops, since no instruction stands there.
+pub fn pass_over(o: &Object) -> Result<Pass, usize>
+    ensures { MatchResult result (λ p. IsWhole o.now p) (λ at. Bad o.now.code at) }
+{
+    let cursor = at_start();
+    let units = Marks::new();
+    let transfers = Marks::new();
+    let mut pass = Pass {
+        cursor,
+        begun: None,
+        units,
+        transfers,
+        first: None,
+    };
+    while pass.cursor.at < o.code.len() {
+        match advance_from(o, pass.cursor, pass.begun) {
+            Advance::Word(begun) => pass.begun = Some(begun),
+            Advance::Whole(unit) => pass_unit(o, &mut pass, &unit),
+            Advance::Stop => return Err(pass.cursor.at),
+        }
+    }
+    Ok(pass)
+}
+
+/// Goes over one unit: its first place is a unit start, and its instruction meets the rules or not.
+fn pass_unit(o: &Object, pass: &mut Pass, unit: &CodeUnit)
+    requires passed { IsPassed o.now pass.old }
+    requires unit { IsCodeUnit o.now pass.old.cursor.at unit.now }
+    ensures passed { IsPassed o.now pass.new }
+    ensures further { pass.old.cursor.at < pass.new.cursor.at }
+    ensures free { pass.new.begun ≡ None }
+{
+    let here = go_to(o, pass.cursor, unit.spot.at);
+    mark(&mut pass.units, pass.cursor.at);
+    mark_transfer(&mut pass.transfers, unit.spot.at, unit.spot.instr);
+    pass.begun = None;
+    pass.first = first_through(o, here, pass.first, unit);
+    pass.cursor = go_to(o, here, unit.spot.at + unit.spot.words);
+}
+
+/// Marks the place of a jump, a branch or a call.
+fn mark_transfer(transfers: &mut Marks, at: usize, i: Instr)
+    requires { at < 8192 }
+    ensures { Adds transfers.old transfers.new (λ k. (k ≡ at) × IsTransfer i) }
+{
+    if is_transfer(i) {
+        mark(transfers, at);
+    }
+}
+
+/// Tells whether an instruction is a jump, a branch or a call.
+fn is_transfer(i: Instr) -> bool
+    ensures { IsTrue result ↔ IsTransfer i }
+{
+    match i {
+        Instr::Two { .. } => is_branch(i),
+        Instr::One { op, .. } => is_call(op),
+        Instr::Jump { .. } => true,
+        Instr::Reti => false,
+    }
+}
+
+/// The first refusal before a unit, or else the first on its instruction.
+fn first_through(
+    o: &Object,
+    cursor: Cursor,
+    first: Option<Refusal>,
+    unit: &CodeUnit,
+) -> Option<Refusal>
+    requires cursor { IsCursor o.now.relocs cursor }
+    requires at { cursor.at ≡ unit.now.spot.at }
+    requires here { IsUnitSpot o.now unit.now }
+    requires first { FirstIn o.now IsLocal 0 unit.now.spot.at first }
+    ensures { FirstIn o.now IsLocal 0 (unit.now.spot.at + unit.now.spot.words) result }
+{
+    match first {
+        Some(refusal) => Some(refusal),
+        None => first_refusal(o, cursor, unit),
+    }
+}
