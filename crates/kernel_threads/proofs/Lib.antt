@@ -11,3 +11,5 @@ pub mod FoldLemmas
 pub mod EndingLemmas
 pub mod ExitLemmas
 pub mod FixtureLemmas
+pub mod WakingSteps
+pub mod TickLemmas

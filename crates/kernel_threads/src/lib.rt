@@ -15,17 +15,21 @@ mod ending;
 mod entries;
 pub mod laws;
 mod leaving;
+mod lines;
 mod returning;
 mod stacks;
 mod starting;
+mod time;
 
 pub use dispatching::{dispatch, save, to_end, to_front};
 pub use ending::{end_app, exit};
 pub use entries::{set_priority, spawn};
 pub use kernel_model::code::Code;
 pub use kernel_model::ends::AppEnd;
+pub use lines::{wait_line, wake_line};
 pub use returning::{jump, take_return};
 pub use starting::start;
+pub use time::{sleep, tick};
 
 #[cfg(test)]
 mod tests;

@@ -1,8 +1,8 @@
 -- Threads that go to the end of the ready list one after another, and who they are.
 use Rattle.std.proofs.Common.{◌≡◌, ◌≢◌, ◌⊎◌, ℕ, zero, suc, ◌+◌, ◌-◌, ◌*◌, ◌/◌, ◌%◌, ◌<◌, ◌≤◌, Bool, true, false, not, cond, eqb, ltb, leb, List, [], ◌∷◌, ◌++◌, length, get_or, take, drop, min, refl, ap, sym, ◌∙◌, subst, ⊎_elim, arith, insert, length-drop, length-set, inl, inr, append_assoc, All, AllPairs, Contains}
 use Rattle.std.specs.List.{filter, position_or_len, prefix_len}
-use Rattle.std.proofs.lemmas.Bool.{cases_eq, cases_Bool, ne_eqb, eqb-true, lt-leb}
-use Rattle.std.proofs.lemmas.List.{append-nil, take-append-drop, get_or-take, get_or-drop, get_or-set_same, get_or-set_other, length-take}
+use Rattle.std.proofs.lemmas.Bool.{cases_eq, cases_lt, ne_eqb, eqb-true}
+use Rattle.std.proofs.lemmas.List.{append-nil, take-append-drop, get_or-take, get_or-drop, get_or-set_same, get_or-set_other, set_past, length-take}
 use Rattle.std.proofs.lemmas.List.Elements.{filter-append, All-contains, All-head, All-tail, Contains-get_or, Contains-append_left, Contains-append_right}
 use Rattle.std.proofs.lemmas.List.Sums.{prefix_len-le-length, prefix_len_passes}
 use Rattle.kernel_model.specs.Kernel.{Kernel, thread_at, with_thread, free_thread}
@@ -10,7 +10,7 @@ use Rattle.kernel_model.specs.Words.{priority_of, ready_row}
 use Rattle.kernel_model.specs.Queues.{at_end, to_ready_end}
 use Rattle.kernel_model.specs.declared.rows.ThreadRow.{ThreadRow}
 use Rattle.kernel_model.specs.Waking.{each_to_end}
-use Rattle.thread_laws.specs.Wakings.{of_priority, Wakes, AreUnlisted}
+use Rattle.thread_laws.specs.Wakings.{of_priority, Wakes, NextLaw}
 use Rattle.thread_laws.proofs.Filtered.{filter_whole, filter_nothing}
 use Rattle.thread_laws.proofs.ListEdits.{insert_from, all_pairs_insert, none_in}
 use Rattle.thread_laws.proofs.MovingReady.{before_end, behind_end}
@@ -81,13 +81,16 @@ end_by_priority k t h =
     (λ n d on l. let low = behind_end k t h n d on l in omega arith)
 
 -- a row that wakes keeps its priority
-priority_same : (k : Kernel) (t u : ℕ) → t < length k.threads → priority_of (with_thread k t (ready_row (thread_at k t))) u ≡ priority_of k u
-priority_same k t u l =
+priority_same : (k : Kernel) (t u : ℕ) → priority_of (with_thread k t (ready_row (thread_at k t))) u ≡ priority_of k u
+priority_same k t u =
+    let row : ThreadRow = ready_row (thread_at k t) in
     ⊎_elim
-    (λ (e : u ≡ t).
-    ap (λ i. priority_of (with_thread k t (ready_row (thread_at k t))) i) e
-    ∙ ap (λ (r : ThreadRow). r.priority) (get_or-set_same k.threads t (ready_row (thread_at k t)) free_thread l) ∙ ap (λ i. priority_of k i) (sym e))
-    (λ (ne : u ≢ t). ap (λ (r : ThreadRow). r.priority) (get_or-set_other k.threads t u (ready_row (thread_at k t)) free_thread ne))
+    (λ (e : u ≡ t). ⊎_elim
+    (λ (within : t < length k.threads).
+    ap (λ i. priority_of (with_thread k t row) i) e ∙ ap (λ (r : ThreadRow). r.priority) (get_or-set_same k.threads t row free_thread within) ∙ ap (λ i. priority_of k i) (sym e))
+    (λ (past : length k.threads ≤ t). ap (λ (ts : List ThreadRow). (get_or ts u free_thread).priority) (set_past k.threads t row past))
+    (cases_lt t (length k.threads)))
+    (λ (ne : u ≢ t). ap (λ (r : ThreadRow). r.priority) (get_or-set_other k.threads t u row free_thread ne))
     (cases_eq u t)
 
 -- ---- threads go to the end one after another
@@ -102,11 +105,11 @@ pub record MayJoin (k : Kernel) (ts : List ℕ) : Type 0 where
 abbrev awake : Kernel → (t : ℕ) → Kernel
 awake k t = with_thread k t (ready_row (thread_at k t))
 
-still_by_priority : (k : Kernel) (t : ℕ) (xs : List ℕ) → t < length k.threads → AllPairs (λ x y. priority_of k y ≤ priority_of k x) xs
+still_by_priority : (k : Kernel) (t : ℕ) (xs : List ℕ) → AllPairs (λ x y. priority_of k y ≤ priority_of k x) xs
     → AllPairs (λ x y. priority_of (awake k t) y ≤ priority_of (awake k t) x) xs
-still_by_priority k t xs l h i j d lt lj =
-    let first : priority_of (awake k t) (get_or xs i d) ≡ priority_of k (get_or xs i d) = priority_same k t (get_or xs i d) l in
-    let second : priority_of (awake k t) (get_or xs j d) ≡ priority_of k (get_or xs j d) = priority_same k t (get_or xs j d) l in
+still_by_priority k t xs h i j d lt lj =
+    let first : priority_of (awake k t) (get_or xs i d) ≡ priority_of k (get_or xs i d) = priority_same k t (get_or xs i d) in
+    let second : priority_of (awake k t) (get_or xs j d) ≡ priority_of k (get_or xs j d) = priority_same k t (get_or xs j d) in
     let old : priority_of k (get_or xs j d) ≤ priority_of k (get_or xs i d) = h i j d lt lj in
     omega arith
 
@@ -118,7 +121,7 @@ joined k t ts h =
     record {
       within = λ i d l. let old : get_or ts i d < length k.threads = All-tail (λ u. u < length k.threads) t ts h.within i d l in omega arith;
       once = λ i j d lt l. h.once (suc i) (suc j) d (omega arith) (omega arith);
-      by_priority = end_by_priority (awake k t) t (still_by_priority k t k.ready here h.by_priority);
+      by_priority = end_by_priority (awake k t) t (still_by_priority k t k.ready h.by_priority);
     }
 
 head_or_tail_at : (t u : ℕ) (ts : List ℕ) (i : ℕ) → i < length (t ∷ ts) → get_or (t ∷ ts) i u ≡ u → (u ≡ t) ⊎ Contains ts u
@@ -127,6 +130,10 @@ head_or_tail_at t u ts (suc i) l e = inr (i, omega arith, e)
 
 head_or_tail : (t u : ℕ) (ts : List ℕ) → Contains (t ∷ ts) u → (u ≡ t) ⊎ Contains ts u
 head_or_tail t u ts c = head_or_tail_at t u ts c.0 c.1 c.2
+
+-- who stands behind the first
+behind : (t u : ℕ) (ts : List ℕ) → Contains ts u → Contains (t ∷ ts) u
+behind t u ts c = (suc c.0, let l : c.0 < length ts = c.1 in omega arith, c.2)
 
 -- the first stands nowhere behind
 not_behind : (t : ℕ) (ts : List ℕ) → AllPairs (λ x y. x ≢ y) (t ∷ ts) → Contains ts t → ⊥
@@ -137,17 +144,16 @@ filter_agrees p q [] h = refl
 filter_agrees p q (x ∷ xs) h = ap (λ b. cond b (x ∷ filter p xs) (filter p xs)) (h x) ∙ ap (λ ys. cond (q x) (x ∷ ys) ys) (filter_agrees p q xs h)
 
 -- which of a list have a priority
-same_priority : (k : Kernel) (t p : ℕ) (xs : List ℕ) → t < length k.threads → of_priority (awake k t) p xs ≡ of_priority k p xs
-same_priority k t p xs l =
-    filter_agrees (λ u. eqb (priority_of (awake k t) u) p) (λ u. eqb (priority_of k u) p) xs (λ u. ap (λ n. eqb n p) (priority_same k t u l))
+same_priority : (k : Kernel) (t p : ℕ) (xs : List ℕ) → of_priority (awake k t) p xs ≡ of_priority k p xs
+same_priority k t p xs =
+    filter_agrees (λ u. eqb (priority_of (awake k t) u) p) (λ u. eqb (priority_of k u) p) xs (λ u. ap (λ n. eqb n p) (priority_same k t u))
 
 joins_in_order : (k : Kernel) (t p : ℕ) (ts : List ℕ) → MayJoin k (t ∷ ts)
     → of_priority k p ((to_ready_end k t).ready ++ ts) ≡ of_priority k p (k.ready ++ (t ∷ ts))
 joins_in_order k t p ts h =
     let q : ℕ → Bool = λ u. eqb (priority_of k u) p in
-    let here : t < length k.threads = All-head (λ u. u < length k.threads) t ts h.within in
     let one : filter q (at_end (awake k t) t) ≡ filter q (k.ready ++ t ∷ []) =
-    sym (same_priority k t p (at_end (awake k t) t) here) ∙ end_in_order (awake k t) t p (still_by_priority k t k.ready here h.by_priority) ∙ same_priority k t p (k.ready ++ t ∷ []) here in
+    sym (same_priority k t p (at_end (awake k t) t)) ∙ end_in_order (awake k t) t p (still_by_priority k t k.ready h.by_priority) ∙ same_priority k t p (k.ready ++ t ∷ []) in
     filter-append q (at_end (awake k t) t) ts
     ∙ ap (λ ys. ys ++ filter q ts) one
     ∙ sym (filter-append q (k.ready ++ t ∷ []) ts)
@@ -175,13 +181,13 @@ each_wakes (t ∷ ts) k h =
           rest.rows u c' ∙ ap (λ (r : ThreadRow). ready_row r) (get_or-set_other k.threads t u row free_thread (λ e. out (subst (λ v. Contains ts v) e c'))))
           (head_or_tail t u ts c);
       other_rows = λ u away.
-          rest.other_rows u (λ c. away (suc c.0, let l : c.0 < length ts = c.1 in omega arith, c.2))
+          rest.other_rows u (λ c. away (behind t u ts c))
           ∙ get_or-set_other k.threads t u row free_thread (λ e. away (0, omega arith, sym e));
       in_order = λ p.
-          sym (same_priority k t p after.ready here) ∙ rest.in_order p ∙ same_priority k t p (j.ready ++ ts) here ∙ joins_in_order k t p ts h;
+          sym (same_priority k t p after.ready) ∙ rest.in_order p ∙ same_priority k t p (j.ready ++ ts) ∙ joins_in_order k t p ts h;
       by_priority = λ a b d lt l.
-          let first : priority_of j (get_or after.ready a d) ≡ priority_of k (get_or after.ready a d) = priority_same k t (get_or after.ready a d) here in
-          let second : priority_of j (get_or after.ready b d) ≡ priority_of k (get_or after.ready b d) = priority_same k t (get_or after.ready b d) here in
+          let first : priority_of j (get_or after.ready a d) ≡ priority_of k (get_or after.ready a d) = priority_same k t (get_or after.ready a d) in
+          let second : priority_of j (get_or after.ready b d) ≡ priority_of k (get_or after.ready b d) = priority_same k t (get_or after.ready b d) in
           let old : priority_of j (get_or after.ready b d) ≤ priority_of j (get_or after.ready a d) = rest.by_priority a b d lt l in
           omega arith;
     }
@@ -190,3 +196,22 @@ each_wakes (t ∷ ts) k h =
 pub each_others : (ts : List ℕ) (k : Kernel) → each_to_end k ts ≡ record k { threads = (each_to_end k ts).threads; ready = (each_to_end k ts).ready }
 each_others [] k = refl
 each_others (t ∷ ts) k = each_others ts (to_ready_end k t)
+
+-- ---- who may wake next
+
+pub next_unlisted : NextLaw
+next_unlisted k t ts h =
+    let test : ℕ → Bool = λ x. ltb (priority_of (awake k t) x) (priority_of (awake k t) t) in
+    record {
+      numbers = All-tail (λ u. u < 32) t ts h.numbers;
+      once = λ i j d lt l. h.once (suc i) (suc j) d (omega arith) (omega arith);
+      not_ready = λ u c r. ⊎_elim
+          (λ (e : u ≡ t). not_behind t ts h.once (subst (λ v. Contains ts v) e c))
+          (λ (r' : Contains k.ready u). h.not_ready u (behind t u ts c) r')
+          (insert_from k.ready (position_or_len test k.ready) t u (prefix_len-le-length (λ x. not (test x)) k.ready) r);
+      not_asleep = λ u c r. h.not_asleep u (behind t u ts c) r;
+      priorities = λ i d l.
+          let same : priority_of (awake k t) (get_or ts i d) ≡ priority_of k (get_or ts i d) = priority_same k t (get_or ts i d) in
+          let old : priority_of k (get_or ts i d) ≤ 7 = All-tail (λ u. priority_of k u ≤ 7) t ts h.priorities i d l in
+          omega arith;
+    }

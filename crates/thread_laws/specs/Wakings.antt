@@ -1,10 +1,10 @@
 -- Who wakes, said of the threads: at a tick those whose time has come, at a line those that wait for it.
-use Rattle.std.specs.Prelude.{◌≡◌, ◌≢◌, ℕ, ◌+◌, ◌<◌, ◌≤◌, nat_le, ◌==◌, Bool, not, List, [], ◌++◌, take, drop, All, AllPairs, Contains}
+use Rattle.std.specs.Prelude.{◌≡◌, ◌≢◌, ℕ, ◌+◌, ◌<◌, ◌≤◌, nat_le, ◌==◌, Bool, not, List, [], ◌∷◌, ◌++◌, take, drop, All, AllPairs, Contains}
 use Rattle.std.specs.List.{filter}
 use Rattle.kernel_model.specs.Kernel.{Kernel, thread_at, with_line, line_at}
 use Rattle.kernel_model.specs.Words.{tick_number, wake_time, priority_of, ready_row}
 use Rattle.kernel_model.specs.Orderly.{IsOrderly}
-use Rattle.kernel_model.specs.Queues.{priority_in}
+use Rattle.kernel_model.specs.Queues.{priority_in, to_ready_end}
 use Rattle.kernel_model.specs.declared.rows.ThreadRow.{ThreadRow}
 use Rattle.place_model.specs.Settled.{IsSettledKernel}
 use Rattle.kernel_model.specs.Waking.{ticked, woken_line}
@@ -60,6 +60,11 @@ TickLaw = (k : Kernel) → IsSettledKernel k → Ticks k (ticked k)
 
 abbrev pub LineLaw : Type 0
 LineLaw = (k : Kernel) (n : ℕ) → IsSettledKernel k → n < 14 → LineWakes k (woken_line k n) n
+
+-- when the first goes to the end of the ready list, the others stay so
+abbrev pub NextLaw : Type 0
+NextLaw = (k : Kernel) (t : ℕ) (ts : List ℕ) → AreUnlisted k.threads k.ready k.sleepers (t ∷ ts)
+    → let j = to_ready_end k t in AreUnlisted j.threads j.ready j.sleepers ts
 
 -- the first sleepers, when they are taken out of the list
 abbrev pub SleepersLaw : Type 0

@@ -4,7 +4,7 @@
 
 ghost use Rattle.thread_laws.specs.Facts.{ReadyLaw, RunningLaw, UnlistedLaw};
 ghost use Rattle.thread_laws.specs.Waits.{SleptLaw, TickedLaw, WaitingLineLaw, WokenLineLaw};
-ghost use Rattle.thread_laws.specs.Wakings.{LineLaw, SleepersLaw, TickLaw, WaitersLaw};
+ghost use Rattle.thread_laws.specs.Wakings.{LineLaw, NextLaw, SleepersLaw, TickLaw, WaitersLaw};
 ghost use Rattle.thread_laws.specs.Laws.{BegunLaw, DispatchedLaw, EndLaw, EndedLaw, ExitedLaw, FrontLaw, PriorityLaw, SavedLaw};
 
 /// The running thread's row says that it runs, it is in neither queue, and it is one of a live application's.
@@ -90,6 +90,11 @@ pub fn sleepers_may_wake()
 /// So are those that wait for a line.
 pub fn waiters_may_wake()
     ensures { WaitersLaw }
+{}
+
+/// When the first of such threads goes to the end of the ready list, the others stay such.
+pub fn next_may_wake()
+    ensures { NextLaw }
 {}
 
 /// At a tick exactly the sleepers whose time has come wake, in their order, and nothing else moves.
