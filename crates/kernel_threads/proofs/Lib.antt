@@ -13,3 +13,4 @@ pub mod ExitLemmas
 pub mod FixtureLemmas
 pub mod WakingSteps
 pub mod TickLemmas
+pub mod EightApps

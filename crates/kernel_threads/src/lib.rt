@@ -7,6 +7,7 @@
 //!
 //! `specs/Contexts.antt` says what registers take of sixteen words, `specs/Returns.antt` where the running domain may go on, and
 //! `specs/Entries.antt` what the entries answer. By `laws`, a dispatch gives exactly the saved registers where they are a context.
+//! `tick` and `wake_line` also say, by `Ticks` and `LineWakes` of `thread_laws`, who wakes, in words that aren't the code's.
 #![tactic(auto)]
 
 mod contexts;

@@ -11,8 +11,8 @@ use crate::leaving::{leave_lines, leave_ready, leave_sleepers};
 use crate::*;
 use arrayvec::ArrayVec;
 use fixture::{
-    Answer, Call, NO_MEMBER, NONE, limits, lines_hold, make, make_ticks, put_marks, ready_list,
-    runner, tick_words, try_jump, try_return, two_apps,
+    Answer, Call, NO_MEMBER, NONE, eight_apps, four_sleep, limits, lines_hold, make, make_ticks,
+    put_marks, ready_list, runner, tick_words, try_jump, try_return, two_apps,
 };
 use flat_mem::FlatMem;
 use kernel_tables::{
@@ -303,6 +303,37 @@ fn a_sleep_of_65535_ticks_goes_over_the_low_word(rt: HostRuntime) -> Result<(), 
     assert!(rt; make_ticks(&mut m, 1));
     assert_eq!(rt; tick_words(&m), (1, 1));
     assert_eq!(rt; ready_list(&m), [4, 0, NO, NO]);
+    Ok(())
+}
+
+/// Lets all threads of eight applications sleep for the same number of ticks, and tells whether all calls could be made.
+fn all_sleep(m: &mut FlatMem, r: &mut Regs) -> bool
+    requires { IsSettled m.old }
+    ensures { IsSettled m.new }
+{
+    for a in 0..8 {
+        if !four_sleep(m, r, a, 2) {
+            return false;
+        }
+    }
+    true
+}
+
+#[test]
+fn thirty_two_sleepers_wake_at_one_tick(rt: HostRuntime) -> Result<(), Fail> {
+    let mut m = eight_apps(rt.alloc())?;
+    let mut r = Regs::new();
+    assert!(rt; all_sleep(&mut m, &mut r));
+    assert!(rt; make_ticks(&mut m, 1));
+    for t in 0..32 {
+        assert_eq!(rt; m.byte(0x0240 + t), t as u8, "sleeper {t}");
+        assert_eq!(rt; m.byte(0x0220 + t), NO, "ready {t}");
+    }
+    assert!(rt; make_ticks(&mut m, 1));
+    for t in 0..32 {
+        assert_eq!(rt; m.byte(0x0240 + t), NO, "sleeper {t}");
+        assert_eq!(rt; m.byte(0x0220 + t), t as u8, "ready {t}");
+    }
     Ok(())
 }
 

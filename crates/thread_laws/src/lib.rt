@@ -1,5 +1,5 @@
-//! What the kernel's calls on threads do keeps it orderly, and its domains apart: laws of the definitions of `kernel_model`, for the
-//! layers above. Each is used by calling it.
+//! What the kernel's calls on threads do keeps it orderly, and its domains apart, and at ticks and lines exactly the right threads
+//! wake: laws of the definitions of `kernel_model`, for the layers above. Each is used by calling it.
 #![tactic(auto)]
 
 ghost use Rattle.thread_laws.specs.Facts.{ReadyLaw, RunningLaw, UnlistedLaw};

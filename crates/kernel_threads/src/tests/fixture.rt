@@ -73,6 +73,50 @@ fn put_apps(m: &mut FlatMem)
     set_register(m, 4, 0, 0x6010);
 }
 
+/// Memory with eight applications of four threads, loaded and not started. The code of application a is 16 bytes from 6000 + 16 a
+/// on, and its mark is the first of them.
+pub fn eight_apps(alloc: Global) -> Result<FlatMem, AllocError>
+    ensures { IfOk result (λ m. IsSettled m) }
+{
+    let mut m = FlatMem::new(alloc)?;
+    put_eight(&mut m);
+    let all = Regions {
+        dom: 0,
+        code_lo: 0x6000,
+        code_hi: 0x6080,
+        lo: 0x2000,
+        hi: 0x2400,
+    };
+    let mut marks = Marks::new();
+    for a in 0..8 {
+        marks.set(16 * a);
+    }
+    set_marks(&mut m, &all, &marks);
+    Ok(m)
+}
+
+/// Clears memory and writes the rows of eight applications: no static bytes, and four stacks of 32 bytes from 2000 + 128 a on.
+fn put_eight(m: &mut FlatMem)
+    ensures { IsSettled m.new }
+{
+    empty_is_orderly();
+    clear(m);
+    for a in 0..8 {
+        let n = a as u16;
+        let row = AppRow {
+            state: 1,
+            code_lo: 0x6000 + 16 * n,
+            code_hi: 0x6010 + 16 * n,
+            lo: 0x2000 + 128 * n,
+            hi: 0x2080 + 128 * n,
+            z: 0,
+            stack: 32,
+            threads: 4,
+        };
+        set_app(m, a, &row);
+    }
+}
+
 /// Marks 6004 and 600A for application 0, and 6010 for application 1.
 pub fn put_marks(m: &mut FlatMem)
     ensures { IsSettled m.old → IsSettled m.new }
@@ -403,6 +447,36 @@ pub fn tick_words(m: &FlatMem) -> (u16, u16)
     ensures { tick_number (kernel_of m.now) ≡ result.0 + 65536 * result.1 }
 {
     (get(m, SysWord::TickLow), get(m, SysWord::TickHigh))
+}
+
+/// Starts application a, spawns its three other threads, and lets all four sleep for some ticks, one after another. Tells whether
+/// all calls could be made. Nothing runs before and after.
+pub fn four_sleep(m: &mut FlatMem, r: &mut Regs, a: u8, ticks: u16) -> bool
+    requires settled { IsSettled m.old }
+    requires number { a < 8 }
+    ensures { IsSettled m.new }
+{
+    let spawn = Call::Spawn(0x6000 + 16 * u16::from(a), 3);
+    let calls = [
+        Call::Start(a),
+        Call::Dispatch(None),
+        spawn,
+        spawn,
+        spawn,
+        Call::Sleep(ticks),
+        Call::Dispatch(None),
+        Call::Sleep(ticks),
+        Call::Dispatch(None),
+        Call::Sleep(ticks),
+        Call::Dispatch(None),
+        Call::Sleep(ticks),
+    ];
+    for call in calls {
+        if matches!(make(m, r, call), Answer::NotMade | Answer::Refused(_)) {
+            return false;
+        }
+    }
+    true
 }
 
 /// The ready list, filled up with `NO_MEMBER`.
