@@ -1,6 +1,6 @@
 -- The kernel of eight applications that the tests begin with is settled: they lie one behind the other, and no thread is live.
-use Rattle.std.proofs.Common.{◌≡◌, ◌≢◌, ℕ, zero, suc, ◌+◌, ◌-◌, ◌*◌, ◌%◌, ◌<◌, ◌≤◌, Bool, true, false, List, length, map, get_or, set, replicate, ◌++◌, refl, sym, ap, ◌∙◌, subst, ⊎_elim, arith, AllPairs, Contains, IsTrue, add-one, lit≤}
-use Rattle.std.specs.Prelude.{nat_lt, if◌then◌else◌}
+use Rattle.std.proofs.Common.{◌≡◌, ◌≢◌, ℕ, zero, suc, ◌+◌, ◌-◌, ◌*◌, ◌%◌, ◌<◌, ◌≤◌, List, map, set, replicate, ◌++◌, refl, sym, ap, ◌∙◌, subst, ⊎_elim, arith, add-one, lit≤}
+use Rattle.std.specs.Prelude.{if◌then◌else◌}
 use Rattle.std.specs.List.{range_with_len}
 use Rattle.std.proofs.lemmas.Bool.{cases_lt, lt-ltb, le-ltb}
 use Rattle.std.proofs.lemmas.Bool.Decides.{nat_tests}

@@ -1,5 +1,5 @@
 -- What a tick leaves, call by call, and what a wait for a line does and its end.
-use Rattle.std.proofs.Common.{◌≡◌, ◌≢◌, ℕ, ◌+◌, ◌*◌, ◌/◌, ◌%◌, ◌<◌, ◌≤◌, leb, eqb, true, Bool, suc, set, List, [], ◌∷◌, ◌++◌, length, take, drop, refl, sym, ap, ◌∙◌, subst, arith, All, AllPairs, Contains}
+use Rattle.std.proofs.Common.{◌≡◌, ℕ, ◌+◌, ◌/◌, ◌%◌, ◌<◌, leb, eqb, true, suc, set, List, [], ◌∷◌, ◌++◌, length, take, drop, sym, ap, ◌∙◌, subst, arith, All, Contains}
 use Rattle.std.specs.List.{prefix_len}
 use Rattle.std.proofs.lemmas.Bool.{eqb-true}
 use Rattle.std.proofs.lemmas.List.{length-take-le, set-get_or}
@@ -7,7 +7,7 @@ use Rattle.std.proofs.lemmas.List.Elements.{All-push}
 use Rattle.std.proofs.lemmas.List.Sums.{prefix_len-le-length}
 use Rattle.kernel_model.specs.Kernel.{Kernel, with_word, with_sleepers, thread_at, line_at, with_line}
 use Rattle.kernel_model.specs.Layout.{kernel_of}
-use Rattle.kernel_model.specs.Orderly.{IsOrderly, spot, spot_of, Spot}
+use Rattle.kernel_model.specs.Orderly.{IsOrderly, spot, spot_of}
 use Rattle.kernel_model.specs.Orderly.Spot.{Runs, OnLine}
 use Rattle.kernel_model.specs.Queues.{Leaves}
 use Rattle.kernel_model.specs.Waking.{each_to_end, ticked, woken_line}

@@ -7,7 +7,7 @@ use Rattle.std.proofs.lemmas.List.Elements.{All-head}
 use Rattle.std.proofs.lemmas.List.Sums.{fold_more}
 use Rattle.kernel_model.specs.Kernel.{Kernel, with_sleepers}
 use Rattle.kernel_model.specs.Layout.{kernel_of}
-use Rattle.kernel_model.specs.Queues.{Leaves, QueuesHold, without, to_ready_end}
+use Rattle.kernel_model.specs.Queues.{Leaves, without, to_ready_end}
 use Rattle.kernel_model.specs.Waking.{each_to_end}
 use Rattle.kernel_model.specs.Words.{priority_of}
 use Rattle.thread_laws.specs.Facts.{IsUnlisted}

@@ -1,9 +1,9 @@
 -- Threads that go to the end of the ready list one after another, and who they are.
-use Rattle.std.proofs.Common.{◌≡◌, ◌≢◌, ◌⊎◌, ℕ, zero, suc, ◌+◌, ◌-◌, ◌*◌, ◌/◌, ◌%◌, ◌<◌, ◌≤◌, Bool, true, false, not, cond, eqb, ltb, leb, List, [], ◌∷◌, ◌++◌, length, get_or, take, drop, min, refl, ap, sym, ◌∙◌, subst, ⊎_elim, arith, insert, length-drop, length-set, inl, inr, append_assoc, All, AllPairs, Contains}
+use Rattle.std.proofs.Common.{◌≡◌, ◌≢◌, ◌⊎◌, ℕ, zero, suc, ◌+◌, ◌-◌, ◌<◌, ◌≤◌, Bool, true, false, not, cond, eqb, ltb, List, [], ◌∷◌, ◌++◌, length, get_or, take, drop, min, refl, ap, sym, ◌∙◌, subst, ⊎_elim, arith, length-drop, length-set, inl, inr, append_assoc, All, AllPairs, Contains}
 use Rattle.std.specs.List.{filter, position_or_len, prefix_len}
 use Rattle.std.proofs.lemmas.Bool.{cases_eq, cases_lt, ne_eqb, eqb-true}
 use Rattle.std.proofs.lemmas.List.{append-nil, take-append-drop, get_or-take, get_or-drop, get_or-set_same, get_or-set_other, set_past, length-take}
-use Rattle.std.proofs.lemmas.List.Elements.{filter-append, All-contains, All-head, All-tail, Contains-get_or, Contains-append_left, Contains-append_right}
+use Rattle.std.proofs.lemmas.List.Elements.{filter-append, All-contains, All-head, All-tail}
 use Rattle.std.proofs.lemmas.List.Sums.{prefix_len-le-length, prefix_len_passes}
 use Rattle.kernel_model.specs.Kernel.{Kernel, thread_at, with_thread, free_thread}
 use Rattle.kernel_model.specs.Words.{priority_of, ready_row}

@@ -1,6 +1,6 @@
 -- The laws on who wakes: at a tick, and at a line.
-use Rattle.std.proofs.Common.{◌≡◌, ◌≢◌, ℕ, ◌+◌, ◌-◌, ◌*◌, ◌/◌, ◌%◌, ◌<◌, ◌≤◌, Bool, true, false, not, leb, List, [], length, get_or, take, drop, min, refl, ap, sym, ◌∙◌, subst, arith, All, AllPairs, Contains, length-drop}
-use Rattle.std.specs.List.{filter, prefix_len}
+use Rattle.std.proofs.Common.{◌≡◌, ℕ, ◌+◌, ◌-◌, ◌*◌, ◌/◌, ◌%◌, ◌<◌, ◌≤◌, true, false, leb, List, [], length, get_or, take, drop, min, refl, ap, sym, ◌∙◌, subst, arith, All, Contains, length-drop}
+use Rattle.std.specs.List.{prefix_len}
 use Rattle.std.proofs.lemmas.Bool.{lt-leb}
 use Rattle.std.proofs.lemmas.List.{take-append-drop, get_or-take, get_or-drop, length-take}
 use Rattle.std.proofs.lemmas.List.Elements.{Contains-get_or, Contains-append_left, All-take}
@@ -9,8 +9,7 @@ use Rattle.kernel_model.specs.Words.{tick_number, wake_time, priority_of}
 use Rattle.kernel_model.specs.Orderly.{IsOrderly, Spot, spot_of, listed}
 use Rattle.kernel_model.specs.Orderly.Spot.{Ready, Asleep, OnLine}
 use Rattle.kernel_model.specs.Waking.{each_to_end, ticked, woken_line}
-use Rattle.place_model.specs.Settled.{IsSettledKernel}
-use Rattle.thread_laws.specs.Wakings.{is_due, Wakes, Ticks, LineWakes, AreUnlisted, TickLaw, LineLaw, SleepersLaw, WaitersLaw}
+use Rattle.thread_laws.specs.Wakings.{is_due, Wakes, AreUnlisted, TickLaw, LineLaw, SleepersLaw, WaitersLaw}
 use Rattle.thread_laws.proofs.WakingLemmas.{first_pass, rest_fails, prefix_passes, MayJoin, each_wakes, each_others}
 use Rattle.thread_laws.proofs.WakeRules.{rest_wakes_later}
 

@@ -1,4 +1,4 @@
-use Rattle.std.proofs.Common.{◌≡◌, ◌+◌, ◌<◌, List, ℕ, take, sym, subst, ap, ◌∙◌}
+use Rattle.std.proofs.Common.{◌+◌, List, ℕ, take, sym, subst, ap}
 use Rattle.kernel_model.specs.Kernel.{Kernel}
 use Rattle.kernel_model.specs.Layout.{kernel_of}
 use Rattle.kernel_model.specs.Waking.{ticked}
