@@ -27,8 +27,8 @@ use thread_laws::{
 /// The state of a thread that sleeps.
 const ASLEEP: u16 = 3;
 
-/// The running thread sleeps for as many ticks as R12 says, at least one, and nothing runs. The tick that it waits for fits 32 bits.
-/// Memory is settled before and after.
+/// The running thread sleeps for as many ticks as R12 says, at least one, and nothing runs. The tick that it waits for fits 32
+/// bits. Memory is settled before and after.
 pub fn sleep(m: &mut FlatMem, r: &Regs)
     requires settled { IsSettled m.old }
     requires runs { ThreadRuns (kernel_of m.old) }

@@ -53,14 +53,14 @@ end_in_order k t p h =
     let back : List ℕ = filter q (drop i k.ready) in
     let none : q t ≡ true → back ≡ [] =
     λ own. filter_nothing q (drop i k.ready)
-        (λ u c.
-        let low : All (λ x. priority_of k x < priority_of k t) (drop i k.ready) =
-        λ j d l.
-            let size : length (drop i k.ready) ≡ length k.ready - i = length-drop i k.ready in
-            subst (λ x. priority_of k x < priority_of k t) (sym (get_or-drop i k.ready j d)) (behind_end k t h (i + j) d (omega arith) (omega arith)) in
-        let below : priority_of k u < priority_of k t = All-contains (λ x. priority_of k x < priority_of k t) (drop i k.ready) u low c in
-        let same : priority_of k t ≡ p = eqb-true (priority_of k t) p own in
-        ne_eqb (priority_of k u) p (λ e. omega arith)) in
+    (λ u c.
+    let low : All (λ x. priority_of k x < priority_of k t) (drop i k.ready) =
+    λ j d l.
+    let size : length (drop i k.ready) ≡ length k.ready - i = length-drop i k.ready in
+    subst (λ x. priority_of k x < priority_of k t) (sym (get_or-drop i k.ready j d)) (behind_end k t h (i + j) d (omega arith) (omega arith)) in
+    let below : priority_of k u < priority_of k t = All-contains (λ x. priority_of k x < priority_of k t) (drop i k.ready) u low c in
+    let same : priority_of k t ≡ p = eqb-true (priority_of k t) p own in
+    ne_eqb (priority_of k u) p (λ e. omega arith)) in
     let seam : (b : Bool) → q t ≡ b → front ++ cond b (t ∷ back) back ≡ (front ++ back) ++ cond b (t ∷ []) [] =
     λ b. elim b as (λ (v : Bool). q t ≡ v → front ++ cond v (t ∷ back) back ≡ (front ++ back) ++ cond v (t ∷ []) []) [
       | true ↦ λ own.

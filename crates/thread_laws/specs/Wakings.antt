@@ -34,7 +34,13 @@ pub record Ticks (before after : Kernel) : Type 0 where
   pub tick : tick_number after ≡ tick_number before + 1
   pub wakes : Wakes before after (filter (is_due before) before.sleepers)
   pub sleepers : after.sleepers ≡ filter (λ t. not (is_due before t)) before.sleepers
-  pub others : after ≡ record before { tick_low = after.tick_low; tick_high = after.tick_high; threads = after.threads; ready = after.ready; sleepers = after.sleepers }
+  pub others : after ≡ record before {
+    tick_low = after.tick_low;
+    tick_high = after.tick_high;
+    threads = after.threads;
+    ready = after.ready;
+    sleepers = after.sleepers;
+  }
 
 -- ---- a line
 
