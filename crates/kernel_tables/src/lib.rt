@@ -24,7 +24,9 @@ pub use domains::{app, function, module, set_app, set_function, set_module};
 pub use emptying::clear;
 pub use kernel_model::rows::{AppRow, FnRow, ModuleRow, MutexRow, SysWord, ThreadRow};
 pub use order::queues_hold;
-pub use queues::{ready, ready_end, ready_front, ready_take, sleep_in, sleep_take, sleepers};
+pub use queues::{
+    first_later, ready, ready_end, ready_front, ready_take, sleep_in, sleep_take, sleepers,
+};
 pub use threads::{set_register, set_thread, thread};
 pub use waiting::{cond, line, mutex, set_cond, set_line, set_mutex};
 pub use words::{get, put};

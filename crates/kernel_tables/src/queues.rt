@@ -133,8 +133,8 @@ fn first_below(m: &FlatMem, list: &[u8], bound: u16) -> usize
     list.len()
 }
 
-/// The place of the first thread that wakes after a tick, or the list's length.
-fn first_later(m: &FlatMem, list: &[u8], tick: u32) -> usize
+/// The place of the first thread that wakes after a tick, or the list's length. The list's members are below 32.
+pub fn first_later(m: &FlatMem, list: &[u8], tick: u32) -> usize
     requires { All (λ t. t < 32) list.now }
     ensures value { result ≡ prefix_len (λ t. nat_le (wake_time (kernel_of m.now) t) tick) list.now }
     ensures within { result ≤ length list.now }

@@ -86,7 +86,7 @@ empty_row_is = record {
 
 -- ---- orderly
 
-empty_state : (t : ℕ) → t < 32 → (thread_at empty t).state ≡ free
+pub empty_state : (t : ℕ) → t < 32 → (thread_at empty t).state ≡ free
 unfolding empty
 empty_state t h = ap (λ (r : ThreadRow). r.state) (get_or-replicate 32 t empty_row free_thread h)
 

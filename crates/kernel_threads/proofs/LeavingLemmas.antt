@@ -14,7 +14,7 @@ unfoldable pub part_left : (a : ℕ) (xs : List ℕ) (i : ℕ) → List ℕ
 part_left a xs i = others a (take i xs) ++ drop i xs
 
 -- the rest begins with the next member
-rest_is : (xs : List ℕ) (i : ℕ) → i < length xs → drop i xs ≡ get_or xs i 0 ∷ drop (i + 1) xs
+pub rest_is : (xs : List ℕ) (i : ℕ) → i < length xs → drop i xs ≡ get_or xs i 0 ∷ drop (i + 1) xs
 rest_is xs i h = drop-cons xs i 0 h ∙ ap (λ n. get_or xs i 0 ∷ drop n xs) (sym (add-one i))
 
 pub part_left_none : (a : ℕ) (xs : List ℕ) → part_left a xs 0 ≡ xs

@@ -11,3 +11,6 @@ pub mod FoldLemmas
 pub mod EndingLemmas
 pub mod ExitLemmas
 pub mod FixtureLemmas
+pub mod WakingSteps
+pub mod TickLemmas
+pub mod EightApps

@@ -1,10 +1,11 @@
 -- What the entries on threads answer and leave.
 use Rattle.std.specs.Prelude.{◌≡◌, ◌↔◌, ℕ, Bool, IsTrue, List, slice_index, Option, None, Some, Result, Ok, Err}
+use Rattle.kernel_model.specs.Kernel.{Kernel}
 use Rattle.kernel_model.specs.Layout.{kernel_of}
 use Rattle.kernel_model.specs.Words.{number_of}
 use Rattle.kernel_model.specs.Queues.{Leaves}
 use Rattle.kernel_model.specs.declared.code.Code.{Code}
-use Rattle.kernel_model.specs.Entries.{next_thread, spawn_code, spawned, with_priority}
+use Rattle.kernel_model.specs.Entries.{next_thread, spawn_code, spawned}
 use Rattle.kernel_threads.specs.Returns.{IsOwnMark}
 
 -- with no code there is a new thread, and its number is answered; else the code is, and memory is as it was
@@ -17,7 +18,7 @@ pub record Spawns (before after registers : List ℕ) (answer : Result ℕ Code)
   pub marked : IsTrue b ↔ IsOwnMark before (slice_index registers 12)
   pub by_code : SpawnedBy before after registers (spawn_code (kernel_of before) registers b) answer
 
--- with no code the running thread has the priority; else the code is answered, and memory is as it was
-abbrev pub PrioritySetBy : (before after registers : List ℕ) → Option Code → Result (Unit {0}) Code → Type 0
-PrioritySetBy m m' r None answer = (answer ≡ Ok tt) × Leaves m m' (with_priority (kernel_of m) r)
-PrioritySetBy m m' r (Some code) answer = (answer ≡ Err code) × (m' ≡ m)
+-- with no code memory has the kernel of the rule; else the code is answered, and memory is as it was
+abbrev pub AnswersBy : (before after : List ℕ) → Kernel → Option Code → Result (Unit {0}) Code → Type 0
+AnswersBy m m' k None answer = (answer ≡ Ok tt) × Leaves m m' k
+AnswersBy m m' k (Some code) answer = (answer ≡ Err code) × (m' ≡ m)

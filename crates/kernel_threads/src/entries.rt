@@ -5,10 +5,10 @@ ghost use Rattle.kernel_model.specs.Kernel.{app_at};
 ghost use Rattle.kernel_model.specs.Layout.{kernel_of};
 ghost use Rattle.kernel_model.specs.Words.{live};
 ghost use Rattle.place_model.specs.Settled.{IsSettled};
-ghost use Rattle.kernel_model.specs.Entries.{priority_code};
+ghost use Rattle.kernel_model.specs.Entries.{priority_code, with_priority};
 ghost use Rattle.kernel_model.specs.Running.{ThreadRuns};
 ghost use Rattle.kernel_model.specs.Starting.{MayBegin, free_threads};
-ghost use Rattle.kernel_threads.specs.Entries.{PrioritySetBy, Spawns};
+ghost use Rattle.kernel_threads.specs.Entries.{AnswersBy, Spawns};
 
 use crate::Code;
 use crate::returning::is_own_mark;
@@ -24,7 +24,7 @@ use thread_laws::{priority_is_settled, running_thread};
 const PRIORITY_MAX: u16 = 7;
 
 /// The registers of the entries' arguments.
-const FIRST_ARGUMENT: u8 = 12;
+pub const FIRST_ARGUMENT: u8 = 12;
 
 const SECOND_ARGUMENT: u8 = 13;
 
@@ -63,7 +63,7 @@ pub fn spawn(m: &mut FlatMem, r: &Regs) -> Result<u8, Code>
 pub fn set_priority(m: &mut FlatMem, r: &Regs) -> Result<(), Code>
     requires settled { IsSettled m.old }
     requires runs { ThreadRuns (kernel_of m.old) }
-    ensures answer { PrioritySetBy m.old m.new r.now (priority_code r.now) result }
+    ensures answer { AnswersBy m.old m.new (with_priority (kernel_of m.old) r.now) (priority_code r.now) result }
     ensures settled { IsSettled m.new }
 {
     priority_is_settled();

@@ -7,14 +7,12 @@ ghost use Rattle.kernel_model.specs.Layout.{kernel_of};
 ghost use Rattle.kernel_model.specs.Queues.{Leaves, QueuesHold};
 ghost use Rattle.kernel_model.specs.Ending.{others};
 
+use crate::lines::LINES;
 use crate::stacks::THREADS_OF_APP;
 use arrayvec::ArrayVec;
 use flat_mem::FlatMem;
 use kernel_tables::laws::kernel_fits;
 use kernel_tables::{line, ready, ready_take, set_line, sleep_take, sleepers};
-
-/// How many lines there are.
-const LINES: u8 = 14;
 
 /// Takes the threads of application a, a below 8, out of the ready list.
 pub fn leave_ready(m: &mut FlatMem, a: u8)

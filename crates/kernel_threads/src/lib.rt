@@ -7,6 +7,7 @@
 //!
 //! `specs/Contexts.antt` says what registers take of sixteen words, `specs/Returns.antt` where the running domain may go on, and
 //! `specs/Entries.antt` what the entries answer. By `laws`, a dispatch gives exactly the saved registers where they are a context.
+//! `tick` and `wake_line` also say, by `Ticks` and `LineWakes` of `thread_laws`, who wakes, in words that aren't the code's.
 #![tactic(auto)]
 
 mod contexts;
@@ -15,17 +16,21 @@ mod ending;
 mod entries;
 pub mod laws;
 mod leaving;
+mod lines;
 mod returning;
 mod stacks;
 mod starting;
+mod time;
 
 pub use dispatching::{dispatch, save, to_end, to_front};
 pub use ending::{end_app, exit};
 pub use entries::{set_priority, spawn};
 pub use kernel_model::code::Code;
 pub use kernel_model::ends::AppEnd;
+pub use lines::{wait_line, wake_line};
 pub use returning::{jump, take_return};
 pub use starting::start;
+pub use time::{sleep, tick};
 
 #[cfg(test)]
 mod tests;

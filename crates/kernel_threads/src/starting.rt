@@ -3,17 +3,19 @@
 ghost use Rattle.std.specs.Prelude.{◌≡◌, ◌<◌, ◌≤◌};
 ghost use Rattle.kernel_model.specs.Layout.{kernel_of};
 ghost use Rattle.kernel_model.specs.Queues.{Leaves, QueuesHold, to_ready_end, to_ready_front};
+ghost use Rattle.kernel_model.specs.Waking.{each_to_end};
 ghost use Rattle.kernel_model.specs.Words.{identity, priority_of, ready_row};
 ghost use Rattle.place_model.specs.Settled.{IsSettled};
 ghost use Rattle.kernel_model.specs.Starting.{MayBegin, begun, is_free_thread, started};
 ghost use Rattle.thread_laws.specs.Facts.{IsUnlisted};
+ghost use Rattle.thread_laws.specs.Wakings.{AreUnlisted};
 
 use crate::contexts::new_context;
 use crate::stacks::{THREADS_OF_APP, stack_high};
 use flat_mem::FlatMem;
 use kernel_tables::laws::orderly_queues_hold;
 use kernel_tables::{ThreadRow, ready_end, ready_front, set_thread, thread};
-use thread_laws::{begun_is_settled, free_thread_is_unlisted};
+use thread_laws::{begun_is_settled, free_thread_is_unlisted, next_may_wake};
 
 /// The state of a row with no thread.
 pub const FREE: u16 = 0;
@@ -70,7 +72,19 @@ pub fn get_ready(m: &mut FlatMem, t: u8)
     ready_end(m, t);
 }
 
-/// The same, at the front of its priority.
+/// Makes distinct threads that are in neither list ready, one after another.
+pub fn each_ready(m: &mut FlatMem, list: &[u8])
+    requires queues { QueuesHold m.old }
+    requires unlisted { let k = kernel_of m.old in AreUnlisted k.threads k.ready k.sleepers list.now }
+    ensures { Leaves m.old m.new (each_to_end (kernel_of m.old) list.now) }
+{
+    next_may_wake();
+    for t in list {
+        get_ready(m, *t);
+    }
+}
+
+/// The same as `get_ready`, at the front of its priority.
 pub fn get_ready_first(m: &mut FlatMem, t: u8)
     requires number { t < 32 }
     requires queues { QueuesHold m.old }

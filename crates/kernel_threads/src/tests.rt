@@ -11,8 +11,8 @@ use crate::leaving::{leave_lines, leave_ready, leave_sleepers};
 use crate::*;
 use arrayvec::ArrayVec;
 use fixture::{
-    Answer, Call, NO_MEMBER, NONE, limits, lines_hold, make, put_marks, ready_list, runner,
-    try_jump, try_return, two_apps,
+    Answer, Call, NO_MEMBER, NONE, eight_apps, four_sleep, limits, lines_hold, make, make_ticks,
+    put_marks, ready_list, runner, tick_words, try_jump, try_return, two_apps,
 };
 use flat_mem::FlatMem;
 use kernel_tables::{
@@ -139,7 +139,7 @@ const ENDS: [Step; 6] = [
 
 #[test]
 fn calls_leave_who_runs_and_the_ready_list_in_order(rt: HostRuntime) -> Result<(), Fail> {
-    let cases: [(&str, &[Step]); 5] = [
+    let cases: [(&str, &[Step]); 7] = [
         (
             "higher priorities run first, and equal ones in turn",
             &URGENT,
@@ -151,6 +151,11 @@ fn calls_leave_who_runs_and_the_ready_list_in_order(rt: HostRuntime) -> Result<(
         ("a pick counts modulo the ready threads", &PICKS),
         ("an application ends with its last thread", &EXITS),
         ("an application's threads leave the ready list", &ENDS),
+        (
+            "sleepers wake by their ticks, and equal ones as they fell asleep",
+            &SLEEPERS,
+        ),
+        ("a line wakes its own waiters, in order", &WAITERS),
     ];
     for (name, steps) in cases {
         let mut m = two_apps(rt.alloc())?;
@@ -160,6 +165,41 @@ fn calls_leave_who_runs_and_the_ready_list_in_order(rt: HostRuntime) -> Result<(
     }
     Ok(())
 }
+
+/// Thread 4 falls asleep first, threads 4 and 0 wait for tick 3, and thread 1 for tick 2.
+const SLEEPERS: [Step; 13] = [
+    (Call::Dispatch(None), Answer::Made, 0, [4, NO, NO, NO]),
+    (Call::Spawn(0x600A, 3), Answer::Number(1), 0, [4, 1, NO, NO]),
+    (Call::End, Answer::Made, NONE, [4, 1, 0, NO]),
+    (Call::Dispatch(None), Answer::Made, 4, [1, 0, NO, NO]),
+    (Call::Sleep(3), Answer::Made, NONE, [1, 0, NO, NO]),
+    (Call::Tick, Answer::Made, NONE, [1, 0, NO, NO]),
+    (Call::Dispatch(Some(1)), Answer::Made, 0, [1, NO, NO, NO]),
+    (Call::Sleep(2), Answer::Made, NONE, [1, NO, NO, NO]),
+    (Call::Dispatch(None), Answer::Made, 1, [NO; 4]),
+    (Call::Sleep(1), Answer::Made, NONE, [NO; 4]),
+    (Call::Dispatch(None), Answer::Made, NONE, [NO; 4]),
+    (Call::Tick, Answer::Made, NONE, [1, NO, NO, NO]),
+    (Call::Tick, Answer::Made, NONE, [1, 4, 0, NO]),
+];
+
+/// Threads 0 and 4 wait for line 3, and threads 1 and 5 for line 13.
+const WAITERS: [Step; 14] = [
+    (Call::Dispatch(None), Answer::Made, 0, [4, NO, NO, NO]),
+    (Call::Spawn(0x600A, 3), Answer::Number(1), 0, [4, 1, NO, NO]),
+    (Call::WaitLine(3), Answer::Made, NONE, [4, 1, NO, NO]),
+    (Call::Dispatch(None), Answer::Made, 4, [1, NO, NO, NO]),
+    (Call::Spawn(0x6010, 3), Answer::Number(1), 4, [1, 5, NO, NO]),
+    (Call::WaitLine(3), Answer::Made, NONE, [1, 5, NO, NO]),
+    (Call::Dispatch(None), Answer::Made, 1, [5, NO, NO, NO]),
+    (Call::WaitLine(13), Answer::Made, NONE, [5, NO, NO, NO]),
+    (Call::Dispatch(None), Answer::Made, 5, [NO; 4]),
+    (Call::WaitLine(13), Answer::Made, NONE, [NO; 4]),
+    (Call::WakeLine(12), Answer::Made, NONE, [NO; 4]),
+    (Call::WakeLine(13), Answer::Made, NONE, [1, 5, NO, NO]),
+    (Call::WakeLine(13), Answer::Made, NONE, [1, 5, NO, NO]),
+    (Call::WakeLine(3), Answer::Made, NONE, [1, 5, 0, 4]),
+];
 
 #[test]
 fn a_thread_begins_at_its_entry_with_its_own_stack(rt: HostRuntime) -> Result<(), Fail> {
@@ -221,6 +261,79 @@ fn arguments_are_tested_before_room(rt: HostRuntime) -> Result<(), Fail> {
     assert_eq!(rt; first_wrong(&mut m, &mut r, &START_BOTH), None);
     assert_eq!(rt; first_wrong(&mut m, &mut r, &SPAWNS), None);
     assert_eq!(rt; (thread(&m, 0).priority, thread(&m, 1).priority), (3, 7));
+    Ok(())
+}
+
+const LINES: [Step; 6] = [
+    (Call::Dispatch(None), Answer::Made, 0, [4, NO, NO, NO]),
+    (Call::WaitLine(0), BAD, 0, [4, NO, NO, NO]),
+    (Call::WaitLine(14), BAD, 0, [4, NO, NO, NO]),
+    (Call::WaitLine(0xFFFF), BAD, 0, [4, NO, NO, NO]),
+    (Call::WaitLine(0x0101), BAD, 0, [4, NO, NO, NO]),
+    (Call::WaitLine(1), Answer::Made, NONE, [4, NO, NO, NO]),
+];
+
+#[test]
+fn lines_1_to_13_can_be_waited_for(rt: HostRuntime) -> Result<(), Fail> {
+    let mut m = two_apps(rt.alloc())?;
+    let mut r = Regs::new();
+    assert_eq!(rt; first_wrong(&mut m, &mut r, &START_BOTH), None);
+    assert_eq!(rt; first_wrong(&mut m, &mut r, &LINES), None);
+    assert_eq!(rt; (thread(&m, 0).state, thread(&m, 0).object), (6, 1));
+    assert_eq!(rt; make(&mut m, &mut r, Call::WakeLine(1)), Answer::Made);
+    assert_eq!(rt; (thread(&m, 0).state, thread(&m, 0).object), (1, 0));
+    Ok(())
+}
+
+#[test]
+fn a_sleep_of_65535_ticks_goes_over_the_low_word(rt: HostRuntime) -> Result<(), Fail> {
+    let mut m = two_apps(rt.alloc())?;
+    let mut r = Regs::new();
+    assert_eq!(rt; first_wrong(&mut m, &mut r, &START_BOTH), None);
+    assert!(rt; make_ticks(&mut m, 2));
+    let falls_asleep: [Step; 2] = [
+        (Call::Dispatch(None), Answer::Made, 0, [4, NO, NO, NO]),
+        (Call::Sleep(0xFFFF), Answer::Made, NONE, [4, NO, NO, NO]),
+    ];
+    assert_eq!(rt; first_wrong(&mut m, &mut r, &falls_asleep), None);
+    assert_eq!(rt; (thread(&m, 0).wake_low, thread(&m, 0).wake_high), (1, 1));
+    assert!(rt; make_ticks(&mut m, 65_534));
+    assert_eq!(rt; tick_words(&m), (0, 1));
+    assert_eq!(rt; ready_list(&m), [4, NO, NO, NO]);
+    assert!(rt; make_ticks(&mut m, 1));
+    assert_eq!(rt; tick_words(&m), (1, 1));
+    assert_eq!(rt; ready_list(&m), [4, 0, NO, NO]);
+    Ok(())
+}
+
+/// Lets all threads of eight applications sleep for the same number of ticks, and tells whether all calls could be made.
+fn all_sleep(m: &mut FlatMem, r: &mut Regs) -> bool
+    requires { IsSettled m.old }
+    ensures { IsSettled m.new }
+{
+    for a in 0..8 {
+        if !four_sleep(m, r, a, 2) {
+            return false;
+        }
+    }
+    true
+}
+
+#[test]
+fn thirty_two_sleepers_wake_at_one_tick(rt: HostRuntime) -> Result<(), Fail> {
+    let mut m = eight_apps(rt.alloc())?;
+    let mut r = Regs::new();
+    assert!(rt; all_sleep(&mut m, &mut r));
+    assert!(rt; make_ticks(&mut m, 1));
+    for t in 0..32 {
+        assert_eq!(rt; m.byte(0x0240 + t), t as u8, "sleeper {t}");
+        assert_eq!(rt; m.byte(0x0220 + t), NO, "ready {t}");
+    }
+    assert!(rt; make_ticks(&mut m, 1));
+    for t in 0..32 {
+        assert_eq!(rt; m.byte(0x0240 + t), NO, "sleeper {t}");
+        assert_eq!(rt; m.byte(0x0220 + t), t as u8, "ready {t}");
+    }
     Ok(())
 }
 

@@ -17,3 +17,5 @@ pub mod MovingSleepers
 pub mod MovingLines
 pub mod WaitRules
 pub mod WakeRules
+pub mod WakingLemmas
+pub mod WhoWakes

@@ -90,16 +90,27 @@ comes_to_front k t but l e =
     (λ (other : n ≢ i). let order : priority_of k (get_or k.ready n d) ≤ priority_of k (get_or k.ready i d) = but.order.by_priority i n d (omega arith) ln in omega arith)
     (cases_eq n i))
 
+-- before the first of a lower priority all have its priority or a higher one
+pub before_end : (k : Kernel) (t n d : ℕ) → n < position_or_len (λ x. ltb (priority_of k x) (priority_of k t)) k.ready → priority_of k t ≤ priority_of k (get_or k.ready n d)
+before_end k t n d l =
+    ltb-false (priority_of k (get_or k.ready n d)) (priority_of k t) (fails_before_first (λ x. ltb (priority_of k x) (priority_of k t)) k.ready n d l)
+
+-- and from there on lower ones
+pub behind_end : (k : Kernel) (t : ℕ) → AllPairs (λ x y. priority_of k y ≤ priority_of k x) k.ready
+    → (n d : ℕ) → position_or_len (λ x. ltb (priority_of k x) (priority_of k t)) k.ready ≤ n → n < length k.ready → priority_of k (get_or k.ready n d) < priority_of k t
+behind_end k t sorted n d on l =
+    let test : ℕ → Bool = λ x. ltb (priority_of k x) (priority_of k t) in
+    let i : ℕ = position_or_len test k.ready in
+    let first = ltb-true (priority_of k (get_or k.ready i d)) (priority_of k t) (passes_at_first test k.ready d (omega arith)) in
+    ⊎_elim
+    (λ (same : n ≡ i). subst (λ (j : ℕ). priority_of k (get_or k.ready j d) < priority_of k t) (sym same) first)
+    (λ (other : n ≢ i). let order : priority_of k (get_or k.ready n d) ≤ priority_of k (get_or k.ready i d) = sorted i n d (omega arith) l in omega arith)
+    (cases_eq n i)
+
 -- a thread comes directly before the first of a lower priority
 pub comes_to_end : (k : Kernel) (t : ℕ) → IsOrderlyBut k t → t < 32 → (thread_at k t).state ≡ ready → IsOrderly (with_ready k (at_end k t))
 comes_to_end k t but l e =
     let test : ℕ → Bool = λ x. ltb (priority_of k x) (priority_of k t) in
-    let i : ℕ = position_or_len test k.ready in
-    comes_ready k t i but l e (prefix_len-le-length (λ x. not (test x)) k.ready)
-    (λ n d ln. ltb-false (priority_of k (get_or k.ready n d)) (priority_of k t) (fails_before_first test k.ready n d ln))
-    (λ n d on ln.
-    let first = ltb-true (priority_of k (get_or k.ready i d)) (priority_of k t) (passes_at_first test k.ready d (omega arith)) in
-    ⊎_elim
-    (λ (same : n ≡ i). subst (λ (j : ℕ). priority_of k (get_or k.ready j d) ≤ priority_of k t) (sym same) (omega arith))
-    (λ (other : n ≢ i). let order : priority_of k (get_or k.ready n d) ≤ priority_of k (get_or k.ready i d) = but.order.by_priority i n d (omega arith) ln in omega arith)
-    (cases_eq n i))
+    comes_ready k t (position_or_len test k.ready) but l e (prefix_len-le-length (λ x. not (test x)) k.ready)
+    (before_end k t)
+    (λ n d on ln. let low = behind_end k t but.order.by_priority n d on ln in omega arith)

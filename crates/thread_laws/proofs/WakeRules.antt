@@ -102,7 +102,7 @@ all_sleepers_join low high (t ∷ ts) k h later =
     (wake_later_kept k t out later)
 
 -- those behind the sleepers who are due wake later than now
-rest_wakes_later : (k : Kernel) (now : ℕ) → IsOrderly k → All (λ u. now < wake_time k u) (drop (prefix_len (λ t. leb (wake_time k t) now) k.sleepers) k.sleepers)
+pub rest_wakes_later : (k : Kernel) (now : ℕ) → IsOrderly k → All (λ u. now < wake_time k u) (drop (prefix_len (λ t. leb (wake_time k t) now) k.sleepers) k.sleepers)
 rest_wakes_later k now h i d l =
     let test : ℕ → Bool = λ t. leb (wake_time k t) now in
     let n : ℕ = prefix_len test k.sleepers in

@@ -1,9 +1,10 @@
-//! What the kernel's calls on threads do keeps it orderly, and its domains apart: laws of the definitions of `kernel_model`, for the
-//! layers above. Each is used by calling it.
+//! What the kernel's calls on threads do keeps it orderly, and its domains apart, and at ticks and lines exactly the right threads
+//! wake: laws of the definitions of `kernel_model`, for the layers above. Each is used by calling it.
 #![tactic(auto)]
 
 ghost use Rattle.thread_laws.specs.Facts.{ReadyLaw, RunningLaw, UnlistedLaw};
 ghost use Rattle.thread_laws.specs.Waits.{SleptLaw, TickedLaw, WaitingLineLaw, WokenLineLaw};
+ghost use Rattle.thread_laws.specs.Wakings.{LineLaw, NextLaw, SleepersLaw, TickLaw, WaitersLaw};
 ghost use Rattle.thread_laws.specs.Laws.{BegunLaw, DispatchedLaw, EndLaw, EndedLaw, ExitedLaw, FrontLaw, PriorityLaw, SavedLaw};
 
 /// The running thread's row says that it runs, it is in neither queue, and it is one of a live application's.
@@ -79,4 +80,29 @@ pub fn waiting_line_is_settled()
 /// And the waking of all that wait for one.
 pub fn woken_line_is_settled()
     ensures { WokenLineLaw }
+{}
+
+/// The first sleepers, taken out of their list, are distinct threads in neither queue.
+pub fn sleepers_may_wake()
+    ensures { SleepersLaw }
+{}
+
+/// So are those that wait for a line.
+pub fn waiters_may_wake()
+    ensures { WaitersLaw }
+{}
+
+/// When the first of such threads goes to the end of the ready list, the others stay such.
+pub fn next_may_wake()
+    ensures { NextLaw }
+{}
+
+/// At a tick exactly the sleepers whose time has come wake, in their order, and nothing else moves.
+pub fn tick_wakes_the_due()
+    ensures { TickLaw }
+{}
+
+/// Exactly those that wait for a line wake with it, in their order, and nothing else moves.
+pub fn line_wakes_its_waiters()
+    ensures { LineLaw }
 {}

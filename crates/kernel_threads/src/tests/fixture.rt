@@ -1,9 +1,9 @@
 //! A kernel with two applications, and calls on it where they may be made.
 
-ghost use Rattle.std.specs.Prelude.{◌≡◌, ◌↔◌, ◌<◌, ℕ, All, IfOk, IsTrue};
+ghost use Rattle.std.specs.Prelude.{◌≡◌, ◌↔◌, ◌+◌, ◌*◌, ◌^◌, ◌<◌, ℕ, All, IfOk, IsTrue};
 ghost use Rattle.kernel_model.specs.Kernel.{line_at};
 ghost use Rattle.kernel_model.specs.Layout.{kernel_of};
-ghost use Rattle.kernel_model.specs.Words.{identity};
+ghost use Rattle.kernel_model.specs.Words.{identity, tick_number};
 ghost use Rattle.place_model.specs.Settled.{IsSettled};
 ghost use Rattle.kernel_model.specs.Ending.{OwnsNone};
 ghost use Rattle.kernel_model.specs.Running.{DomainRuns, NoneRuns, ThreadRuns};
@@ -73,6 +73,50 @@ fn put_apps(m: &mut FlatMem)
     set_register(m, 4, 0, 0x6010);
 }
 
+/// Memory with eight applications of four threads, loaded and not started. The code of application a is 16 bytes from 6000 + 16 a
+/// on, and its mark is the first of them.
+pub fn eight_apps(alloc: Global) -> Result<FlatMem, AllocError>
+    ensures { IfOk result (λ m. IsSettled m) }
+{
+    let mut m = FlatMem::new(alloc)?;
+    put_eight(&mut m);
+    let all = Regions {
+        dom: 0,
+        code_lo: 0x6000,
+        code_hi: 0x6080,
+        lo: 0x2000,
+        hi: 0x2400,
+    };
+    let mut marks = Marks::new();
+    for a in 0..8 {
+        marks.set(16 * a);
+    }
+    set_marks(&mut m, &all, &marks);
+    Ok(m)
+}
+
+/// Clears memory and writes the rows of eight applications: no static bytes, and four stacks of 32 bytes from 2000 + 128 a on.
+fn put_eight(m: &mut FlatMem)
+    ensures { IsSettled m.new }
+{
+    empty_is_orderly();
+    clear(m);
+    for a in 0..8 {
+        let n = a as u16;
+        let row = AppRow {
+            state: 1,
+            code_lo: 0x6000 + 16 * n,
+            code_hi: 0x6010 + 16 * n,
+            lo: 0x2000 + 128 * n,
+            hi: 0x2080 + 128 * n,
+            z: 0,
+            stack: 32,
+            threads: 4,
+        };
+        set_app(m, a, &row);
+    }
+}
+
 /// Marks 6004 and 600A for application 0, and 6010 for application 1.
 pub fn put_marks(m: &mut FlatMem)
     ensures { IsSettled m.old → IsSettled m.new }
@@ -136,6 +180,13 @@ fn owns_none(m: &FlatMem) -> bool
     true
 }
 
+fn ticks_fit(m: &FlatMem, more: u16) -> bool
+    ensures { IsTrue result → tick_number (kernel_of m.now) + more < 2 ^ 32 }
+{
+    let (low, high) = tick_words(m);
+    u64::from(low) + 65536 * u64::from(high) + u64::from(more) < 0x1_0000_0000
+}
+
 /// Whether all that wait for lines are identities.
 pub fn lines_hold(m: &FlatMem) -> bool
     ensures { IsTrue result → (n : ℕ) → n < 14 → All (λ t. t < 32) (line_at (kernel_of m.now) n) }
@@ -169,6 +220,10 @@ pub enum Call {
     Priority(u16),
     Exit,
     EndApp(u8, AppEnd),
+    Sleep(u16),
+    WaitLine(u16),
+    Tick,
+    WakeLine(u8),
 }
 
 /// What a call answers.
@@ -191,6 +246,8 @@ pub fn make(m: &mut FlatMem, r: &mut Regs, call: Call) -> Answer
         Call::Start(a) => make_start(m, a),
         Call::Dispatch(pick) => make_dispatch(m, r, pick),
         Call::EndApp(a, how) => make_end(m, a, how),
+        Call::Tick => make_tick(m),
+        Call::WakeLine(n) => make_wake_line(m, n),
         _ => make_running(m, r, call),
     }
 }
@@ -249,6 +306,14 @@ fn make_running(m: &mut FlatMem, r: &mut Regs, call: Call) -> Answer
             return make_priority(m, r);
         }
         Call::Exit => return make_exit(m),
+        Call::Sleep(ticks) => {
+            r.set(12, ticks);
+            return make_sleep(m, r);
+        }
+        Call::WaitLine(n) => {
+            r.set(12, n);
+            return make_wait_line(m, r);
+        }
         _ => return Answer::NotMade,
     }
     Answer::Made
@@ -287,6 +352,65 @@ fn make_exit(m: &mut FlatMem) -> Answer
     Answer::Last(exit(m))
 }
 
+fn make_sleep(m: &mut FlatMem, r: &Regs) -> Answer
+    requires settled { IsSettled m.old }
+    requires runs { ThreadRuns (kernel_of m.old) }
+    ensures { IsSettled m.new }
+{
+    let ticks = r.get(12);
+    if ticks == 0 || !ticks_fit(m, ticks) {
+        return Answer::NotMade;
+    }
+    sleep(m, r);
+    Answer::Made
+}
+
+fn make_wait_line(m: &mut FlatMem, r: &Regs) -> Answer
+    requires settled { IsSettled m.old }
+    requires runs { ThreadRuns (kernel_of m.old) }
+    ensures { IsSettled m.new }
+{
+    match wait_line(m, r) {
+        Ok(()) => Answer::Made,
+        Err(code) => Answer::Refused(code),
+    }
+}
+
+fn make_tick(m: &mut FlatMem) -> Answer
+    requires { IsSettled m.old }
+    ensures { IsSettled m.new }
+{
+    if !ticks_fit(m, 1) {
+        return Answer::NotMade;
+    }
+    tick(m);
+    Answer::Made
+}
+
+/// Makes so many ticks, and tells whether all could be made.
+pub fn make_ticks(m: &mut FlatMem, count: u32) -> bool
+    requires { IsSettled m.old }
+    ensures { IsSettled m.new }
+{
+    for _turn in 0..count {
+        if make_tick(m) != Answer::Made {
+            return false;
+        }
+    }
+    true
+}
+
+fn make_wake_line(m: &mut FlatMem, n: u8) -> Answer
+    requires { IsSettled m.old }
+    ensures { IsSettled m.new }
+{
+    if n >= 14 {
+        return Answer::NotMade;
+    }
+    wake_line(m, n);
+    Answer::Made
+}
+
 /// Returns, with SP at an address and a word there. None where no domain runs.
 pub fn try_return(m: &mut FlatMem, r: &mut Regs, stack: u16, word: u16) -> Option<Result<(), u16>> {
     m.set_word(stack, word);
@@ -316,6 +440,43 @@ pub fn runner(m: &FlatMem) -> u16 {
 /// The current limit and the current top.
 pub fn limits(m: &FlatMem) -> (u16, u16) {
     (get(m, SysWord::CurLim), get(m, SysWord::CurTop))
+}
+
+/// The low and the high word of the tick number.
+pub fn tick_words(m: &FlatMem) -> (u16, u16)
+    ensures { tick_number (kernel_of m.now) ≡ result.0 + 65536 * result.1 }
+{
+    (get(m, SysWord::TickLow), get(m, SysWord::TickHigh))
+}
+
+/// Starts application a, spawns its three other threads, and lets all four sleep for some ticks, one after another. Tells whether
+/// all calls could be made. Nothing runs before and after.
+pub fn four_sleep(m: &mut FlatMem, r: &mut Regs, a: u8, ticks: u16) -> bool
+    requires settled { IsSettled m.old }
+    requires number { a < 8 }
+    ensures { IsSettled m.new }
+{
+    let spawn = Call::Spawn(0x6000 + 16 * u16::from(a), 3);
+    let calls = [
+        Call::Start(a),
+        Call::Dispatch(None),
+        spawn,
+        spawn,
+        spawn,
+        Call::Sleep(ticks),
+        Call::Dispatch(None),
+        Call::Sleep(ticks),
+        Call::Dispatch(None),
+        Call::Sleep(ticks),
+        Call::Dispatch(None),
+        Call::Sleep(ticks),
+    ];
+    for call in calls {
+        if matches!(make(m, r, call), Answer::NotMade | Answer::Refused(_)) {
+            return false;
+        }
+    }
+    true
 }
 
 /// The ready list, filled up with `NO_MEMBER`.
