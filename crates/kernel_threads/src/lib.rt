@@ -25,7 +25,8 @@ pub use entries::{set_priority, spawn};
 pub use kernel_model::code::Code;
 pub use kernel_model::ends::AppEnd;
 pub use returning::{jump, take_return};
-pub use starting::start;
+pub use stacks::{NONE, THREADS_OF_APP, run_none, running};
+pub use starting::{get_ready, start};
 
 #[cfg(test)]
 mod tests;
