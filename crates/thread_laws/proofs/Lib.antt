@@ -17,3 +17,4 @@ pub mod MovingSleepers
 pub mod MovingLines
 pub mod WaitRules
 pub mod WakeRules
+pub mod EndedLocks
