@@ -185,16 +185,18 @@ first_owner_leaves k a i n ns la li h e =
           let size : length ts ≡ length ns = length-map ns (identity a) in
           once 0 (suc j) 0 (omega arith) (omega arith) (ap (identity a) (sym q) ∙ sym (get_or-map (identity a) ns j d 0 lj));
       unwanted = λ q. absurd (omega arith);
-    } in
-    (record {
-      order = order_with_mutex k a i (record { owner = n; waiters = record { items = ns } }) la li (order_of k h) new (elsewhere_wants k a i n (λ q. omega (arith, is.state_is)));
-      placed = left_spot k to (OnMutex a i) t h.placed first (λ u. refl) (same_but_mutex k a i _ li)
-          (λ u ne c. subst (λ (ys : List ℕ). Contains ys u) (sym after) (remove_keeps (t ∷ ts) 0 u (omega arith) ne (subst (λ (ys : List ℕ). Contains ys u) before c)))
-          (λ u c.
-          let r : Contains (t ∷ ts) u × (u ≢ t) = remove_from (t ∷ ts) 0 u (omega arith) once (subst (λ (ys : List ℕ). Contains ys u) after c) in
-          (subst (λ (ys : List ℕ). Contains ys u) (sym before) r.0, r.1))
-          (subst (λ (ys : List ℕ). AllPairs (λ x y. x ≢ y) ys) (sym after) (all_pairs_remove (λ x y. x ≢ y) (t ∷ ts) 0 (omega arith) once));
-    }, is)
+    } in (
+      record {
+        order = order_with_mutex k a i (record { owner = n; waiters = record { items = ns } }) la li (order_of k h) new (elsewhere_wants k a i n (λ q. omega (arith, is.state_is)));
+        placed = left_spot k to (OnMutex a i) t h.placed first (λ u. refl) (same_but_mutex k a i _ li)
+            (λ u ne c. subst (λ (ys : List ℕ). Contains ys u) (sym after) (remove_keeps (t ∷ ts) 0 u (omega arith) ne (subst (λ (ys : List ℕ). Contains ys u) before c)))
+            (λ u c.
+            let r : Contains (t ∷ ts) u × (u ≢ t) = remove_from (t ∷ ts) 0 u (omega arith) once (subst (λ (ys : List ℕ). Contains ys u) after c) in
+            (subst (λ (ys : List ℕ). Contains ys u) (sym before) r.0, r.1))
+            (subst (λ (ys : List ℕ). AllPairs (λ x y. x ≢ y) ys) (sym after) (all_pairs_remove (λ x y. x ≢ y) (t ∷ ts) 0 (omega arith) once));
+      },
+      is,
+    )
 
 -- ---- a thread comes to the end
 
