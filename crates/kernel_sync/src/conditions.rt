@@ -7,7 +7,8 @@ ghost use Rattle.kernel_model.specs.Layout.{kernel_of};
 ghost use Rattle.kernel_model.specs.Locks.{KeepsLocks, RunsOn};
 ghost use Rattle.kernel_model.specs.Queues.{Leaves, QueuesHold};
 ghost use Rattle.kernel_model.specs.Running.{ThreadRuns};
-ghost use Rattle.kernel_model.specs.Sync.{broadcasted, gone_for, own_app, owns, signal_code, signalled, wait_code, waiting_condition, woken};
+ghost use Rattle.kernel_model.specs.Sync.{broadcasted, gone_for, own_app, owns, signal_code, signalled, woken};
+ghost use Rattle.kernel_model.specs.Sync.{wait_code, waiting_condition};
 ghost use Rattle.place_model.specs.Settled.{IsSettled};
 ghost use Rattle.sync_laws.specs.Waiters.{AllMayGo};
 ghost use Rattle.kernel_sync.specs.Answers.{AnswersBy};
@@ -28,9 +29,9 @@ use sync_laws::{
 /// The state of a thread that waits for a condition.
 const ON_CONDITION: u16 = 5;
 
-/// Hands mutex i of the running thread's application over, and lets the thread wait for condition c, at the end of its list, to take
-/// the mutex again; nothing runs. `BadArgument` where c or i is over 3, else `NotOwner` where the thread doesn't own the mutex; then
-/// memory is as it was. Memory is settled before and after.
+/// Hands mutex i of the running thread's application over, and lets the thread wait for condition c, at the end of its list, to
+/// take the mutex again; nothing runs. `BadArgument` where c or i is over 3, else `NotOwner` where the thread doesn't own the
+/// mutex; then memory is as it was. Memory is settled before and after.
 pub fn wait(m: &mut FlatMem, c: u16, i: u16) -> Result<(), Code>
     requires settled { IsSettled m.old }
     requires runs { ThreadRuns (kernel_of m.old) }

@@ -7,7 +7,8 @@ ghost use Rattle.kernel_model.specs.Layout.{kernel_of};
 ghost use Rattle.kernel_model.specs.Locks.{KeepsLocks, RunsOn};
 ghost use Rattle.kernel_model.specs.Queues.{Leaves};
 ghost use Rattle.kernel_model.specs.Running.{ThreadRuns};
-ghost use Rattle.kernel_model.specs.Sync.{all_handed_over, given_up, is_free_mutex, lock_code, locked, own_app, own_number, owns, unlock_code, unlocked};
+ghost use Rattle.kernel_model.specs.Sync.{all_handed_over, given_up, unlock_code, unlocked};
+ghost use Rattle.kernel_model.specs.Sync.{is_free_mutex, lock_code, locked, own_app, own_number, owns};
 ghost use Rattle.kernel_model.specs.Words.{owner_of};
 ghost use Rattle.place_model.specs.Settled.{IsSettled};
 ghost use Rattle.kernel_sync.specs.Answers.{AnswersBy};
@@ -28,12 +29,15 @@ use sync_laws::{
 const MUTEXES: u8 = 4;
 
 /// Locks mutex i of the running thread's application: true where it was free, and is the thread's now; false where another thread
-/// owns it, and this one waits for it at the end of its list, and nothing runs. `BadArgument` where i is over 3, `OwnLock` where the
-/// thread owns it; then memory is as it was. Memory is settled before and after.
+/// owns it, and this one waits for it at the end of its list, and nothing runs. `BadArgument` where i is over 3, else `OwnLock`
+/// where the thread owns it; then memory is as it was. Memory is settled before and after.
 pub fn lock(m: &mut FlatMem, i: u16) -> Result<bool, Code>
     requires settled { IsSettled m.old }
     requires runs { ThreadRuns (kernel_of m.old) }
-    ensures answer { let k = kernel_of m.old in AnswersBy m.old m.new (lock_code k i) (locked k i) (is_free_mutex k (own_app k) i) result }
+    ensures answer {
+        let k = kernel_of m.old in
+        AnswersBy m.old m.new (lock_code k i) (locked k i) (is_free_mutex k (own_app k) i) result
+    }
     ensures owned { result ≡ Ok true → owner_of (kernel_of m.new) (own_app (kernel_of m.old)) i ≡ own_number (kernel_of m.old) }
     ensures locks { KeepsLocks (kernel_of m.old) (kernel_of m.new) }
     ensures settled { IsSettled m.new }
