@@ -15,7 +15,7 @@ fold_range_suc f z a zero = ap (λ i. f z i) (sym (add-zero a))
 fold_range_suc f z a (suc n) =
     fold_range_suc f (f z a) (a + 1) n ∙ ap (λ i. f (fold f (f z a) (range_with_len (a + 1) n)) i) (let e : a + 1 + n ≡ a + suc n = omega arith in e)
 
-fold_range_more : {A : Type 0} (f : A → ℕ → A) (z : A) (n : ℕ) → fold f z (range_with_len 0 (n + 1)) ≡ f (fold f z (range_with_len 0 n)) n
+pub fold_range_more : {A : Type 0} (f : A → ℕ → A) (z : A) (n : ℕ) → fold f z (range_with_len 0 (n + 1)) ≡ f (fold f z (range_with_len 0 n)) n
 fold_range_more f z n =
     ap (λ i. fold f z (range_with_len 0 i)) (add-one n) ∙ fold_range_suc f z 0 n ∙ ap (λ i. f (fold f z (range_with_len 0 n)) i) (let e : 0 + n ≡ n = omega arith in e)
 

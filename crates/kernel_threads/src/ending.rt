@@ -3,6 +3,7 @@
 ghost use Rattle.std.specs.Prelude.{◌≡◌, ◌≢◌, ℕ, ◌<◌, ◌≤◌, All};
 ghost use Rattle.kernel_model.specs.Kernel.{app_at, line_at, with_app};
 ghost use Rattle.kernel_model.specs.Layout.{kernel_of};
+ghost use Rattle.kernel_model.specs.Locks.{EndsLocks};
 ghost use Rattle.kernel_model.specs.Queues.{Leaves, QueuesHold};
 ghost use Rattle.kernel_model.specs.Words.{app_of, live, none, running, running_module};
 ghost use Rattle.place_model.specs.Settled.{IsSettled};
@@ -20,7 +21,7 @@ use kernel_tables::laws::orderly_queues_hold;
 use kernel_tables::{
     MutexRow, SysWord, ThreadRow, app, get, set_app, set_cond, set_mutex, set_thread,
 };
-use thread_laws::{ended_is_settled, exited_is_settled, running_thread};
+use thread_laws::{end_frees_locks, ended_is_settled, exited_is_settled, running_thread};
 
 /// How many mutexes an application has, and how many conditions.
 const MUTEXES: u8 = 4;
@@ -68,9 +69,11 @@ pub fn end_app(m: &mut FlatMem, app: u8, how: AppEnd)
     requires alive { (app_at (kernel_of m.old) app).state ≡ live }
     requires no_module { running_module (kernel_of m.old) ≡ none }
     ensures leaves { Leaves m.old m.new (ended (kernel_of m.old) app how) }
+    ensures locks { EndsLocks (kernel_of m.old) (kernel_of m.new) app }
     ensures settled { IsSettled m.new }
 {
     ended_is_settled();
+    end_frees_locks();
     orderly_queues_hold(m);
     let runs = has_running(m, app);
     end_threads(m, app);

@@ -29,7 +29,8 @@ pub use kernel_model::code::Code;
 pub use kernel_model::ends::AppEnd;
 pub use lines::{wait_line, wake_line};
 pub use returning::{jump, take_return};
-pub use starting::start;
+pub use stacks::{NONE, THREADS_OF_APP, run_none, running};
+pub use starting::{get_ready, start};
 pub use time::{sleep, tick};
 
 #[cfg(test)]

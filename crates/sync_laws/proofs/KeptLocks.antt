@@ -1,21 +1,21 @@
 -- What the calls on mutexes and conditions leave of owners and of those that wait.
-use Rattle.std.proofs.Common.{◌≡◌, ◌≢◌, ◌⊎◌, ℕ, ◌+◌, ◌*◌, ◌<◌, Bool, true, false, cond, inl, inr, List, [], ◌∷◌, ◌++◌, length, get_or, set, refl, ap, sym, ◌∙◌, subst, ⊎_elim, arith, Contains}
-use Rattle.std.proofs.lemmas.Bool.{cases_eq, eqb-true, eqb-false}
+use Rattle.std.proofs.Common.{◌≡◌, ◌≢◌, ℕ, ◌+◌, ◌*◌, ◌<◌, Bool, true, false, cond, inl, inr, List, [], ◌∷◌, ◌++◌, length, get_or, set, refl, ap, sym, ◌∙◌, subst, ⊎_elim, arith, Contains}
+use Rattle.std.proofs.lemmas.Bool.{cases_eq, eqb-true}
 use Rattle.std.proofs.lemmas.List.{get_or-set_same, get_or-set_other}
 use Rattle.std.proofs.lemmas.List.Elements.{Contains-append_left, Contains-append_cases}
-use Rattle.kernel_model.specs.Kernel.{Kernel, thread_at, with_thread, mutex_at, condition_at, with_condition, with_mutex}
-use Rattle.kernel_model.specs.Words.{none, free, ready, ready_row, running_state, on_mutex, on_condition, running, running_module, app_of, number_of, identity, owner_of, waiters_of, none_running}
+use Rattle.kernel_model.specs.Kernel.{Kernel, thread_at, with_thread, mutex_at, condition_at, with_mutex}
+use Rattle.kernel_model.specs.Words.{none, free, ready, ready_row, running_state, on_mutex, on_condition, running, running_module, identity, owner_of, waiters_of, none_running}
 use Rattle.kernel_model.specs.Orderly.{IsOrderly}
 use Rattle.kernel_model.specs.Queues.{to_ready_end}
 use Rattle.kernel_model.specs.Running.{ThreadRuns}
-use Rattle.kernel_model.specs.Locks.{IsOwner, WaitsForMutex, KeepsMutexes, KeepsLocks, RunsOn}
-use Rattle.kernel_model.specs.Sync.{own_app, own_number, with_mutex_row, is_free_mutex, owns, queued, handed_to, handed_over, locked, unlocked, given_up, all_handed_over, waiting_condition}
+use Rattle.kernel_model.specs.Locks.{WaitsForMutex, KeepsMutexes, KeepsLocks}
+use Rattle.kernel_model.specs.Sync.{own_app, own_number, with_mutex_row, is_free_mutex, owns, queued, handed_to, unlocked, given_up, all_handed_over}
 use Rattle.kernel_model.specs.declared.rows.MutexRow.{MutexRow}
 use Rattle.kernel_model.specs.declared.rows.ThreadRow.{ThreadRow}
 use Rattle.place_model.specs.Settled.{IsSettledKernel}
 use Rattle.thread_laws.proofs.Spots.{running_is}
 use Rattle.sync_laws.specs.Laws.{IsHandedOver}
-use Rattle.sync_laws.specs.Promises.{IsOnlyOwner, OwnerLaw, HandedRunsLaw, StaysLaw, UnlockedKeepsLaw, LockedKeepsLaw, AllHandedKeepsLaw, WaitedKeepsLaw}
+use Rattle.sync_laws.specs.Promises.{OwnerLaw, HandedRunsLaw, StaysLaw, UnlockedKeepsLaw, LockedKeepsLaw, AllHandedKeepsLaw, WaitedKeepsLaw}
 use Rattle.sync_laws.proofs.SyncRules.{own_is, handed_runs, unlocked_stays_settled, hands_more}
 use Rattle.sync_laws.proofs.WaiterRules.{waiter_may}
 use Rattle.sync_laws.proofs.KeptMutexes.{mutex_there, mutex_else, keeps_one, joined_keeps, owned_keeps, put_ready, ready_still, rests_keeps, keeps_then}

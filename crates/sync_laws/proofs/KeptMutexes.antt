@@ -1,8 +1,8 @@
 -- What rules on one mutex or one thread leave of owners and of those that wait for mutexes.
-use Rattle.std.proofs.Common.{◌≡◌, ◌≢◌, ◌⊎◌, ℕ, ◌+◌, ◌*◌, ◌<◌, inl, inr, List, [], ◌∷◌, ◌++◌, length, get_or, refl, ap, sym, ◌∙◌, subst, ⊎_elim, arith, Contains}
+use Rattle.std.proofs.Common.{◌≡◌, ◌≢◌, ◌⊎◌, ℕ, ◌+◌, ◌*◌, ◌<◌, inl, inr, List, ◌++◌, length, ap, sym, ◌∙◌, subst, ⊎_elim, arith, Contains}
 use Rattle.std.proofs.lemmas.Bool.{cases_eq}
 use Rattle.std.proofs.lemmas.List.{get_or-set_same, get_or-set_other}
-use Rattle.std.proofs.lemmas.List.Elements.{Contains-append_left, Contains-append_cases}
+use Rattle.std.proofs.lemmas.List.Elements.{Contains-append_left}
 use Rattle.kernel_model.specs.Kernel.{Kernel, thread_at, with_thread, mutex_at, with_mutex, free_mutex, free_thread}
 use Rattle.kernel_model.specs.Words.{none, ready, running_state, running, identity, owner_of, waiters_of}
 use Rattle.kernel_model.specs.Locks.{IsOwner, WaitsForMutex, HasTaken, KeepsMutexes}

@@ -1,16 +1,16 @@
 -- Threads that waited for a condition and go for their mutexes own them, or wait for them behind all others.
-use Rattle.std.proofs.Common.{◌≡◌, ◌≢◌, ◌⊎◌, ℕ, suc, ◌+◌, ◌*◌, ◌<◌, Bool, true, false, cond, inl, inr, List, [], ◌∷◌, ◌++◌, length, get_or, set, take, drop, map, refl, ap, sym, ◌∙◌, subst, ⊎_elim, arith, append_assoc, length-set, Contains}
+use Rattle.std.proofs.Common.{◌≡◌, ◌≢◌, ◌⊎◌, ℕ, ◌+◌, ◌*◌, ◌<◌, Bool, true, false, cond, inl, inr, List, [], ◌∷◌, ◌++◌, length, get_or, take, drop, refl, ap, sym, ◌∙◌, subst, ⊎_elim, arith, append_assoc, length-set, Contains}
 use Rattle.std.specs.List.{fold}
-use Rattle.std.proofs.lemmas.Bool.{cases_eq, eqb-true, eqb-false}
+use Rattle.std.proofs.lemmas.Bool.{cases_eq, eqb-true}
 use Rattle.std.proofs.lemmas.List.{get_or-set_same, get_or-set_other, append-nil, take-append-drop}
 use Rattle.std.proofs.lemmas.List.Elements.{Contains-append_left, Contains-append_right, Contains-append_cases}
-use Rattle.kernel_model.specs.Kernel.{Kernel, thread_at, with_thread, mutex_at, with_mutex, condition_at, with_condition}
-use Rattle.kernel_model.specs.Words.{none, ready, ready_row, running_state, on_mutex, on_condition, running, running_module, identity, owner_of, waiters_of}
+use Rattle.kernel_model.specs.Kernel.{Kernel, thread_at, mutex_at, with_mutex, condition_at, with_condition}
+use Rattle.kernel_model.specs.Words.{none, ready_row, running_state, on_mutex, on_condition, running, identity, owner_of, waiters_of}
 use Rattle.kernel_model.specs.Queues.{to_ready_end}
 use Rattle.kernel_model.specs.Orderly.{IsOnCondition, IsOrderly}
 use Rattle.kernel_model.specs.Orderly.Spot.{OnCondition}
 use Rattle.kernel_model.specs.Running.{ThreadRuns}
-use Rattle.kernel_model.specs.Locks.{WaitsForCondition, HasTaken, HasJoined, KeepsMutexes, KeepsLocks, RunsOn}
+use Rattle.kernel_model.specs.Locks.{WaitsForCondition, HasTaken, HasJoined, KeepsMutexes, RunsOn}
 use Rattle.kernel_model.specs.Sync.{own_app, with_mutex_row, is_free_mutex, queued, gone_for, woken}
 use Rattle.kernel_model.specs.declared.rows.MutexRow.{MutexRow}
 use Rattle.kernel_model.specs.declared.rows.ThreadRow.{ThreadRow}

@@ -1,8 +1,8 @@
 -- A mutex's row replaced: a new owner, the first waiter leaves to own it, or a thread comes to the end of its list.
-use Rattle.std.proofs.Common.{◌≡◌, ◌≢◌, ◌⊎◌, ℕ, zero, suc, ◌+◌, ◌*◌, ◌<◌, ◌≤◌, Bool, true, false, ltb, cond, inl, inr, List, [], ◌∷◌, ◌++◌, length, get_or, set, map, refl, ap, sym, ◌∙◌, subst, ⊎_elim, arith, length-set, All, AllPairs, Contains}
+use Rattle.std.proofs.Common.{◌≡◌, ◌≢◌, ℕ, suc, ◌+◌, ◌*◌, ◌<◌, ◌≤◌, Bool, true, false, ltb, cond, inl, inr, List, [], ◌∷◌, ◌++◌, length, get_or, set, map, refl, ap, sym, ◌∙◌, subst, ⊎_elim, arith, length-set, AllPairs, Contains}
 use Rattle.std.proofs.lemmas.Bool.{cases_eq, cases_lt, cond-true, ltb-true, lt-ltb}
 use Rattle.std.proofs.lemmas.List.{get_or-set_same, get_or-set_other, map-append, length-map, get_or-map}
-use Rattle.std.proofs.lemmas.List.Elements.{All-push, Contains-push, Contains-append_left, Contains-push_cases, Contains-get_or}
+use Rattle.std.proofs.lemmas.List.Elements.{All-push, Contains-push, Contains-append_left, Contains-push_cases}
 use Rattle.std.proofs.lemmas.List.Quantifiers.{all_pairs_remove, all_pairs_push}
 use Rattle.kernel_model.specs.Kernel.{Kernel, thread_at, app_at, mutex_at, with_mutex, free_mutex}
 use Rattle.kernel_model.specs.Words.{none, free, on_mutex, on_condition, app_of, number_of, identity, owner_of, waiters_of}
@@ -185,16 +185,18 @@ first_owner_leaves k a i n ns la li h e =
           let size : length ts ≡ length ns = length-map ns (identity a) in
           once 0 (suc j) 0 (omega arith) (omega arith) (ap (identity a) (sym q) ∙ sym (get_or-map (identity a) ns j d 0 lj));
       unwanted = λ q. absurd (omega arith);
-    } in
-    (record {
-      order = order_with_mutex k a i (record { owner = n; waiters = record { items = ns } }) la li (order_of k h) new (elsewhere_wants k a i n (λ q. omega (arith, is.state_is)));
-      placed = left_spot k to (OnMutex a i) t h.placed first (λ u. refl) (same_but_mutex k a i _ li)
-          (λ u ne c. subst (λ (ys : List ℕ). Contains ys u) (sym after) (remove_keeps (t ∷ ts) 0 u (omega arith) ne (subst (λ (ys : List ℕ). Contains ys u) before c)))
-          (λ u c.
-          let r : Contains (t ∷ ts) u × (u ≢ t) = remove_from (t ∷ ts) 0 u (omega arith) once (subst (λ (ys : List ℕ). Contains ys u) after c) in
-          (subst (λ (ys : List ℕ). Contains ys u) (sym before) r.0, r.1))
-          (subst (λ (ys : List ℕ). AllPairs (λ x y. x ≢ y) ys) (sym after) (all_pairs_remove (λ x y. x ≢ y) (t ∷ ts) 0 (omega arith) once));
-    }, is)
+    } in (
+      record {
+        order = order_with_mutex k a i (record { owner = n; waiters = record { items = ns } }) la li (order_of k h) new (elsewhere_wants k a i n (λ q. omega (arith, is.state_is)));
+        placed = left_spot k to (OnMutex a i) t h.placed first (λ u. refl) (same_but_mutex k a i _ li)
+            (λ u ne c. subst (λ (ys : List ℕ). Contains ys u) (sym after) (remove_keeps (t ∷ ts) 0 u (omega arith) ne (subst (λ (ys : List ℕ). Contains ys u) before c)))
+            (λ u c.
+            let r : Contains (t ∷ ts) u × (u ≢ t) = remove_from (t ∷ ts) 0 u (omega arith) once (subst (λ (ys : List ℕ). Contains ys u) after c) in
+            (subst (λ (ys : List ℕ). Contains ys u) (sym before) r.0, r.1))
+            (subst (λ (ys : List ℕ). AllPairs (λ x y. x ≢ y) ys) (sym after) (all_pairs_remove (λ x y. x ≢ y) (t ∷ ts) 0 (omega arith) once));
+      },
+      is,
+    )
 
 -- ---- a thread comes to the end
 

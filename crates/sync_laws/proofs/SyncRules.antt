@@ -60,6 +60,7 @@ handed_owner k a i ws h la li e few = by ws e
   where
     size : 4 * a + i < length k.mutexes
     size = let x = h.shape.mutex_rows in omega arith
+
     by : (ws : List ℕ) → waiters_of k a i ≡ ws → owner_of (handed_to k a i ws) a i ≢ owner_of k a i
     by [] e q = (let here : none ≡ owner_of k a i = sym (ap (λ (r : MutexRow). r.owner) (get_or-set_same k.mutexes (4 * a + i) (record { owner = none; waiters = record { items = [] } }) free_mutex size)) ∙ q in omega arith)
     by (n ∷ ns) e q =
@@ -217,7 +218,7 @@ waited_settled k a n c i h r e ln lc li other =
     let rests : Kernel = with_thread (none_running k) t row in
     let put : thread_at rests t ≡ row = row_put (none_running k) t row lt h.orderly.shape.thread_rows in
     let but : IsOrderlyBut rests t = running_rests k a n row h.orderly r e (condition_fields (thread_at k t) c i (h.orderly.rows t lt) state) (omega arith)
-        (λ _. record { number = omega arith; not_owner = λ q. other (ap (λ (b : ℕ). owner_of k b i) (sym app) ∙ q ∙ number) }) in
+    (λ _. record { number = omega arith; not_owner = λ q. other (ap (λ (b : ℕ). owner_of k b i) (sym app) ∙ q ∙ number) }) in
     record {
       orderly = comes_to_condition rests a c n (omega arith) lc ln but (ap (λ (w : ThreadRow). w.state) put) (ap (λ (w : ThreadRow). w.object) put);
       inside = h.inside;

@@ -1,21 +1,19 @@
 -- Who waits for a mutex or a condition, and the room in their lists.
-use Rattle.std.proofs.Common.{◌≡◌, ◌≢◌, ℕ, ◌+◌, ◌*◌, ◌<◌, ◌≤◌, List, [], ◌∷◌, ◌++◌, length, get_or, map, refl, ap, sym, ◌∙◌, subst, arith, length-append, All, AllPairs, Contains}
+use Rattle.std.proofs.Common.{◌≡◌, ◌≢◌, ℕ, ◌+◌, ◌*◌, ◌<◌, ◌≤◌, List, [], ◌∷◌, ◌++◌, length, get_or, map, ap, sym, ◌∙◌, subst, arith, length-append, All, AllPairs, Contains}
 use Rattle.std.proofs.lemmas.List.{get_or-map, length-map, set-set}
 use Rattle.std.proofs.lemmas.List.Elements.{All-push, Contains-get_or}
 use Rattle.std.proofs.lemmas.List.Quantifiers.{all_pairs_push}
 use Rattle.kernel_model.proofs.OrderlyLemmas.{distinct_below}
 use Rattle.kernel_model.specs.Kernel.{Kernel, thread_at, condition_at, with_condition}
-use Rattle.kernel_model.specs.Words.{none, free, ready, asleep, running_state, on_mutex, on_condition, running, identity, app_of, priority_of, waiters_of}
-use Rattle.kernel_model.specs.Orderly.{Spot, spot_of, listed, of_four, IsOrderly}
+use Rattle.kernel_model.specs.Words.{running_state, on_mutex, on_condition, identity, waiters_of}
+use Rattle.kernel_model.specs.Orderly.{Spot, spot_of, listed, IsOrderly}
 use Rattle.kernel_model.specs.Orderly.Spot.{Ready, Asleep, OnMutex, OnCondition}
-use Rattle.kernel_model.specs.Running.{ThreadRuns}
 use Rattle.kernel_model.specs.Sync.{own_app, own_number, gone_for}
 use Rattle.place_model.specs.Settled.{IsSettledKernel}
-use Rattle.thread_laws.specs.Facts.{IsUnlisted}
 use Rattle.thread_laws.proofs.ListEdits.{not_member}
-use Rattle.thread_laws.proofs.Spots.{state_in, state_at, running_is}
+use Rattle.thread_laws.proofs.Spots.{running_is}
 use Rattle.sync_laws.specs.Waiters.{MayGetReady, HasRoom, MayGo, AllMayGo, WaiterLaw, NumbersLaw, RoomLaw, GoingLaw}
-use Rattle.sync_laws.proofs.Mutexes.{four_is, waiter_is, on_condition_is, IsFirst}
+use Rattle.sync_laws.proofs.Mutexes.{four_is, waiter_is, on_condition_is}
 use Rattle.sync_laws.proofs.Conditions.{first_listed}
 use Rattle.sync_laws.proofs.SyncRules.{own_is}
 use Rattle.sync_laws.proofs.WokenRules.{IsGoing, going, gone_stays_settled}

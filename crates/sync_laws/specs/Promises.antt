@@ -1,5 +1,5 @@
 -- What the calls on mutexes and conditions leave of owners and of those that wait.
-use Rattle.std.specs.Prelude.{◌≡◌, ◌≢◌, ℕ, ◌<◌, List}
+use Rattle.std.specs.Prelude.{◌≡◌, ◌≢◌, ℕ, ◌<◌}
 use Rattle.kernel_model.specs.Kernel.{Kernel, thread_at}
 use Rattle.kernel_model.specs.Words.{free, identity, owner_of}
 use Rattle.kernel_model.specs.Running.{ThreadRuns}

@@ -1,5 +1,5 @@
 -- Those that wait for mutexes and conditions in a settled kernel, and the room in their lists.
-use Rattle.std.specs.Prelude.{◌≡◌, ◌≢◌, ℕ, ◌<◌, ◌≤◌, List, [], ◌∷◌, ◌++◌, length, All, Contains}
+use Rattle.std.specs.Prelude.{ℕ, ◌<◌, ◌≤◌, List, [], ◌∷◌, ◌++◌, length, All, Contains}
 use Rattle.kernel_model.specs.Kernel.{Kernel, thread_at, condition_at, with_condition}
 use Rattle.kernel_model.specs.Words.{identity, priority_of, waiters_of}
 use Rattle.place_model.specs.Settled.{IsSettledKernel}

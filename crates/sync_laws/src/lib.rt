@@ -1,8 +1,10 @@
-//! What the calls on mutexes and conditions do keeps the kernel settled: laws of the definitions of `kernel_model`. Each is used by calling it.
+//! What the calls on mutexes and conditions do keeps the kernel orderly, its domains apart, and what is promised of owners and of
+//! those that wait: laws of the definitions of `kernel_model` (`Sync.antt`, `Locks.antt`). Each is used by calling it.
 #![tactic(auto)]
 
 ghost use Rattle.sync_laws.specs.Laws.{AllHandedLaw, HandedLaw, LockedLaw, UnlockedLaw, WaitedLaw, WokenLaw};
-ghost use Rattle.sync_laws.specs.Promises.{AllHandedKeepsLaw, HandedRunsLaw, LockedKeepsLaw, OwnerLaw, StaysLaw, UnlockedKeepsLaw, WaitedKeepsLaw, WokenKeepsLaw, WokenRunsLaw};
+ghost use Rattle.sync_laws.specs.Promises.{AllHandedKeepsLaw, LockedKeepsLaw, UnlockedKeepsLaw, WaitedKeepsLaw, WokenKeepsLaw};
+ghost use Rattle.sync_laws.specs.Promises.{HandedRunsLaw, OwnerLaw, StaysLaw, WokenRunsLaw};
 ghost use Rattle.sync_laws.specs.Waiters.{GoingLaw, NumbersLaw, RoomLaw, WaiterLaw};
 
 /// A mutex that is handed over.

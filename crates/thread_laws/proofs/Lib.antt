@@ -19,3 +19,4 @@ pub mod WaitRules
 pub mod WakeRules
 pub mod WakingLemmas
 pub mod WhoWakes
+pub mod EndedLocks

@@ -1,6 +1,7 @@
 -- What the calls on threads do to a kernel keeps it settled.
 use Rattle.std.specs.Prelude.{◌≡◌, ℕ, ◌<◌, ◌≤◌, List, length, slice_index, Option}
 use Rattle.kernel_model.specs.Kernel.{Kernel, app_at}
+use Rattle.kernel_model.specs.Locks.{EndsLocks}
 use Rattle.kernel_model.specs.Words.{none, live, running_module}
 use Rattle.place_model.specs.Settled.{IsSettledKernel}
 use Rattle.kernel_model.specs.declared.ends.AppEnd.{AppEnd}
@@ -32,6 +33,9 @@ PriorityLaw = (k : Kernel) (r : List ℕ) → IsSettledKernel k → ThreadRuns k
 
 abbrev pub EndedLaw : Type 0
 EndedLaw = (k : Kernel) (a : ℕ) (how : AppEnd) → IsSettledKernel k → a < 8 → (app_at k a).state ≡ live → running_module k ≡ none → IsSettledKernel (ended k a how)
+
+abbrev pub EndedLocksLaw : Type 0
+EndedLocksLaw = (k : Kernel) (a : ℕ) (how : AppEnd) → IsSettledKernel k → a < 8 → EndsLocks k (ended k a how) a
 
 abbrev pub ExitedLaw : Type 0
 ExitedLaw = (k : Kernel) → IsSettledKernel k → ThreadRuns k → OwnsNone k → IsSettledKernel (exited k)

@@ -5,7 +5,7 @@
 ghost use Rattle.thread_laws.specs.Facts.{ReadyLaw, RunningLaw, UnlistedLaw};
 ghost use Rattle.thread_laws.specs.Waits.{SleptLaw, TickedLaw, WaitingLineLaw, WokenLineLaw};
 ghost use Rattle.thread_laws.specs.Wakings.{LineLaw, NextLaw, SleepersLaw, TickLaw, WaitersLaw};
-ghost use Rattle.thread_laws.specs.Laws.{BegunLaw, DispatchedLaw, EndLaw, EndedLaw, ExitedLaw, FrontLaw, PriorityLaw, SavedLaw};
+ghost use Rattle.thread_laws.specs.Laws.{BegunLaw, DispatchedLaw, EndLaw, EndedLaw, EndedLocksLaw, ExitedLaw, FrontLaw, PriorityLaw, SavedLaw};
 
 /// The running thread's row says that it runs, it is in neither queue, and it is one of a live application's.
 pub fn running_thread()
@@ -57,7 +57,12 @@ pub fn ended_is_settled()
     ensures { EndedLaw }
 {}
 
-/// And the end of the running thread.
+/// It frees the application's mutexes, and nobody waits for them or for its conditions.
+pub fn end_frees_locks()
+    ensures { EndedLocksLaw }
+{}
+
+/// The end of the running thread keeps the kernel settled.
 pub fn exited_is_settled()
     ensures { ExitedLaw }
 {}

@@ -1,4 +1,6 @@
-use Rattle.std.proofs.Common.{sym}
+use Rattle.std.proofs.Common.{subst, sym}
+use Rattle.kernel_model.specs.Kernel.{Kernel}
+use Rattle.kernel_model.specs.Locks.{EndsLocks}
 use Rattle.kernel_model.specs.Layout.{kernel_of}
 use Rattle.kernel_model.specs.Ending.{ended}
 use Rattle.kernel_threads.proofs.ChainLemmas.{settled_by}
@@ -28,3 +30,13 @@ pub returns-else-runs-clause-settled : goal.returns-else-runs-clause-settled
 returns-else-runs-clause-settled c =
     settled_by c.args.m.now c.set_end.new.m (ended (kernel_of c.args.m.now) c.args.app c.args.how) c.requires.settled (returns-else-runs-clause-leaves c)
     (c.ended_is_settled.ensures (kernel_of c.args.m.now) c.args.app c.args.how c.requires.settled.kernel c.requires.number c.requires.alive c.requires.no_module)
+
+pub returns-then-runs-clause-locks : goal.returns-then-runs-clause-locks
+returns-then-runs-clause-locks c =
+    subst (λ (j : Kernel). EndsLocks (kernel_of c.args.m.now) j c.args.app) (sym (returns-then-runs-clause-leaves c).kernel)
+    (c.end_frees_locks.ensures (kernel_of c.args.m.now) c.args.app c.args.how c.requires.settled.kernel c.requires.number)
+
+pub returns-else-runs-clause-locks : goal.returns-else-runs-clause-locks
+returns-else-runs-clause-locks c =
+    subst (λ (j : Kernel). EndsLocks (kernel_of c.args.m.now) j c.args.app) (sym (returns-else-runs-clause-leaves c).kernel)
+    (c.end_frees_locks.ensures (kernel_of c.args.m.now) c.args.app c.args.how c.requires.settled.kernel c.requires.number)
