@@ -11,3 +11,5 @@ pub mod Dispatching
 pub mod Entries
 pub mod Ending
 pub mod Waking
+pub mod Sync
+pub mod Modules

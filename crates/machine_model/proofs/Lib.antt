@@ -1,2 +1,3 @@
 pub mod LegalForms
 pub mod Written
+pub mod Placing

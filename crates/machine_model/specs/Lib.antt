@@ -6,3 +6,5 @@ pub mod Alu
 pub mod Does
 pub mod Fetching
 pub mod Pairs
+pub mod Rising
+pub mod Accepting

@@ -11,7 +11,7 @@ use crate::arithmetic::{alu, alu_one, writes};
 use crate::operand::{place_of, place_to, source_value, step_source, sum, value_in, word};
 use crate::regs::{PC, Regs, SP, SR};
 use crate::write_back::{put, store};
-use crate::writes::Writes;
+use machine_model::writes::Writes;
 use flat_mem::FlatMem;
 use machine_model::laws::legal_form;
 use msp_encode::instr::{Cond, Dst, Instr, Op1, Op2, Src, Width};

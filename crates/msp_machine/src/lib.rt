@@ -13,10 +13,9 @@ pub mod fetch;
 mod operand;
 pub mod regs;
 mod write_back;
-pub mod writes;
 
+pub use machine_model::writes::Writes;
 pub use regs::Regs;
-pub use writes::Writes;
 
 #[cfg(test)]
 mod tests;

@@ -3,7 +3,7 @@
 use crate::exec::exec;
 use crate::fetch::fetch;
 use crate::regs::{PC, Regs, SP, SR};
-use crate::writes::Writes;
+use machine_model::writes::Writes;
 use flat_mem::FlatMem;
 use msp_decode::NoInstr;
 use msp_encode::instr::{Dst, Instr, Op2, Src, Width};

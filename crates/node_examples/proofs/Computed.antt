@@ -1,0 +1,106 @@
+-- Each by computation.
+use Rattle.std.proofs.Common.{refl}
+use Rattle.node_examples.specs.Rows.{EmitsAndExits, StoresOutside, IsInterruptedInGuard, PushesUntilFull, JumpsIntoGuard, JumpsToUnit, Yields, PicksTheSecond, Overwrites, FailsWhereItReturns, CallsAModule, EntersAndLeaves, SpendsItsBudget, HandsAMutexOver, WaitsForAMutex, AnswersCodes, SleepsATick, HasNoNinthApp, HasNoSecondExport}
+use Rattle.node_examples.specs.Programs.{emitting_code, emitting_relocs, emitting, storing_code, storing_relocs, storing, pushing_code, pushing_relocs, pushing, jumping_astray_code, jumping_astray_relocs, jumping_astray, jumping_code, jumping_relocs, jumping, yielding_code, yielding_relocs, yielding, overwriting_code, overwriting_relocs, overwriting, adding_code, adding_relocs, adding, calling_code, calling_relocs, calling, looping_module_code, looping_module_relocs, looping_module, handing_code, handing_relocs, handing, codes_code, codes_relocs, codes, sleeping_code, sleeping_relocs, sleeping, looping_code, looping_relocs, looping}
+use Rattle.node_examples.specs.Running.{printed, steps_printed, printed_later, refused}
+use Rattle.flat_mem.specs.Bytes.{patch}
+use Rattle.load_model.specs.Images.{added, placed_word, placed_words, code_image, placed_byte, region_image}
+use Rattle.kernel_model.specs.Bytes.{part, filled, rows}
+use Rattle.kernel_model.specs.Layout.{app_bytes, app_read, module_bytes, module_read, function_bytes, function_read, thread_bytes, thread_read, mutex_bytes, mutex_read, layout, table_bytes, outside, tables, kernel_in, kernel_of, empty}
+use Rattle.line_text.specs.Hexadecimal.{hex_word}
+use Rattle.machine_model.specs.Alu.{added as alu_added, logical, decimal_byte, decimal, alu, alu_one}
+use Rattle.machine_model.specs.Context.{set_reg}
+use Rattle.machine_model.specs.Does.{two, change, push, call, one, reti, jump, does}
+use Rattle.machine_model.specs.Memory.{word_at}
+use Rattle.machine_model.specs.Operands.{source_value, after_source, place_to, value_in, place_of, put_context, put_pairs}
+use Rattle.machine_model.specs.Status.{with_flags}
+use Rattle.msp_decode.specs.Function.{read_two, read_one, read_jump, read_instr, reading}
+use Rattle.machine_model.specs.Accepting.{accepted}
+use Rattle.node_model.specs.Booting.{first_memory, empty_system, places_of, loaded, booted}
+use Rattle.node_model.specs.Nodes.{all_owned, system_of, trace_text}
+use Rattle.node_model.specs.Runs.{is_quiet, run}
+use Rattle.trace_model.specs.Draws.{raised_at, pick_at}
+use Rattle.node_model.specs.Steps.{case_of, fetched, step}
+use Rattle.node_model.specs.Systems.{is_unit_address, mark_bytes, seen_in, bytes_in}
+use Rattle.place_model.specs.Gaps.{gaps, longest, lowest}
+use Rattle.place_model.specs.Placing.{free_from}
+use Rattle.kernel_model.specs.Ending.{threads_ended, waits_ended, ended, exited}
+use Rattle.kernel_model.specs.Waking.{ticked, woken_line}
+use Rattle.trace_model.specs.Texts.{shown_texts}
+use Rattle.std.specs.Fmt.{digits}
+
+pub emits_and_exits : EmitsAndExits
+unfolding raised_at pick_at is_quiet run case_of fetched step accepted is_unit_address mark_bytes seen_in bytes_in first_memory empty_system places_of loaded booted all_owned system_of trace_text shown_texts ticked woken_line threads_ended waits_ended ended exited app_bytes app_read module_bytes module_read function_bytes function_read thread_bytes thread_read mutex_bytes mutex_read layout table_bytes outside tables kernel_in kernel_of empty part filled rows free_from gaps longest lowest added placed_word placed_words code_image placed_byte region_image read_two read_one read_jump read_instr reading set_reg logical decimal_byte decimal alu alu_one two change push call one reti jump does with_flags source_value after_source place_to value_in place_of put_context put_pairs word_at patch hex_word alu_added digits emitting_code emitting_relocs emitting printed steps_printed printed_later refused
+emits_and_exits f0 = refl
+
+pub stores_outside : StoresOutside
+unfolding raised_at pick_at is_quiet run case_of fetched step accepted is_unit_address mark_bytes seen_in bytes_in first_memory empty_system places_of loaded booted all_owned system_of trace_text shown_texts ticked woken_line threads_ended waits_ended ended exited app_bytes app_read module_bytes module_read function_bytes function_read thread_bytes thread_read mutex_bytes mutex_read layout table_bytes outside tables kernel_in kernel_of empty part filled rows free_from gaps longest lowest added placed_word placed_words code_image placed_byte region_image read_two read_one read_jump read_instr reading set_reg logical decimal_byte decimal alu alu_one two change push call one reti jump does with_flags source_value after_source place_to value_in place_of put_context put_pairs word_at patch hex_word alu_added digits storing_code storing_relocs storing printed steps_printed printed_later refused
+stores_outside f0 = refl
+
+pub is_interrupted_in_guard : IsInterruptedInGuard
+unfolding raised_at pick_at is_quiet run case_of fetched step accepted is_unit_address mark_bytes seen_in bytes_in first_memory empty_system places_of loaded booted all_owned system_of trace_text shown_texts ticked woken_line threads_ended waits_ended ended exited app_bytes app_read module_bytes module_read function_bytes function_read thread_bytes thread_read mutex_bytes mutex_read layout table_bytes outside tables kernel_in kernel_of empty part filled rows free_from gaps longest lowest added placed_word placed_words code_image placed_byte region_image read_two read_one read_jump read_instr reading set_reg logical decimal_byte decimal alu alu_one two change push call one reti jump does with_flags source_value after_source place_to value_in place_of put_context put_pairs word_at patch hex_word alu_added digits pushing_code pushing_relocs pushing printed steps_printed printed_later refused
+is_interrupted_in_guard f0 = refl
+
+pub pushes_until_full : PushesUntilFull
+unfolding raised_at pick_at is_quiet run case_of fetched step accepted is_unit_address mark_bytes seen_in bytes_in first_memory empty_system places_of loaded booted all_owned system_of trace_text shown_texts ticked woken_line threads_ended waits_ended ended exited app_bytes app_read module_bytes module_read function_bytes function_read thread_bytes thread_read mutex_bytes mutex_read layout table_bytes outside tables kernel_in kernel_of empty part filled rows free_from gaps longest lowest added placed_word placed_words code_image placed_byte region_image read_two read_one read_jump read_instr reading set_reg logical decimal_byte decimal alu alu_one two change push call one reti jump does with_flags source_value after_source place_to value_in place_of put_context put_pairs word_at patch hex_word alu_added digits pushing_code pushing_relocs pushing printed steps_printed printed_later refused
+pushes_until_full f0 = refl
+
+pub jumps_into_guard : JumpsIntoGuard
+unfolding raised_at pick_at is_quiet run case_of fetched step accepted is_unit_address mark_bytes seen_in bytes_in first_memory empty_system places_of loaded booted all_owned system_of trace_text shown_texts ticked woken_line threads_ended waits_ended ended exited app_bytes app_read module_bytes module_read function_bytes function_read thread_bytes thread_read mutex_bytes mutex_read layout table_bytes outside tables kernel_in kernel_of empty part filled rows free_from gaps longest lowest added placed_word placed_words code_image placed_byte region_image read_two read_one read_jump read_instr reading set_reg logical decimal_byte decimal alu alu_one two change push call one reti jump does with_flags source_value after_source place_to value_in place_of put_context put_pairs word_at patch hex_word alu_added digits jumping_astray_code jumping_astray_relocs jumping_astray printed steps_printed printed_later refused
+jumps_into_guard f0 = refl
+
+pub jumps_to_unit : JumpsToUnit
+unfolding raised_at pick_at is_quiet run case_of fetched step accepted is_unit_address mark_bytes seen_in bytes_in first_memory empty_system places_of loaded booted all_owned system_of trace_text shown_texts ticked woken_line threads_ended waits_ended ended exited app_bytes app_read module_bytes module_read function_bytes function_read thread_bytes thread_read mutex_bytes mutex_read layout table_bytes outside tables kernel_in kernel_of empty part filled rows free_from gaps longest lowest added placed_word placed_words code_image placed_byte region_image read_two read_one read_jump read_instr reading set_reg logical decimal_byte decimal alu alu_one two change push call one reti jump does with_flags source_value after_source place_to value_in place_of put_context put_pairs word_at patch hex_word alu_added digits jumping_code jumping_relocs jumping printed steps_printed printed_later refused
+jumps_to_unit f0 = refl
+
+pub yields : Yields
+unfolding raised_at pick_at is_quiet run case_of fetched step accepted is_unit_address mark_bytes seen_in bytes_in first_memory empty_system places_of loaded booted all_owned system_of trace_text shown_texts ticked woken_line threads_ended waits_ended ended exited app_bytes app_read module_bytes module_read function_bytes function_read thread_bytes thread_read mutex_bytes mutex_read layout table_bytes outside tables kernel_in kernel_of empty part filled rows free_from gaps longest lowest added placed_word placed_words code_image placed_byte region_image read_two read_one read_jump read_instr reading set_reg logical decimal_byte decimal alu alu_one two change push call one reti jump does with_flags source_value after_source place_to value_in place_of put_context put_pairs word_at patch hex_word alu_added digits yielding_code yielding_relocs yielding printed steps_printed printed_later refused
+yields f0 = refl
+
+pub picks_the_second : PicksTheSecond
+unfolding raised_at pick_at is_quiet run case_of fetched step accepted is_unit_address mark_bytes seen_in bytes_in first_memory empty_system places_of loaded booted all_owned system_of trace_text shown_texts ticked woken_line threads_ended waits_ended ended exited app_bytes app_read module_bytes module_read function_bytes function_read thread_bytes thread_read mutex_bytes mutex_read layout table_bytes outside tables kernel_in kernel_of empty part filled rows free_from gaps longest lowest added placed_word placed_words code_image placed_byte region_image read_two read_one read_jump read_instr reading set_reg logical decimal_byte decimal alu alu_one two change push call one reti jump does with_flags source_value after_source place_to value_in place_of put_context put_pairs word_at patch hex_word alu_added digits emitting_code emitting_relocs emitting printed steps_printed printed_later refused
+picks_the_second f0 f1 = refl
+
+pub overwrites : Overwrites
+unfolding raised_at pick_at is_quiet run case_of fetched step accepted is_unit_address mark_bytes seen_in bytes_in first_memory empty_system places_of loaded booted all_owned system_of trace_text shown_texts ticked woken_line threads_ended waits_ended ended exited app_bytes app_read module_bytes module_read function_bytes function_read thread_bytes thread_read mutex_bytes mutex_read layout table_bytes outside tables kernel_in kernel_of empty part filled rows free_from gaps longest lowest added placed_word placed_words code_image placed_byte region_image read_two read_one read_jump read_instr reading set_reg logical decimal_byte decimal alu alu_one two change push call one reti jump does with_flags source_value after_source place_to value_in place_of put_context put_pairs word_at patch hex_word alu_added digits overwriting_code overwriting_relocs overwriting emitting_code emitting_relocs emitting printed steps_printed printed_later refused
+overwrites f0 f1 = refl
+
+pub fails_where_it_returns : FailsWhereItReturns
+unfolding raised_at pick_at is_quiet run case_of fetched step accepted is_unit_address mark_bytes seen_in bytes_in first_memory empty_system places_of loaded booted all_owned system_of trace_text shown_texts ticked woken_line threads_ended waits_ended ended exited app_bytes app_read module_bytes module_read function_bytes function_read thread_bytes thread_read mutex_bytes mutex_read layout table_bytes outside tables kernel_in kernel_of empty part filled rows free_from gaps longest lowest added placed_word placed_words code_image placed_byte region_image read_two read_one read_jump read_instr reading set_reg logical decimal_byte decimal alu alu_one two change push call one reti jump does with_flags source_value after_source place_to value_in place_of put_context put_pairs word_at patch hex_word alu_added digits overwriting_code overwriting_relocs overwriting emitting_code emitting_relocs emitting printed steps_printed printed_later refused
+fails_where_it_returns f0 f1 = refl
+
+pub calls_a_module : CallsAModule
+unfolding raised_at pick_at is_quiet run case_of fetched step accepted is_unit_address mark_bytes seen_in bytes_in first_memory empty_system places_of loaded booted all_owned system_of trace_text shown_texts ticked woken_line threads_ended waits_ended ended exited app_bytes app_read module_bytes module_read function_bytes function_read thread_bytes thread_read mutex_bytes mutex_read layout table_bytes outside tables kernel_in kernel_of empty part filled rows free_from gaps longest lowest added placed_word placed_words code_image placed_byte region_image read_two read_one read_jump read_instr reading set_reg logical decimal_byte decimal alu alu_one two change push call one reti jump does with_flags source_value after_source place_to value_in place_of put_context put_pairs word_at patch hex_word alu_added digits adding_code adding_relocs adding calling_code calling_relocs calling printed steps_printed printed_later refused
+calls_a_module f0 f1 = refl
+
+pub enters_and_leaves : EntersAndLeaves
+unfolding raised_at pick_at is_quiet run case_of fetched step accepted is_unit_address mark_bytes seen_in bytes_in first_memory empty_system places_of loaded booted all_owned system_of trace_text shown_texts ticked woken_line threads_ended waits_ended ended exited app_bytes app_read module_bytes module_read function_bytes function_read thread_bytes thread_read mutex_bytes mutex_read layout table_bytes outside tables kernel_in kernel_of empty part filled rows free_from gaps longest lowest added placed_word placed_words code_image placed_byte region_image read_two read_one read_jump read_instr reading set_reg logical decimal_byte decimal alu alu_one two change push call one reti jump does with_flags source_value after_source place_to value_in place_of put_context put_pairs word_at patch hex_word alu_added digits adding_code adding_relocs adding calling_code calling_relocs calling printed steps_printed printed_later refused
+enters_and_leaves f0 f1 = refl
+
+pub spends_its_budget : SpendsItsBudget
+unfolding raised_at pick_at is_quiet run case_of fetched step accepted is_unit_address mark_bytes seen_in bytes_in first_memory empty_system places_of loaded booted all_owned system_of trace_text shown_texts ticked woken_line threads_ended waits_ended ended exited app_bytes app_read module_bytes module_read function_bytes function_read thread_bytes thread_read mutex_bytes mutex_read layout table_bytes outside tables kernel_in kernel_of empty part filled rows free_from gaps longest lowest added placed_word placed_words code_image placed_byte region_image read_two read_one read_jump read_instr reading set_reg logical decimal_byte decimal alu alu_one two change push call one reti jump does with_flags source_value after_source place_to value_in place_of put_context put_pairs word_at patch hex_word alu_added digits looping_module_code looping_module_relocs looping_module calling_code calling_relocs calling printed steps_printed printed_later refused
+spends_its_budget f0 f1 = refl
+
+pub hands_a_mutex_over : HandsAMutexOver
+unfolding raised_at pick_at is_quiet run case_of fetched step accepted is_unit_address mark_bytes seen_in bytes_in first_memory empty_system places_of loaded booted all_owned system_of trace_text shown_texts ticked woken_line threads_ended waits_ended ended exited app_bytes app_read module_bytes module_read function_bytes function_read thread_bytes thread_read mutex_bytes mutex_read layout table_bytes outside tables kernel_in kernel_of empty part filled rows free_from gaps longest lowest added placed_word placed_words code_image placed_byte region_image read_two read_one read_jump read_instr reading set_reg logical decimal_byte decimal alu alu_one two change push call one reti jump does with_flags source_value after_source place_to value_in place_of put_context put_pairs word_at patch hex_word alu_added digits handing_code handing_relocs handing printed steps_printed printed_later refused
+hands_a_mutex_over f0 = refl
+
+pub waits_for_a_mutex : WaitsForAMutex
+unfolding raised_at pick_at is_quiet run case_of fetched step accepted is_unit_address mark_bytes seen_in bytes_in first_memory empty_system places_of loaded booted all_owned system_of trace_text shown_texts ticked woken_line threads_ended waits_ended ended exited app_bytes app_read module_bytes module_read function_bytes function_read thread_bytes thread_read mutex_bytes mutex_read layout table_bytes outside tables kernel_in kernel_of empty part filled rows free_from gaps longest lowest added placed_word placed_words code_image placed_byte region_image read_two read_one read_jump read_instr reading set_reg logical decimal_byte decimal alu alu_one two change push call one reti jump does with_flags source_value after_source place_to value_in place_of put_context put_pairs word_at patch hex_word alu_added digits handing_code handing_relocs handing printed steps_printed printed_later refused
+waits_for_a_mutex f0 = refl
+
+pub answers_codes : AnswersCodes
+unfolding raised_at pick_at is_quiet run case_of fetched step accepted is_unit_address mark_bytes seen_in bytes_in first_memory empty_system places_of loaded booted all_owned system_of trace_text shown_texts ticked woken_line threads_ended waits_ended ended exited app_bytes app_read module_bytes module_read function_bytes function_read thread_bytes thread_read mutex_bytes mutex_read layout table_bytes outside tables kernel_in kernel_of empty part filled rows free_from gaps longest lowest added placed_word placed_words code_image placed_byte region_image read_two read_one read_jump read_instr reading set_reg logical decimal_byte decimal alu alu_one two change push call one reti jump does with_flags source_value after_source place_to value_in place_of put_context put_pairs word_at patch hex_word alu_added digits codes_code codes_relocs codes printed steps_printed printed_later refused
+answers_codes f0 = refl
+
+pub sleeps_a_tick : SleepsATick
+unfolding raised_at pick_at is_quiet run case_of fetched step accepted is_unit_address mark_bytes seen_in bytes_in first_memory empty_system places_of loaded booted all_owned system_of trace_text shown_texts ticked woken_line threads_ended waits_ended ended exited app_bytes app_read module_bytes module_read function_bytes function_read thread_bytes thread_read mutex_bytes mutex_read layout table_bytes outside tables kernel_in kernel_of empty part filled rows free_from gaps longest lowest added placed_word placed_words code_image placed_byte region_image read_two read_one read_jump read_instr reading set_reg logical decimal_byte decimal alu alu_one two change push call one reti jump does with_flags source_value after_source place_to value_in place_of put_context put_pairs word_at patch hex_word alu_added digits sleeping_code sleeping_relocs sleeping printed steps_printed printed_later refused
+sleeps_a_tick f0 = refl
+
+pub has_no_ninth_app : HasNoNinthApp
+unfolding raised_at pick_at is_quiet run case_of fetched step accepted is_unit_address mark_bytes seen_in bytes_in first_memory empty_system places_of loaded booted all_owned system_of trace_text shown_texts ticked woken_line threads_ended waits_ended ended exited app_bytes app_read module_bytes module_read function_bytes function_read thread_bytes thread_read mutex_bytes mutex_read layout table_bytes outside tables kernel_in kernel_of empty part filled rows free_from gaps longest lowest added placed_word placed_words code_image placed_byte region_image read_two read_one read_jump read_instr reading set_reg logical decimal_byte decimal alu alu_one two change push call one reti jump does with_flags source_value after_source place_to value_in place_of put_context put_pairs word_at patch hex_word alu_added digits looping_code looping_relocs looping printed steps_printed printed_later refused
+has_no_ninth_app f0 f1 f2 f3 f4 f5 f6 f7 f8 = refl
+
+pub has_no_second_export : HasNoSecondExport
+unfolding raised_at pick_at is_quiet run case_of fetched step accepted is_unit_address mark_bytes seen_in bytes_in first_memory empty_system places_of loaded booted all_owned system_of trace_text shown_texts ticked woken_line threads_ended waits_ended ended exited app_bytes app_read module_bytes module_read function_bytes function_read thread_bytes thread_read mutex_bytes mutex_read layout table_bytes outside tables kernel_in kernel_of empty part filled rows free_from gaps longest lowest added placed_word placed_words code_image placed_byte region_image read_two read_one read_jump read_instr reading set_reg logical decimal_byte decimal alu alu_one two change push call one reti jump does with_flags source_value after_source place_to value_in place_of put_context put_pairs word_at patch hex_word alu_added digits adding_code adding_relocs adding printed steps_printed printed_later refused
+has_no_second_export f0 f1 = refl
