@@ -1,5 +1,5 @@
 -- What always holds of a system holds of a booted one.
-use Rattle.std.proofs.Common.{◌≡◌, ℕ, zero, suc, ◌+◌, ◌<◌, List, [], ◌∷◌, replicate, get_or, Option, None, Some, refl, sym, ap, subst, ◌∙◌, arith}
+use Rattle.std.proofs.Common.{◌≡◌, ◌≢◌, ℕ, zero, suc, ◌+◌, ◌<◌, List, [], ◌∷◌, replicate, get_or, Option, None, Some, refl, sym, ap, subst, ◌∙◌, arith}
 use Rattle.std.specs.Option.{unwrap_or}
 use Rattle.machine_model.specs.Context.{reg, IsContext}
 use Rattle.kernel_model.specs.Kernel.{free_app, free_module, free_thread, free_function, empty_row}
@@ -38,12 +38,12 @@ nothing-some : (d : Domain) → None ≡ Some d → ⊥
 unfolding IsNothing
 nothing-some d e = subst IsNothing e tt
 
+zero-one : (n : ℕ) → n ≡ 0 → n ≡ 1 → ⊥
+zero-one n is isnt = omega arith
+
 -- ---- domains
 
--- an accepted object, as the checker gives it
-Accepted : emitting_form → Type 0
-Accepted f = IsAccepted (first_domain f).object (first_domain f).units
-
+-- that the object is accepted is the checker's to say, and is taken as given
 the-domain : (f : emitting_form) → IsAccepted (first_domain f).object (first_domain f).units → IsDomain first_kernel.apps first_kernel.modules 0 (first_domain f)
 unfolding first_kernel first_domain emitting emitting_code emitting_relocs
 the-domain f a = record {
@@ -87,7 +87,7 @@ saved f (suc t) l live resting = absurd (live (no-thread 31 t))
 pub populated : ArePopulated first_kernel.apps first_kernel.threads
 unfolding first_kernel
 populated zero l live = (0, omega arith, λ e. let x : 2 ≡ 0 = e in omega arith)
-populated (suc a) l live = let x : 0 ≡ 1 = sym (ap (λ (r : AppRow). r.state) (rep 7 a free_app)) ∙ live in absurd (omega arith)
+populated (suc a) l live = absurd (zero-one (get_or (replicate 7 free_app) a free_app).state (ap (λ (r : AppRow). r.state) (rep 7 a free_app)) live)
 
 pub functions : (f : emitting_form) → AreFunctions first_kernel.functions (first_placed f)
 unfolding first_kernel
@@ -99,11 +99,14 @@ bounded = record { ticks = omega arith; count = omega arith; no_count = λ e. re
 
 -- ---- who runs
 
+small-zero : (k : ℕ) → get_or (replicate 13 0) k 0 < 65536
+small-zero k = subst (λ (x : ℕ). x < 65536) (sym (rep 13 k 0)) (omega arith)
+
 small : (k : ℕ) → reg first_context k < 65536
 small zero = omega arith
 small (suc zero) = omega arith
 small (suc (suc zero)) = omega arith
-small (suc (suc (suc k))) = let x : get_or (replicate 13 0) k 0 ≡ 0 = rep 13 k 0 in omega arith
+small (suc (suc (suc k))) = small-zero k
 
 steady : IsSteady 1 0x2000 0x2010 first_context
 steady = record {

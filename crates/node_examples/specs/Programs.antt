@@ -252,8 +252,8 @@ handing form = record {
 
 -- ---- lock 0, lock 0, unlock 1, lock 4: each code is emitted
 
-unfoldable pub codes_code : List ℕ
-codes_code = 0x430C ∷ 0x4205 ∷ 0x9211 ∷ 0x0200 ∷ 0x2C02 ∷ 0x4030 ∷ 0xF002 ∷ 0x4502 ∷ 0x12B0 ∷ 0xF016 ∷ 0x4205 ∷ 0x9211 ∷
+unfoldable pub asking_code : List ℕ
+asking_code = 0x430C ∷ 0x4205 ∷ 0x9211 ∷ 0x0200 ∷ 0x2C02 ∷ 0x4030 ∷ 0xF002 ∷ 0x4502 ∷ 0x12B0 ∷ 0xF016 ∷ 0x4205 ∷ 0x9211 ∷
     0x0200 ∷ 0x2C02 ∷ 0x4030 ∷ 0xF002 ∷ 0x4502 ∷ 0x12B0 ∷ 0xF024 ∷ 0x430C ∷ 0x4205 ∷ 0x9211 ∷ 0x0200 ∷ 0x2C02 ∷ 0x4030 ∷
     0xF002 ∷ 0x4502 ∷ 0x12B0 ∷ 0xF016 ∷ 0x4205 ∷ 0x9211 ∷ 0x0200 ∷ 0x2C02 ∷ 0x4030 ∷ 0xF002 ∷ 0x4502 ∷ 0x12B0 ∷ 0xF024 ∷
     0x431C ∷ 0x4205 ∷ 0x9211 ∷ 0x0200 ∷ 0x2C02 ∷ 0x4030 ∷ 0xF002 ∷ 0x4502 ∷ 0x12B0 ∷ 0xF018 ∷ 0x4205 ∷ 0x9211 ∷ 0x0200 ∷
@@ -261,20 +261,20 @@ codes_code = 0x430C ∷ 0x4205 ∷ 0x9211 ∷ 0x0200 ∷ 0x2C02 ∷ 0x4030 ∷ 0
     0x4502 ∷ 0x12B0 ∷ 0xF016 ∷ 0x4205 ∷ 0x9211 ∷ 0x0200 ∷ 0x2C02 ∷ 0x4030 ∷ 0xF002 ∷ 0x4502 ∷ 0x12B0 ∷ 0xF024 ∷ 0x4205 ∷
     0x9211 ∷ 0x0200 ∷ 0x2C02 ∷ 0x4030 ∷ 0xF002 ∷ 0x4502 ∷ 0x12B0 ∷ 0xF008 ∷ 0x3FFF ∷ []
 
-unfoldable pub codes_relocs : List Reloc
-codes_relocs = []
+unfoldable pub asking_relocs : List Reloc
+asking_relocs = []
 
-abbrev pub codes_exports : List Export
-codes_exports = []
+abbrev pub asking_exports : List Export
+asking_exports = []
 
-abbrev pub codes_form : Type 0
-codes_form = MeetsForm App 1 codes_code [] 0 16 1 0 codes_relocs codes_exports
+abbrev pub asking_form : Type 0
+asking_form = MeetsForm App 1 asking_code [] 0 16 1 0 asking_relocs asking_exports
 
-unfoldable pub codes : codes_form → Loadable
-codes form = record {
+unfoldable pub asking : asking_form → Loadable
+asking form = record {
   object = record {
-    kind = App; version = 1; code = codes_code; init = []; zeroed = 0; stack = 16; threads = 1; entry = 0;
-    relocs = codes_relocs; exports = codes_exports; form = form };
+    kind = App; version = 1; code = asking_code; init = []; zeroed = 0; stack = 16; threads = 1; entry = 0;
+    relocs = asking_relocs; exports = asking_exports; form = form };
   units = 3 ∷ 4 ∷ 24 ∷ 32 ∷ 192 ∷ 0 ∷ 1 ∷ 6 ∷ 8 ∷ 16 ∷ 32 ∷ [];
 }
 

@@ -1,7 +1,7 @@
 -- What programs print, step by step or at the end, and which objects are refused.
 use Rattle.std.specs.Prelude.{◌≡◌, ℕ, true, false, List, [], ◌∷◌, ◌++◌, codes, Some}
 use Rattle.place_model.specs.declared.places.NoRoom.TheVariants.{Slots, Taken}
-use Rattle.node_examples.specs.Programs.{adding_form, adding, calling_form, calling, codes_form, codes, emitting_form, emitting, handing_form, handing, jumping_form, jumping, jumping_astray_form, jumping_astray, looping_form, looping, looping_module_form, looping_module, overwriting_form, overwriting, pushing_form, pushing, sleeping_form, sleeping, storing_form, storing, yielding_form, yielding}
+use Rattle.node_examples.specs.Programs.{adding_form, adding, asking_form, asking, calling_form, calling, emitting_form, emitting, handing_form, handing, jumping_form, jumping, jumping_astray_form, jumping_astray, looping_form, looping, looping_module_form, looping_module, overwriting_form, overwriting, pushing_form, pushing, sleeping_form, sleeping, storing_form, storing, yielding_form, yielding}
 use Rattle.node_examples.specs.Running.{no_script, raises, picks, line, printed, steps_printed, printed_later, refused}
 
 -- one emit, and an exit
@@ -154,7 +154,7 @@ WaitsForAMutex = (f0 : handing_form) → steps_printed 30 37 no_script (handing 
 
 -- the codes of a lock of one's own mutex, an unlock of another's, and a number that no mutex has
 abbrev pub AnswersCodes : Type 0
-AnswersCodes = (f0 : codes_form) → printed false false 200 no_script (codes f0 ∷ []) ≡
+AnswersCodes = (f0 : asking_form) → printed false false 200 no_script (asking f0 ∷ []) ≡
     line (codes "a0 6000 60AC 2000 2010")
     ++ line (codes "13 a0.t0 emit 0000")
     ++ line (codes "26 a0.t0 emit 0004")
