@@ -4,7 +4,7 @@ pub mod Status
 pub mod Operands
 pub mod Alu
 pub mod Does
+pub mod Accepting
 pub mod Fetching
 pub mod Pairs
 pub mod Rising
-pub mod Accepting

@@ -4,6 +4,7 @@ use Rattle.std.specs.Option.{unwrap_or}
 use Rattle.machine_model.specs.Context.{reg, IsContext}
 use Rattle.kernel_model.specs.Kernel.{free_app, free_module, free_thread, free_function, empty_row}
 use Rattle.kernel_model.specs.Running.{ThreadRuns}
+use Rattle.kernel_model.proofs.EmptyLemmas.{same_row}
 use Rattle.kernel_model.specs.declared.rows.AppRow.{AppRow}
 use Rattle.kernel_model.specs.declared.rows.ModuleRow.{ModuleRow}
 use Rattle.kernel_model.specs.declared.rows.FnRow.{FnRow}
@@ -14,16 +15,12 @@ use Rattle.load_model.specs.Domains.{Domain}
 use Rattle.node_model.specs.Placed.{address}
 use Rattle.node_model.specs.Good.{IsGood, AtUnit}
 use Rattle.node_model.specs.Systems.{domain_in}
-use Rattle.node_model.specs.Sound.{IsAppRowOf, IsDomain, AreDomains, HasDomain, IsGoodIn, IsRunning, AThread, AreSaved, ArePopulated, AreFunctions, AreBounded, HasThread}
+use Rattle.node_model.specs.Sound.{IsAppRowOf, IsDomain, AreDomains, HasDomain, IsGoodIn, IsRunning, AThread, AreSaved, ArePopulated, AreFunctions, AreBounded, HasThread, IsSoundKernel}
 use Rattle.node_examples.specs.Programs.{emitting_form, emitting, emitting_code, emitting_relocs}
+use Rattle.node_examples.proofs.Settled.{settled}
 use Rattle.node_examples.specs.First.{first_row, first_context, first_kernel, first_domain, first_placed}
 
 -- ---- lists of one value
-
-rep : {A : Type 0} (n i : ℕ) (a : A) → get_or (replicate n a) i a ≡ a
-rep zero i a = refl
-rep (suc n) zero a = refl
-rep (suc n) (suc i) a = rep n i a
 
 no-thread : (n i : ℕ) → (get_or (replicate n empty_row) i free_thread).state ≡ 0
 no-thread zero i = refl
@@ -62,16 +59,16 @@ unfolding first_placed
 placed f a zero d e =
     let same : first_domain f ≡ d = ap (λ (o : Option Domain). unwrap_or o (first_domain f)) e in
     subst (λ (x : Domain). IsDomain first_kernel.apps first_kernel.modules 0 x) same (the-domain f a)
-placed f a (suc n) d e = absurd (nothing-some d (sym (rep 11 n None) ∙ e))
+placed f a (suc n) d e = absurd (nothing-some d (sym (same_row 11 n None) ∙ e))
 
 apps-used : (f : emitting_form) (a : ℕ) → a < 8 → (get_or first_kernel.apps a free_app).state ≢ 0 → HasDomain (first_placed f) a
 unfolding first_kernel first_placed
 apps-used f zero l used = (first_domain f, refl)
-apps-used f (suc a) l used = absurd (used (ap (λ (r : AppRow). r.state) (rep 7 a free_app)))
+apps-used f (suc a) l used = absurd (used (ap (λ (r : AppRow). r.state) (same_row 7 a free_app)))
 
 modules-used : (f : emitting_form) (i : ℕ) → i < 4 → (get_or first_kernel.modules i free_module).state ≢ 0 → HasDomain (first_placed f) (8 + i)
 unfolding first_kernel
-modules-used f i l used = absurd (used (ap (λ (r : ModuleRow). r.state) (rep 4 i free_module)))
+modules-used f i l used = absurd (used (ap (λ (r : ModuleRow). r.state) (same_row 4 i free_module)))
 
 pub domains : (f : emitting_form) → IsAccepted (first_domain f).object (first_domain f).units → AreDomains first_kernel.apps first_kernel.modules (first_placed f)
 unfolding first_placed
@@ -87,11 +84,11 @@ saved f (suc t) l live resting = absurd (live (no-thread 31 t))
 pub populated : ArePopulated first_kernel.apps first_kernel.threads
 unfolding first_kernel
 populated zero l live = (0, omega arith, λ e. let x : 2 ≡ 0 = e in omega arith)
-populated (suc a) l live = absurd (zero-one (get_or (replicate 7 free_app) a free_app).state (ap (λ (r : AppRow). r.state) (rep 7 a free_app)) live)
+populated (suc a) l live = absurd (zero-one (get_or (replicate 7 free_app) a free_app).state (ap (λ (r : AppRow). r.state) (same_row 7 a free_app)) live)
 
 pub functions : (f : emitting_form) → AreFunctions first_kernel.functions (first_placed f)
 unfolding first_kernel
-functions f n l used = absurd (used (ap (λ (r : FnRow). r.module) (rep 64 n free_function)))
+functions f n l used = absurd (used (ap (λ (r : FnRow). r.module) (same_row 64 n free_function)))
 
 pub bounded : AreBounded 0 first_kernel.budget first_kernel.module_now first_kernel.pending 0
 unfolding first_kernel
@@ -100,7 +97,7 @@ bounded = record { ticks = omega arith; count = omega arith; no_count = λ e. re
 -- ---- who runs
 
 small-zero : (k : ℕ) → get_or (replicate 13 0) k 0 < 65536
-small-zero k = subst (λ (x : ℕ). x < 65536) (sym (rep 13 k 0)) (omega arith)
+small-zero k = subst (λ (x : ℕ). x < 65536) (sym (same_row 13 k 0)) (omega arith)
 
 small : (k : ℕ) → reg first_context k < 65536
 small zero = omega arith
@@ -127,3 +124,9 @@ good f a = record { steady = steady; somewhere = AtUnit 0 (first-unit f a) refl 
 pub running : (f : emitting_form) (m : List ℕ) → IsAccepted (first_domain f).object (first_domain f).units → IsRunning m first_context first_kernel (first_placed f)
 unfolding first_kernel first_placed
 running f m a = AThread (record { thread = omega arith; no_module = refl }) (record { domain = first_domain f; placed = refl; good = good f a })
+
+-- ---- all of the kernel
+
+pub sound : (f : emitting_form) → IsAccepted (first_domain f).object (first_domain f).units → IsSoundKernel first_kernel (first_placed f) 0
+unfolding first_kernel
+sound f a = record { settled = settled; domains = domains f a; saved = saved f; populated = populated; functions = functions f; bounded = bounded }

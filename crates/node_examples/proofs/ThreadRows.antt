@@ -1,6 +1,6 @@
 -- Each by computation.
 use Rattle.std.proofs.Common.{refl}
-use Rattle.node_examples.specs.Rows.{Yields, PicksTheSecond, Overwrites, FailsWhereItReturns, SleepsATick}
+use Rattle.node_examples.specs.Rows.{Yields, PicksTheSecond, FailsWhereItReturns, SleepsATick}
 use Rattle.node_examples.specs.Programs.{yielding_code, yielding_relocs, yielding, emitting_code, emitting_relocs, emitting, overwriting_code, overwriting_relocs, overwriting, sleeping_code, sleeping_relocs, sleeping}
 use Rattle.node_examples.specs.Running.{printed, steps_printed}
 use Rattle.flat_mem.specs.Bytes.{patch}
@@ -24,62 +24,52 @@ use Rattle.node_model.specs.Steps.{case_of, fetched, step}
 use Rattle.node_model.specs.Systems.{is_unit_address, mark_bytes, seen_in, bytes_in}
 use Rattle.place_model.specs.Gaps.{gaps, longest, lowest}
 use Rattle.place_model.specs.Placing.{free_from}
+use Rattle.kernel_model.specs.Sync.{all_handed_over, woken}
 use Rattle.kernel_model.specs.Ending.{threads_ended, waits_ended, ended, exited}
 use Rattle.kernel_model.specs.Waking.{ticked, woken_line}
 use Rattle.trace_model.specs.Texts.{shown_texts}
 use Rattle.std.specs.Fmt.{digits}
 
 pub yields : Yields
-unfolding raised_at pick_at is_quiet run case_of fetched step accepted is_unit_address mark_bytes seen_in bytes_in
-    first_memory empty_system places_of loaded booted all_owned system_of trace_text shown_texts ticked woken_line
-    threads_ended waits_ended ended exited app_bytes app_read module_bytes module_read function_bytes function_read
-    thread_bytes thread_read mutex_bytes mutex_read layout table_bytes outside tables kernel_in kernel_of empty part filled
-    rows free_from gaps longest lowest added placed_word placed_words code_image placed_byte region_image read_two read_one
-    read_jump read_instr reading set_reg logical decimal_byte decimal alu alu_one two change push call one reti jump does
-    with_flags source_value after_source place_to value_in place_of put_context put_pairs word_at patch hex_word alu_added
-    digits yielding_code yielding_relocs yielding printed
+unfolding all_handed_over woken raised_at pick_at is_quiet run case_of fetched step accepted is_unit_address mark_bytes
+    seen_in bytes_in first_memory empty_system places_of loaded booted all_owned system_of trace_text shown_texts ticked
+    woken_line threads_ended waits_ended ended exited app_bytes app_read module_bytes module_read function_bytes
+    function_read thread_bytes thread_read mutex_bytes mutex_read layout table_bytes outside tables kernel_in kernel_of
+    empty part filled rows free_from gaps longest lowest added placed_word placed_words code_image placed_byte region_image
+    read_two read_one read_jump read_instr reading set_reg logical decimal_byte decimal alu alu_one two change push call one
+    reti jump does with_flags source_value after_source place_to value_in place_of put_context put_pairs word_at patch
+    hex_word alu_added digits yielding_code yielding_relocs yielding printed
 yields f0 = refl
 
 pub picks_the_second : PicksTheSecond
-unfolding raised_at pick_at is_quiet run case_of fetched step accepted is_unit_address mark_bytes seen_in bytes_in
-    first_memory empty_system places_of loaded booted all_owned system_of trace_text shown_texts ticked woken_line
-    threads_ended waits_ended ended exited app_bytes app_read module_bytes module_read function_bytes function_read
-    thread_bytes thread_read mutex_bytes mutex_read layout table_bytes outside tables kernel_in kernel_of empty part filled
-    rows free_from gaps longest lowest added placed_word placed_words code_image placed_byte region_image read_two read_one
-    read_jump read_instr reading set_reg logical decimal_byte decimal alu alu_one two change push call one reti jump does
-    with_flags source_value after_source place_to value_in place_of put_context put_pairs word_at patch hex_word alu_added
-    digits emitting_code emitting_relocs emitting printed
+unfolding all_handed_over woken raised_at pick_at is_quiet run case_of fetched step accepted is_unit_address mark_bytes
+    seen_in bytes_in first_memory empty_system places_of loaded booted all_owned system_of trace_text shown_texts ticked
+    woken_line threads_ended waits_ended ended exited app_bytes app_read module_bytes module_read function_bytes
+    function_read thread_bytes thread_read mutex_bytes mutex_read layout table_bytes outside tables kernel_in kernel_of
+    empty part filled rows free_from gaps longest lowest added placed_word placed_words code_image placed_byte region_image
+    read_two read_one read_jump read_instr reading set_reg logical decimal_byte decimal alu alu_one two change push call one
+    reti jump does with_flags source_value after_source place_to value_in place_of put_context put_pairs word_at patch
+    hex_word alu_added digits emitting_code emitting_relocs emitting printed
 picks_the_second f0 f1 = refl
 
-pub overwrites : Overwrites
-unfolding raised_at pick_at is_quiet run case_of fetched step accepted is_unit_address mark_bytes seen_in bytes_in
-    first_memory empty_system places_of loaded booted all_owned system_of trace_text shown_texts ticked woken_line
-    threads_ended waits_ended ended exited app_bytes app_read module_bytes module_read function_bytes function_read
-    thread_bytes thread_read mutex_bytes mutex_read layout table_bytes outside tables kernel_in kernel_of empty part filled
-    rows free_from gaps longest lowest added placed_word placed_words code_image placed_byte region_image read_two read_one
-    read_jump read_instr reading set_reg logical decimal_byte decimal alu alu_one two change push call one reti jump does
-    with_flags source_value after_source place_to value_in place_of put_context put_pairs word_at patch hex_word alu_added
-    digits overwriting_code overwriting_relocs overwriting emitting_code emitting_relocs emitting printed
-overwrites f0 f1 = refl
-
 pub fails_where_it_returns : FailsWhereItReturns
-unfolding raised_at pick_at is_quiet run case_of fetched step accepted is_unit_address mark_bytes seen_in bytes_in
-    first_memory empty_system places_of loaded booted all_owned system_of trace_text shown_texts ticked woken_line
-    threads_ended waits_ended ended exited app_bytes app_read module_bytes module_read function_bytes function_read
-    thread_bytes thread_read mutex_bytes mutex_read layout table_bytes outside tables kernel_in kernel_of empty part filled
-    rows free_from gaps longest lowest added placed_word placed_words code_image placed_byte region_image read_two read_one
-    read_jump read_instr reading set_reg logical decimal_byte decimal alu alu_one two change push call one reti jump does
-    with_flags source_value after_source place_to value_in place_of put_context put_pairs word_at patch hex_word alu_added
-    digits overwriting_code overwriting_relocs overwriting emitting_code emitting_relocs emitting printed
+unfolding all_handed_over woken raised_at pick_at is_quiet run case_of fetched step accepted is_unit_address mark_bytes
+    seen_in bytes_in first_memory empty_system places_of loaded booted all_owned system_of trace_text shown_texts ticked
+    woken_line threads_ended waits_ended ended exited app_bytes app_read module_bytes module_read function_bytes
+    function_read thread_bytes thread_read mutex_bytes mutex_read layout table_bytes outside tables kernel_in kernel_of
+    empty part filled rows free_from gaps longest lowest added placed_word placed_words code_image placed_byte region_image
+    read_two read_one read_jump read_instr reading set_reg logical decimal_byte decimal alu alu_one two change push call one
+    reti jump does with_flags source_value after_source place_to value_in place_of put_context put_pairs word_at patch
+    hex_word alu_added digits overwriting_code overwriting_relocs overwriting emitting_code emitting_relocs emitting printed
 fails_where_it_returns f0 f1 = refl
 
 pub sleeps_a_tick : SleepsATick
-unfolding raised_at pick_at is_quiet run case_of fetched step accepted is_unit_address mark_bytes seen_in bytes_in
-    first_memory empty_system places_of loaded booted all_owned system_of trace_text shown_texts ticked woken_line
-    threads_ended waits_ended ended exited app_bytes app_read module_bytes module_read function_bytes function_read
-    thread_bytes thread_read mutex_bytes mutex_read layout table_bytes outside tables kernel_in kernel_of empty part filled
-    rows free_from gaps longest lowest added placed_word placed_words code_image placed_byte region_image read_two read_one
-    read_jump read_instr reading set_reg logical decimal_byte decimal alu alu_one two change push call one reti jump does
-    with_flags source_value after_source place_to value_in place_of put_context put_pairs word_at patch hex_word alu_added
-    digits sleeping_code sleeping_relocs sleeping steps_printed
+unfolding all_handed_over woken raised_at pick_at is_quiet run case_of fetched step accepted is_unit_address mark_bytes
+    seen_in bytes_in first_memory empty_system places_of loaded booted all_owned system_of trace_text shown_texts ticked
+    woken_line threads_ended waits_ended ended exited app_bytes app_read module_bytes module_read function_bytes
+    function_read thread_bytes thread_read mutex_bytes mutex_read layout table_bytes outside tables kernel_in kernel_of
+    empty part filled rows free_from gaps longest lowest added placed_word placed_words code_image placed_byte region_image
+    read_two read_one read_jump read_instr reading set_reg logical decimal_byte decimal alu alu_one two change push call one
+    reti jump does with_flags source_value after_source place_to value_in place_of put_context put_pairs word_at patch
+    hex_word alu_added digits sleeping_code sleeping_relocs sleeping steps_printed
 sleeps_a_tick f0 = refl

@@ -55,6 +55,30 @@ storing form = record {
   units = 5 ∷ 0 ∷ 2 ∷ [];
 }
 
+-- ---- the same with R4 = LO
+
+unfoldable pub storing_low_code : List ℕ
+storing_low_code = 0x4036 ∷ 0x0000 ∷ 0x4205 ∷ 0x4604 ∷ 0x5034 ∷ 0x0000 ∷ 0x9034 ∷ 0x0000 ∷ 0x2803 ∷ 0x9034 ∷ 0x0000 ∷
+    0x2802 ∷ 0x4030 ∷ 0xF000 ∷ 0x4502 ∷ 0x4384 ∷ 0x0000 ∷ 0x3FFF ∷ []
+
+unfoldable pub storing_low_relocs : List Reloc
+storing_low_relocs = record { in_code = true; kind = Lo; offset = 0x0002 } ∷
+    record { in_code = true; kind = Lo; offset = 0x000E } ∷ record { in_code = true; kind = Hi; offset = 0x0014 } ∷ []
+
+abbrev pub storing_low_exports : List Export
+storing_low_exports = []
+
+abbrev pub storing_low_form : Type 0
+storing_low_form = MeetsForm App 1 storing_low_code [] 0 16 1 0 storing_low_relocs storing_low_exports
+
+unfoldable pub storing_low : storing_low_form → Loadable
+storing_low form = record {
+  object = record {
+    kind = App; version = 1; code = storing_low_code; init = []; zeroed = 0; stack = 16; threads = 1; entry = 0;
+    relocs = storing_low_relocs; exports = storing_low_exports; form = form };
+  units = 5 ∷ 0 ∷ 2 ∷ [];
+}
+
 -- ---- PUSH R6 behind a growth guard, again and again
 
 unfoldable pub pushing_code : List ℕ

@@ -1,7 +1,9 @@
 -- What programs print, step by step or at the end, and which objects are refused.
 use Rattle.std.specs.Prelude.{◌≡◌, ℕ, true, false, List, [], ◌∷◌, ◌++◌, codes, Some}
 use Rattle.place_model.specs.declared.places.NoRoom.TheVariants.{Slots, Taken}
-use Rattle.node_examples.specs.Programs.{adding_form, adding, asking_form, asking, calling_form, calling, emitting_form, emitting, handing_form, handing, jumping_form, jumping, jumping_astray_form, jumping_astray, looping_form, looping, looping_module_form, looping_module, overwriting_form, overwriting, pushing_form, pushing, sleeping_form, sleeping, storing_form, storing, yielding_form, yielding}
+use Rattle.node_examples.specs.Programs.{adding_form, adding, asking_form, asking, calling_form, calling, emitting_form, emitting, handing_form, handing, jumping_form, jumping, jumping_astray_form, jumping_astray, looping_form, looping, looping_module_form, looping_module, overwriting_form, overwriting, pushing_form, pushing, sleeping_form, sleeping, storing_form, storing, storing_low_form, storing_low, yielding_form, yielding}
+use Rattle.node_model.specs.Booting.{booted}
+use Rattle.node_examples.specs.First.{first_kernel, first_context, first_placed, BootsAs}
 use Rattle.node_examples.specs.Running.{no_script, raises, picks, line, printed, steps_printed, printed_later, refused}
 
 -- one emit, and an exit
@@ -27,9 +29,21 @@ StoresOutside = (f0 : storing_form) → printed false true 100 no_script (storin
     ++ line (codes "10 a0.t0 fault store 2010")
     ++ line (codes "end quiet 10 emits 0 faults 1")
 
--- an interrupt between the test of a guard and the push that it guards writes the four lowest bytes of the stack; the thread goes on
+-- an interrupt inside of a store guard: the thread goes on inside of it, and stores in its region
 abbrev pub IsInterruptedInGuard : Type 0
-IsInterruptedInGuard = (f0 : pushing_form) → steps_printed 35 38 (raises 1 36) (pushing f0 ∷ []) ≡
+IsInterruptedInGuard = (f0 : storing_low_form) → steps_printed 5 12 (raises 1 6) (storing_low f0 ∷ []) ≡
+    line (codes "5 a0.t0 600C 9034")
+    ++ line (codes "6 a0.t0 int 1 6010 200C:0B 200D:00 200E:10 200F:60")
+    ++ line (codes "7 kernel line 1")
+    ++ line (codes "8 a0.t0 6010 2803")
+    ++ line (codes "9 a0.t0 6012 9034")
+    ++ line (codes "10 a0.t0 6016 2802")
+    ++ line (codes "11 a0.t0 601C 4502")
+    ++ line (codes "12 a0.t0 601E 4384 2000:00 2001:00")
+
+-- an interrupt where six pushes have filled the stack but for its four lowest bytes: it writes these
+abbrev pub IsInterruptedWhenFull : Type 0
+IsInterruptedWhenFull = (f0 : pushing_form) → steps_printed 35 38 (raises 1 36) (pushing f0 ∷ []) ≡
     line (codes "35 a0.t0 600E 1206 2004:00 2005:00")
     ++ line (codes "36 a0.t0 int 1 6010 2000:08 2001:00 2002:10 2003:60")
     ++ line (codes "37 kernel line 1")
@@ -88,15 +102,7 @@ PicksTheSecond = (f0 : emitting_form) (f1 : emitting_form) → printed false fal
     ++ line (codes "26 a0.t0 exit last")
     ++ line (codes "end quiet 26 emits 2 faults 0")
 
--- thread 1 overwrites the return address of thread 0, and the other application goes on
-abbrev pub Overwrites : Type 0
-Overwrites = (f0 : overwriting_form) (f1 : emitting_form) → printed false false 30 no_script (overwriting f0 ∷ emitting f1 ∷ []) ≡
-    line (codes "a0 6000 608E 2000 2040")
-    ++ line (codes "a1 608E 60B8 2040 2050")
-    ++ line (codes "26 a1.t0 emit 0005")
-    ++ line (codes "end limit 30 emits 1 faults 0")
-
--- and thread 0 fails where it returns
+-- thread 1 overwrites the return address of thread 0, which fails where it returns; the other application emits and exits
 abbrev pub FailsWhereItReturns : Type 0
 FailsWhereItReturns = (f0 : overwriting_form) (f1 : emitting_form) → printed false false 200 no_script (overwriting f0 ∷ emitting f1 ∷ []) ≡
     line (codes "a0 6000 608E 2000 2040")
@@ -184,3 +190,7 @@ HasNoNinthApp = (f0 : looping_form) (f1 : looping_form) (f2 : looping_form) (f3 
 abbrev pub HasNoSecondExport : Type 0
 HasNoSecondExport = (f0 : adding_form) (f1 : adding_form) → refused (adding f0 ∷ adding f1 ∷ []) ≡
     Some (record { object = 1; cause = Taken 5 })
+
+-- the system behind boot of one application has this kernel, these registers, this domain
+abbrev pub BootsAlone : Type 0
+BootsAlone = (f : emitting_form) → BootsAs (booted (emitting f ∷ [])) first_kernel first_context (first_placed f)

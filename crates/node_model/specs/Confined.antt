@@ -1,5 +1,5 @@
 -- What a record may be, by the system before its step.
-use Rattle.std.specs.Prelude.{◌≡◌, ◌≢◌, ℕ, ◌+◌, ◌*◌, ◌<◌, ◌≤◌, ◌⊎◌, false, if◌then◌else◌, List, Some}
+use Rattle.std.specs.Prelude.{◌≡◌, ◌≢◌, ℕ, ◌+◌, ◌*◌, ◌<◌, ◌≤◌, ◌⊎◌, false, if◌then◌else◌, List, length, Some}
 use Rattle.std.specs.List.{AllByRecursion}
 use Rattle.kernel_model.specs.declared.kinds.Kind.{Kind}
 use Rattle.kernel_model.specs.declared.kinds.Kind.TheVariants.{App, Module}
@@ -96,10 +96,18 @@ IsConfinedFault s w Return v = IsReturnFault s w v
 IsConfinedFault s w Budget v = IsBudgetFault s w v
 
 -- in the running thread's own stack, or at the top of the kernel's while nothing runs
-abbrev pub IsConfinedAccept : System → List (ℕ × ℕ) → Type 0
-IsConfinedAccept s ws =
+abbrev pub IsInOwnStack : System → List (ℕ × ℕ) → Type 0
+IsInOwnStack s ws =
     (ThreadRuns s.kernel × AllByRecursion (Within (low_in s.kernel.apps (running s.kernel)) (top_in s.kernel.apps (running s.kernel))) ws)
     ⊎ (NoneRuns s.kernel × AllByRecursion (Within 0x10FC 0x1100) ws)
+
+-- the four bytes of an acceptance
+pub record IsConfinedAccept (s : System) (w : Who) (line pc : ℕ) (writes : List (ℕ × ℕ)) : Type 0 where
+  pub who : w ≡ who_runs s.kernel
+  pub number : line < 14
+  pub at_pc : pc ≡ reg s.context 0
+  pub four : length writes ≡ 4
+  pub inside : IsInOwnStack s writes
 
 -- the machine idles: PC is at the idle entry, and nothing runs
 pub record IsIdling (s : System) : Type 0 where
@@ -127,6 +135,6 @@ IsConfined s (Entry n w e) = IsAtEntry s w e
 IsConfined s (Emit n w v) = IsAtEntry s w 0xF024 × (v ≡ reg s.context 12)
 IsConfined s (Exit n w l) = IsAtEntry s w 0xF008
 IsConfined s (Fault n w f v) = IsConfinedFault s w f v
-IsConfined s (Accept n w l pc ws) = IsConfinedAccept s ws
+IsConfined s (Accept n w l pc ws) = IsConfinedAccept s w l pc ws
 IsConfined s (Vector n l) = IsJustAccepted s l
 IsConfined s (IdleTurn n) = IsIdling s
