@@ -3,8 +3,8 @@
 use crate::exec::exec;
 use crate::fetch::fetch;
 use crate::regs::{PC, Regs, SP, SR};
-use machine_model::writes::Writes;
 use flat_mem::FlatMem;
+use machine_model::writes::Writes;
 use msp_decode::NoInstr;
 use msp_encode::instr::{Dst, Instr, Op2, Src, Width};
 use std::test::Fail;

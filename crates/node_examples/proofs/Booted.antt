@@ -49,8 +49,16 @@ the-domain f a = record {
   kind = refl;
   region = refl;
   row = record {
-    used = λ e. let x : 1 ≡ 0 = e in omega arith; known = omega arith; code_lo = refl; code_hi = refl; lo = refl; hi = refl;
-    z = refl; stack = refl; threads = refl };
+    used = λ e. let x : 1 ≡ 0 = e in omega arith;
+    known = omega arith;
+    code_lo = refl;
+    code_hi = refl;
+    lo = refl;
+    hi = refl;
+    z = refl;
+    stack = refl;
+    threads = refl;
+  };
 }
 
 placed : (f : emitting_form) → IsAccepted (first_domain f).object (first_domain f).units → (n : ℕ) (d : Domain) → domain_in (first_placed f) n ≡ Some d

@@ -26,8 +26,18 @@ emitting_form = MeetsForm App 1 emitting_code [] 0 16 1 0 emitting_relocs emitti
 unfoldable pub emitting : emitting_form → Loadable
 emitting form = record {
   object = record {
-    kind = App; version = 1; code = emitting_code; init = []; zeroed = 0; stack = 16; threads = 1; entry = 0;
-    relocs = emitting_relocs; exports = emitting_exports; form = form };
+    kind = App;
+    version = 1;
+    code = emitting_code;
+    init = [];
+    zeroed = 0;
+    stack = 16;
+    threads = 1;
+    entry = 0;
+    relocs = emitting_relocs;
+    exports = emitting_exports;
+    form = form;
+  };
   units = 5 ∷ 8 ∷ 16 ∷ [];
 }
 
@@ -50,8 +60,18 @@ storing_form = MeetsForm App 1 storing_code [] 0 16 1 0 storing_relocs storing_e
 unfoldable pub storing : storing_form → Loadable
 storing form = record {
   object = record {
-    kind = App; version = 1; code = storing_code; init = []; zeroed = 0; stack = 16; threads = 1; entry = 0;
-    relocs = storing_relocs; exports = storing_exports; form = form };
+    kind = App;
+    version = 1;
+    code = storing_code;
+    init = [];
+    zeroed = 0;
+    stack = 16;
+    threads = 1;
+    entry = 0;
+    relocs = storing_relocs;
+    exports = storing_exports;
+    form = form;
+  };
   units = 5 ∷ 0 ∷ 2 ∷ [];
 }
 
@@ -74,8 +94,18 @@ storing_low_form = MeetsForm App 1 storing_low_code [] 0 16 1 0 storing_low_relo
 unfoldable pub storing_low : storing_low_form → Loadable
 storing_low form = record {
   object = record {
-    kind = App; version = 1; code = storing_low_code; init = []; zeroed = 0; stack = 16; threads = 1; entry = 0;
-    relocs = storing_low_relocs; exports = storing_low_exports; form = form };
+    kind = App;
+    version = 1;
+    code = storing_low_code;
+    init = [];
+    zeroed = 0;
+    stack = 16;
+    threads = 1;
+    entry = 0;
+    relocs = storing_low_relocs;
+    exports = storing_low_exports;
+    form = form;
+  };
   units = 5 ∷ 0 ∷ 2 ∷ [];
 }
 
@@ -96,8 +126,18 @@ pushing_form = MeetsForm App 1 pushing_code [] 0 16 1 0 pushing_relocs pushing_e
 unfoldable pub pushing : pushing_form → Loadable
 pushing form = record {
   object = record {
-    kind = App; version = 1; code = pushing_code; init = []; zeroed = 0; stack = 16; threads = 1; entry = 0;
-    relocs = pushing_relocs; exports = pushing_exports; form = form };
+    kind = App;
+    version = 1;
+    code = pushing_code;
+    init = [];
+    zeroed = 0;
+    stack = 16;
+    threads = 1;
+    entry = 0;
+    relocs = pushing_relocs;
+    exports = pushing_exports;
+    form = form;
+  };
   units = 1 ∷ 1 ∷ [];
 }
 
@@ -119,8 +159,18 @@ jumping_astray_form = MeetsForm App 1 jumping_astray_code [] 0 16 1 0 jumping_as
 unfoldable pub jumping_astray : jumping_astray_form → Loadable
 jumping_astray form = record {
   object = record {
-    kind = App; version = 1; code = jumping_astray_code; init = []; zeroed = 0; stack = 16; threads = 1; entry = 0;
-    relocs = jumping_astray_relocs; exports = jumping_astray_exports; form = form };
+    kind = App;
+    version = 1;
+    code = jumping_astray_code;
+    init = [];
+    zeroed = 0;
+    stack = 16;
+    threads = 1;
+    entry = 0;
+    relocs = jumping_astray_relocs;
+    exports = jumping_astray_exports;
+    form = form;
+  };
   units = 21 ∷ 16 ∷ [];
 }
 
@@ -142,8 +192,18 @@ jumping_form = MeetsForm App 1 jumping_code [] 0 16 1 0 jumping_relocs jumping_e
 unfoldable pub jumping : jumping_form → Loadable
 jumping form = record {
   object = record {
-    kind = App; version = 1; code = jumping_code; init = []; zeroed = 0; stack = 16; threads = 1; entry = 0;
-    relocs = jumping_relocs; exports = jumping_exports; form = form };
+    kind = App;
+    version = 1;
+    code = jumping_code;
+    init = [];
+    zeroed = 0;
+    stack = 16;
+    threads = 1;
+    entry = 0;
+    relocs = jumping_relocs;
+    exports = jumping_exports;
+    form = form;
+  };
   units = 21 ∷ 16 ∷ [];
 }
 
@@ -165,8 +225,18 @@ yielding_form = MeetsForm App 1 yielding_code [] 0 16 1 0 yielding_relocs yieldi
 unfoldable pub yielding : yielding_form → Loadable
 yielding form = record {
   object = record {
-    kind = App; version = 1; code = yielding_code; init = []; zeroed = 0; stack = 16; threads = 1; entry = 0;
-    relocs = yielding_relocs; exports = yielding_exports; form = form };
+    kind = App;
+    version = 1;
+    code = yielding_code;
+    init = [];
+    zeroed = 0;
+    stack = 16;
+    threads = 1;
+    entry = 0;
+    relocs = yielding_relocs;
+    exports = yielding_exports;
+    form = form;
+  };
   units = 1 ∷ 2 ∷ 4 ∷ [];
 }
 
@@ -195,8 +265,18 @@ overwriting_form = MeetsForm App 1 overwriting_code [] 0 32 2 0 overwriting_relo
 unfoldable pub overwriting : overwriting_form → Loadable
 overwriting form = record {
   object = record {
-    kind = App; version = 1; code = overwriting_code; init = []; zeroed = 0; stack = 32; threads = 2; entry = 0;
-    relocs = overwriting_relocs; exports = overwriting_exports; form = form };
+    kind = App;
+    version = 1;
+    code = overwriting_code;
+    init = [];
+    zeroed = 0;
+    stack = 32;
+    threads = 2;
+    entry = 0;
+    relocs = overwriting_relocs;
+    exports = overwriting_exports;
+    form = form;
+  };
   units = 21 ∷ 32 ∷ 64 ∷ 1 ∷ 2 ∷ 42 ∷ 0 ∷ 16 ∷ 32 ∷ [];
 }
 
@@ -217,8 +297,18 @@ adding_form = MeetsForm Module 1 adding_code [] 0 0 0 0 adding_relocs adding_exp
 unfoldable pub adding : adding_form → Loadable
 adding form = record {
   object = record {
-    kind = Module; version = 1; code = adding_code; init = []; zeroed = 0; stack = 0; threads = 0; entry = 0;
-    relocs = adding_relocs; exports = adding_exports; form = form };
+    kind = Module;
+    version = 1;
+    code = adding_code;
+    init = [];
+    zeroed = 0;
+    stack = 0;
+    threads = 0;
+    entry = 0;
+    relocs = adding_relocs;
+    exports = adding_exports;
+    form = form;
+  };
   units = 3 ∷ [];
 }
 
@@ -241,8 +331,18 @@ calling_form = MeetsForm App 1 calling_code [] 0 16 1 0 calling_relocs calling_e
 unfoldable pub calling : calling_form → Loadable
 calling form = record {
   object = record {
-    kind = App; version = 1; code = calling_code; init = []; zeroed = 0; stack = 16; threads = 1; entry = 0;
-    relocs = calling_relocs; exports = calling_exports; form = form };
+    kind = App;
+    version = 1;
+    code = calling_code;
+    init = [];
+    zeroed = 0;
+    stack = 16;
+    threads = 1;
+    entry = 0;
+    relocs = calling_relocs;
+    exports = calling_exports;
+    form = form;
+  };
   units = 21 ∷ 96 ∷ 128 ∷ 0 ∷ 1 ∷ [];
 }
 
@@ -269,8 +369,18 @@ handing_form = MeetsForm App 1 handing_code [] 0 16 2 0 handing_relocs handing_e
 unfoldable pub handing : handing_form → Loadable
 handing form = record {
   object = record {
-    kind = App; version = 1; code = handing_code; init = []; zeroed = 0; stack = 16; threads = 2; entry = 0;
-    relocs = handing_relocs; exports = handing_exports; form = form };
+    kind = App;
+    version = 1;
+    code = handing_code;
+    init = [];
+    zeroed = 0;
+    stack = 16;
+    threads = 2;
+    entry = 0;
+    relocs = handing_relocs;
+    exports = handing_exports;
+    form = form;
+  };
   units = 3 ∷ 84 ∷ 1 ∷ 2 ∷ 12 ∷ 16 ∷ 224 ∷ 0 ∷ 3 ∷ 4 ∷ 8 ∷ [];
 }
 
@@ -297,8 +407,18 @@ asking_form = MeetsForm App 1 asking_code [] 0 16 1 0 asking_relocs asking_expor
 unfoldable pub asking : asking_form → Loadable
 asking form = record {
   object = record {
-    kind = App; version = 1; code = asking_code; init = []; zeroed = 0; stack = 16; threads = 1; entry = 0;
-    relocs = asking_relocs; exports = asking_exports; form = form };
+    kind = App;
+    version = 1;
+    code = asking_code;
+    init = [];
+    zeroed = 0;
+    stack = 16;
+    threads = 1;
+    entry = 0;
+    relocs = asking_relocs;
+    exports = asking_exports;
+    form = form;
+  };
   units = 3 ∷ 4 ∷ 24 ∷ 32 ∷ 192 ∷ 0 ∷ 1 ∷ 6 ∷ 8 ∷ 16 ∷ 32 ∷ [];
 }
 
@@ -322,8 +442,18 @@ sleeping_form = MeetsForm App 1 sleeping_code [] 0 16 1 0 sleeping_relocs sleepi
 unfoldable pub sleeping : sleeping_form → Loadable
 sleeping form = record {
   object = record {
-    kind = App; version = 1; code = sleeping_code; init = []; zeroed = 0; stack = 16; threads = 1; entry = 0;
-    relocs = sleeping_relocs; exports = sleeping_exports; form = form };
+    kind = App;
+    version = 1;
+    code = sleeping_code;
+    init = [];
+    zeroed = 0;
+    stack = 16;
+    threads = 1;
+    entry = 0;
+    relocs = sleeping_relocs;
+    exports = sleeping_exports;
+    form = form;
+  };
   units = 3 ∷ 4 ∷ 24 ∷ 32 ∷ 64 ∷ [];
 }
 
@@ -344,8 +474,18 @@ looping_form = MeetsForm App 1 looping_code [] 0 16 1 0 looping_relocs looping_e
 unfoldable pub looping : looping_form → Loadable
 looping form = record {
   object = record {
-    kind = App; version = 1; code = looping_code; init = []; zeroed = 0; stack = 16; threads = 1; entry = 0;
-    relocs = looping_relocs; exports = looping_exports; form = form };
+    kind = App;
+    version = 1;
+    code = looping_code;
+    init = [];
+    zeroed = 0;
+    stack = 16;
+    threads = 1;
+    entry = 0;
+    relocs = looping_relocs;
+    exports = looping_exports;
+    form = form;
+  };
   units = 1 ∷ [];
 }
 
@@ -366,7 +506,17 @@ looping_module_form = MeetsForm Module 1 looping_module_code [] 0 0 0 0 looping_
 unfoldable pub looping_module : looping_module_form → Loadable
 looping_module form = record {
   object = record {
-    kind = Module; version = 1; code = looping_module_code; init = []; zeroed = 0; stack = 0; threads = 0; entry = 0;
-    relocs = looping_module_relocs; exports = looping_module_exports; form = form };
+    kind = Module;
+    version = 1;
+    code = looping_module_code;
+    init = [];
+    zeroed = 0;
+    stack = 0;
+    threads = 0;
+    entry = 0;
+    relocs = looping_module_relocs;
+    exports = looping_module_exports;
+    form = form;
+  };
   units = 1 ∷ [];
 }

@@ -33,7 +33,14 @@ unfoldable pub first_memory : List ℕ
 first_memory = patch (replicate 65536 0) 0xFFE0 vectors
 
 unfoldable pub empty_system : System
-empty_system = record { memory = first_memory; context = replicate 16 0; kernel = empty; placed = replicate 12 None; owner = replicate 12 255; steps = 0 }
+empty_system = record {
+  memory = first_memory;
+  context = replicate 16 0;
+  kernel = empty;
+  placed = replicate 12 None;
+  owner = replicate 12 255;
+  steps = 0;
+}
 
 -- ---- a placed object
 
@@ -45,8 +52,15 @@ domain_of o r = record { object = o.object; units = o.units; code_lo = r.code_lo
 abbrev pub loaded_app : Kernel → Object → Regions → Kernel
 loaded_app k o r =
     let k1 = with_app k r.dom (record {
-      state = live; code_lo = r.code_lo; code_hi = r.code_hi; lo = r.lo; hi = r.hi;
-      z = static_size o; stack = o.stack; threads = o.threads }) in
+      state = live;
+      code_lo = r.code_lo;
+      code_hi = r.code_hi;
+      lo = r.lo;
+      hi = r.hi;
+      z = static_size o;
+      stack = o.stack;
+      threads = o.threads;
+    }) in
     saved_register k1 (identity r.dom 0) 0 (r.code_lo + o.entry)
 
 abbrev pub with_export : (in_module code_lo : ℕ) → Kernel → Export → Kernel
@@ -116,7 +130,8 @@ abbrev pub all_started : List (Option Domain) → Kernel → Kernel
 all_started ds k = fold (λ k n. started_if (domain_in ds n) k n) k (range_with_len 0 8)
 
 abbrev pub begun_system : System → System
-begun_system s = let k = all_started s.placed s.kernel in record s { kernel = dispatched k None; context = dispatched_context k None }
+begun_system s =
+    let k = all_started s.placed s.kernel in record s { kernel = dispatched k None; context = dispatched_context k None }
 
 abbrev pub begun_if : Result System Refusal → Result System Refusal
 begun_if (Ok s) = Ok (begun_system s)

@@ -45,7 +45,8 @@ stack_low_in k = if module_runs k then 0x1000 else low_in k.apps (running k)
 abbrev pub stack_top_in : Kernel → ℕ
 stack_top_in k = if module_runs k then 0x1100 else top_in k.apps (running k)
 
--- an instruction of the running domain, at a start of its code, as its words were placed. It writes where the domain may, and what it
+-- an instruction of the running domain, at a start of its code, as its words
+-- were placed. It writes where the domain may, and what it
 -- pushes or pops lies in the stack of who runs
 pub record IsOwnInstr (s : System) (w : Who) (pc word : ℕ) (writes : List (ℕ × ℕ)) : Type 0 where
   pub domain : Domain
@@ -56,7 +57,8 @@ pub record IsOwnInstr (s : System) (w : Who) (pc word : ℕ) (writes : List (ℕ
   pub image : HasBytes (seen s) domain.code_lo (code_image domain)
   pub written : writes ≡ (does (seen s) s.context place.instr place.words).written
   pub inside : AllByRecursion (MayWrite domain.object.kind domain) writes
-  pub stack : StaysInStack (stack_low_in s.kernel) (stack_top_in s.kernel) s.context place.instr (does (seen s) s.context place.instr place.words)
+  pub stack : StaysInStack (stack_low_in s.kernel) (stack_top_in s.kernel) s.context place.instr
+      (does (seen s) s.context place.instr place.words)
 
 -- PC is at this entry, which the running domain may reach
 pub record IsAtEntry (s : System) (w : Who) (entry : ℕ) : Type 0 where
@@ -98,7 +100,8 @@ IsConfinedFault s w Budget v = IsBudgetFault s w v
 -- in the running thread's own stack, or at the top of the kernel's while nothing runs
 abbrev pub IsInOwnStack : System → List (ℕ × ℕ) → Type 0
 IsInOwnStack s ws =
-    (ThreadRuns s.kernel × AllByRecursion (Within (low_in s.kernel.apps (running s.kernel)) (top_in s.kernel.apps (running s.kernel))) ws)
+    (ThreadRuns s.kernel
+    × AllByRecursion (Within (low_in s.kernel.apps (running s.kernel)) (top_in s.kernel.apps (running s.kernel))) ws)
     ⊎ (NoneRuns s.kernel × AllByRecursion (Within 0x10FC 0x1100) ws)
 
 -- the four bytes of an acceptance
@@ -127,7 +130,8 @@ pub record IsJustAccepted (s : System) (line : ℕ) : Type 0 where
   pub cleared : reg s.context 2 ≡ 0
   pub pushed : IsPushed s
 
--- so no record is confined of a step at which no instruction is spelled, or at an entry that has no row for who runs: such a step is
+-- so no record is confined of a step at which no instruction is spelled, or at
+-- an entry that has no row for who runs: such a step is
 -- recorded as an idle turn, and the machine doesn't idle there
 abbrev pub IsConfined : System → Record → Type 0
 IsConfined s (Instr n w pc word ws) = IsOwnInstr s w pc word ws

@@ -120,7 +120,9 @@ pub data Call : Type 0 where
   Leave : Call
 
 abbrev pub calls : List Call
-calls = StoreFault ∷ StackFault ∷ Goes ∷ Calls ∷ Exits ∷ Spawn ∷ Yield ∷ Sleep ∷ Priority ∷ Self ∷ Ticks ∷ Lock ∷ Unlock ∷ Wait ∷ Signal ∷ Broadcast ∷ Line ∷ ModuleCall ∷ Emits ∷ Leave ∷ []
+calls =
+    StoreFault ∷ StackFault ∷ Goes ∷ Calls ∷ Exits ∷ Spawn ∷ Yield ∷ Sleep ∷ Priority ∷ Self ∷ Ticks ∷ Lock ∷ Unlock ∷ Wait ∷ Signal
+    ∷ Broadcast ∷ Line ∷ ModuleCall ∷ Emits ∷ Leave ∷ []
 
 abbrev pub entry_address : Call → ℕ
 entry_address StoreFault = 0xF000
@@ -204,7 +206,9 @@ gives_ticks w =
 
 -- what each does
 abbrev pub row : Call → Work → Turn
-row Spawn w = unless Spawn w (spawn_code w.kernel w.context (w.is_own (r12 w))) (after_giving Spawn w (spawned w.kernel w.context) (number_of (next_thread w.kernel)))
+row Spawn w =
+    unless Spawn w (spawn_code w.kernel w.context (w.is_own (r12 w)))
+    (after_giving Spawn w (spawned w.kernel w.context) (number_of (next_thread w.kernel)))
 row Yield w = yields Yield w
 row Sleep w = if r12 w == 0 then yields Sleep w else after_leaving Sleep w (slept (saved_zero w) w.context)
 row Priority w = unless Priority w (priority_code w.context) (after Priority w (with_priority w.kernel w.context))
@@ -212,11 +216,14 @@ row Self w = after_giving Self w w.kernel (256 * app_of (running w.kernel) + num
 row Ticks w = gives_ticks w
 row Lock w = unless Lock w (lock_code w.kernel (r12 w)) (locks w (r12 w))
 row Unlock w = unless Unlock w (unlock_code w.kernel (r12 w)) (after Unlock w (unlocked w.kernel (r12 w)))
-row Wait w = unless Wait w (wait_code w.kernel (r12 w) (r13 w)) (after_leaving Wait w (waiting_condition (saved_zero w) (r12 w) (r13 w)))
+row Wait w =
+    unless Wait w (wait_code w.kernel (r12 w) (r13 w)) (after_leaving Wait w (waiting_condition (saved_zero w) (r12 w) (r13 w)))
 row Signal w = unless Signal w (signal_code (r12 w)) (after Signal w (signalled w.kernel (r12 w)))
 row Broadcast w = unless Broadcast w (signal_code (r12 w)) (after Broadcast w (broadcasted w.kernel (r12 w)))
 row Line w = unless Line w (line_code w.context) (after_leaving Line w (waiting_line (saved_zero w) w.context))
-row ModuleCall w = unless ModuleCall w (enter_code w.kernel (r12 w)) (goes_straight (entered w.kernel w.context) (entered_context w.kernel w.context) (called w 0xF022))
+row ModuleCall w =
+    unless ModuleCall w (enter_code w.kernel (r12 w))
+    (goes_straight (entered w.kernel w.context) (entered_context w.kernel w.context) (called w 0xF022))
 row Emits w = goes_on w w.kernel w.context 0 (Emit w.step (who_calls w) (r12 w))
 row _ w = nothing_happens w
 

@@ -38,7 +38,8 @@ ReadyKept own k j c =
 -- of the kernel
 pub record KernelKept (own : Own) (before after : Kernel) (context : List ℕ) : Type 0 where
   pub rows : (b : ℕ) → b < 8 → own.apps b ≡ false → app_at after b ≡ app_at before b
-  pub threads : (t : ℕ) → t < 32 → own.threads t ≡ false → (thread_at after t ≡ thread_at before t) ⊎ IsDispatched before after context t
+  pub threads : (t : ℕ) → t < 32 → own.threads t ≡ false
+      → (thread_at after t ≡ thread_at before t) ⊎ IsDispatched before after context t
   pub mutexes : (b i : ℕ) → b < 8 → i < 4 → own.apps b ≡ false → mutex_at after b i ≡ mutex_at before b i
   pub conditions : (b i : ℕ) → b < 8 → i < 4 → own.apps b ≡ false → condition_at after b i ≡ condition_at before b i
   pub ready : ReadyKept own.threads before after context
@@ -51,7 +52,8 @@ pub record KernelKept (own : Own) (before after : Kernel) (context : List ℕ) :
 
 -- of memory: the code and the region of each other domain
 pub record MemoryKept (own : Own) (ds : List (Option Domain)) (before after : List ℕ) : Type 0 where
-  pub code : (n : ℕ) (d : Domain) → own.apps n ≡ false → domain_in ds n ≡ Some d → SamePart d.code_lo (d.code_lo + code_length d.object) before after
+  pub code : (n : ℕ) (d : Domain) → own.apps n ≡ false → domain_in ds n ≡ Some d
+      → SamePart d.code_lo (d.code_lo + code_length d.object) before after
   pub region : (n : ℕ) (d : Domain) → own.apps n ≡ false → domain_in ds n ≡ Some d → SamePart d.lo d.hi before after
 
 -- before the step its lines were raised

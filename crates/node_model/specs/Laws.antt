@@ -1,4 +1,5 @@
--- The laws of a step, cut by its cases. Each is proved in a crate of laws of its own, and takes the others that it rests on as premises.
+-- The laws of a step, cut by its cases. Each is proved in a crate of laws of its
+-- own, and takes the others that it rests on as premises.
 use Rattle.std.specs.Prelude.{◌≡◌, ◌≢◌, ℕ, ◌+◌, ◌<◌, ◌≤◌, ◌⊎◌, ◌↔◌, List, length, slice_index, true, false, Option, None, Some, Ok}
 use Rattle.std.specs.List.{AllByRecursion}
 use Rattle.machine_model.specs.Memory.{IsMemory, put_all, word_at}
@@ -37,7 +38,8 @@ pub record IsSeen (s : System) : Type 0 where
 abbrev pub SeenLaw : Type 0
 SeenLaw = (s : System) → IsSound s → IsSeen s
 
--- a step that keeps the system sound, and is confined and keeps the others. A step of an instruction is that of the one that is spelled
+-- a step that keeps the system sound, and is confined and keeps the others. A
+-- step of an instruction is that of the one that is spelled
 pub record IsSafe (s : System) (n : Next) : Type 0 where
   pub sound : IsSound n.system
   pub confined : IsConfined s n.shown
@@ -47,7 +49,8 @@ pub record IsSafe (s : System) (n : Next) : Type 0 where
 -- ---- the cases
 
 abbrev pub CaseLaw : Case → Type 0
-CaseLaw e = (s : System) (pick : Option ℕ) → IsSound s → s.steps < most_steps → case_of s.kernel s.context ≡ e → IsSafe s (by_case s pick e)
+CaseLaw e =
+    (s : System) (pick : Option ℕ) → IsSound s → s.steps < most_steps → case_of s.kernel s.context ≡ e → IsSafe s (by_case s pick e)
 
 -- an instruction is fetched exactly where it is spelled
 abbrev pub FetchedLaw : Type 0
@@ -89,19 +92,23 @@ WritesLaw = (s : System) (ws : List (ℕ × ℕ)) → IsCodeInPlace s.memory s.p
 
 -- from a kernel that is sound and runs nothing
 abbrev pub DispatchLaw : Type 0
-DispatchLaw = (m : List ℕ) (k : Kernel) (ds : List (Option Domain)) (steps : ℕ) (pick : Option ℕ) → IsSoundKernel k ds steps → NoneRuns k
+DispatchLaw =
+    (m : List ℕ) (k : Kernel) (ds : List (Option Domain)) (steps : ℕ) (pick : Option ℕ) → IsSoundKernel k ds steps → NoneRuns k
     → IsSoundKernel (dispatched k pick) ds steps × IsRunning m (dispatched_context k pick) (dispatched k pick) ds
 
 -- ---- what a node's code uses, to go on standing for the system
 
 -- bytes written outside the tables and the marks are seen written
 abbrev pub SeenWritesLaw : Type 0
-SeenWritesLaw = (m : List ℕ) (k : Kernel) (ds : List (Option Domain)) (ws : List (ℕ × ℕ)) → length m ≡ 65536 → AllByRecursion IsInPools ws
+SeenWritesLaw =
+    (m : List ℕ) (k : Kernel) (ds : List (Option Domain)) (ws : List (ℕ × ℕ)) → length m ≡ 65536 → AllByRecursion IsInPools ws
     → put_all (seen_in m k ds) ws ≡ seen_in (put_all m ws) k ds
 
 -- what a call of the kernel leaves is seen with the other kernel
 abbrev pub SeenLeavesLaw : Type 0
-SeenLeavesLaw = (m before after : List ℕ) (k j : Kernel) (ds : List (Option Domain)) → IsMemory m → IsMemory before → IsMemory after → IsLaidOut before
+SeenLeavesLaw =
+    (m before after : List ℕ) (k j : Kernel) (ds : List (Option Domain)) → IsMemory m → IsMemory before → IsMemory after
+    → IsLaidOut before
     → before ≡ seen_in m k ds → Leaves before after j → after ≡ seen_in m j ds
 
 -- the bitmap that is seen has the marks of each domain, and no others in its code
@@ -119,7 +126,8 @@ pub record IsLoading (s : System) : Type 0 where
   pub functions : AreFunctions s.kernel.functions s.placed
   pub none_runs : NoneRuns s.kernel
   pub unborn : (t : ℕ) → t < 32 → (thread_at s.kernel t).state ≡ free
-  pub entries : (a : ℕ) (d : Domain) → a < 8 → domain_in s.placed a ≡ Some d → is_mark s.placed a (reg (thread_at s.kernel (identity a 0)).regs 0) ≡ true
+  pub entries : (a : ℕ) (d : Domain) → a < 8 → domain_in s.placed a ≡ Some d
+      → is_mark s.placed a (reg (thread_at s.kernel (identity a 0)).regs 0) ≡ true
   pub all_live : (a : ℕ) → a < 8 → (app_at s.kernel a).state ≢ free → (app_at s.kernel a).state ≡ live
   pub fresh : (tick_number s.kernel ≡ 0) × (word_of s.kernel Budget ≡ 0) × (pending s.kernel ≡ 0)
   pub made : s.steps ≡ 0
@@ -129,8 +137,11 @@ EmptyLaw = IsLoading empty_system
 
 -- an object that is placed
 abbrev pub LoadedLaw : Type 0
-LoadedLaw = (s : System) (n : ℕ) (o : Loadable) (r : Regions) → IsLoading s → IsAccepted o.object o.units → places_of s.kernel o.object ≡ Ok r → IsLoading (loaded_at s n o r)
+LoadedLaw =
+    (s : System) (n : ℕ) (o : Loadable) (r : Regions) → IsLoading s → IsAccepted o.object o.units
+    → places_of s.kernel o.object ≡ Ok r → IsLoading (loaded_at s n o r)
 
 -- the threads that start
 abbrev pub StartedLaw : Type 0
-StartedLaw = (s : System) → IsLoading s → IsSoundKernel (all_started s.placed s.kernel) s.placed 0 × NoneRuns (all_started s.placed s.kernel)
+StartedLaw =
+    (s : System) → IsLoading s → IsSoundKernel (all_started s.placed s.kernel) s.placed 0 × NoneRuns (all_started s.placed s.kernel)

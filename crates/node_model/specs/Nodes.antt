@@ -39,10 +39,12 @@ nobody = 255
 
 -- the object at the places of the row of its number
 abbrev pub at_row : Kernel → (number : ℕ) → Loadable → Domain
-at_row k n o = let r = domain_at k n in record { object = o.object; units = o.units; code_lo = r.code.from; lo = r.region.from; hi = r.region.to }
+at_row k n o =
+    let r = domain_at k n in record { object = o.object; units = o.units; code_lo = r.code.from; lo = r.region.from; hi = r.region.to }
 
 abbrev pub owned : Kernel → List Loadable → (owner : List ℕ) → (number : ℕ) → Option Domain
-owned k os owner n = if slice_index_or owner n nobody == nobody then None else option_map (at_row k n) (slice_get os (slice_index_or owner n nobody))
+owned k os owner n =
+    if slice_index_or owner n nobody == nobody then None else option_map (at_row k n) (slice_get os (slice_index_or owner n nobody))
 
 unfoldable pub all_owned : Kernel → List Loadable → (owner : List ℕ) → List (Option Domain)
 all_owned k os owner = map (owned k os owner) (range_with_len 0 12)
@@ -103,7 +105,8 @@ Steps old new os raised pick told = (s : System) → Represents old os s → IsS
 
 -- the numbers of the domains, in the order of their objects
 abbrev pub in_order : (owner : List ℕ) → (count : ℕ) → List ℕ
-in_order owner count = flat_map (λ i. filter (λ n. slice_index_or owner n nobody == i) (range_with_len 0 12)) (range_with_len 0 count)
+in_order owner count =
+    flat_map (λ i. filter (λ n. slice_index_or owner n nobody == i) (range_with_len 0 12)) (range_with_len 0 count)
 
 abbrev pub name_text : (number : ℕ) → List ℕ
 name_text n = if nat_lt n 8 then codes "a" ++ decimal n else codes "m" ++ decimal (n - 8)
@@ -111,7 +114,8 @@ name_text n = if nat_lt n 8 then codes "a" ++ decimal n else codes "m" ++ decima
 abbrev pub placement_line : Kernel → (number : ℕ) → List ℕ
 placement_line k n =
     let r = domain_at k n in
-    name_text n ++ space ++ hex_word r.code.from ++ space ++ hex_word r.code.to ++ space ++ hex_word r.region.from ++ space ++ hex_word r.region.to ++ end_of_line
+    name_text n ++ space ++ hex_word r.code.from ++ space ++ hex_word r.code.to ++ space ++ hex_word r.region.from ++ space
+    ++ hex_word r.region.to ++ end_of_line
 
 abbrev pub placement_text : System → (count : ℕ) → List ℕ
 placement_text s count = flat_map (placement_line s.kernel) (in_order s.owner count)
@@ -120,7 +124,9 @@ abbrev pub reason_text : (quiet : Bool) → List ℕ
 reason_text q = if q then codes "end quiet " else codes "end limit "
 
 abbrev pub end_line : Script → Run → List ℕ
-end_line t r = reason_text (is_quiet t r.last) ++ decimal (length r.records) ++ codes " emits " ++ decimal (emits r) ++ codes " faults " ++ decimal (faults r) ++ end_of_line
+end_line t r =
+    reason_text (is_quiet t r.last) ++ decimal (length r.records) ++ codes " emits " ++ decimal (emits r) ++ codes " faults "
+    ++ decimal (faults r) ++ end_of_line
 
 -- all that a run prints
 unfoldable pub trace_text : (all tail : Bool) → (count : ℕ) → Script → System → Run → List ℕ
@@ -184,4 +190,5 @@ BootLaw = (os : List Loadable) (s : System) → IsFitting os → booted os ≡ O
 
 -- so each run of them is: what the top call says of a run that nothing refuses, whatever its status
 abbrev pub BootedRunLaw : Script → Type 0
-BootedRunLaw t = (os : List Loadable) (limit : ℕ) (s : System) → IsFitting os → limit ≤ most_steps → booted os ≡ Ok s → IsSoundRun limit t s
+BootedRunLaw t =
+    (os : List Loadable) (limit : ℕ) (s : System) → IsFitting os → limit ≤ most_steps → booted os ≡ Ok s → IsSoundRun limit t s

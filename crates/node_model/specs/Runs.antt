@@ -20,7 +20,8 @@ is_live_app row = row.state == live
 abbrev pub is_serving : (pc : ℕ) → Bool
 is_serving pc = nat_le 0xF080 pc && nat_le pc 0xF09A
 
--- no thread runs or is ready, no line is pending or being served, and the script does nothing more that a live application could see
+-- no thread runs or is ready, no line is pending or being served, and the
+-- script does nothing more that a live application could see
 unfoldable pub is_quiet : Script → System → Bool
 is_quiet t s =
     (running s.kernel == none)

@@ -63,7 +63,8 @@ pub record IsDomain (apps : List AppRow) (modules : List ModuleRow) (number : �
 abbrev pub HasDomain : List (Option Domain) → (number : ℕ) → Type 0
 HasDomain ds n = (d : Domain) × (domain_in ds n ≡ Some d)
 
--- the rows that aren't free are exactly those of the domains. That their places are even, in the pools and apart is said of the rows
+-- the rows that aren't free are exactly those of the domains. That their places
+-- are even, in the pools and apart is said of the rows
 pub record AreDomains (apps : List AppRow) (modules : List ModuleRow) (ds : List (Option Domain)) : Type 0 where
   pub twelve : length ds ≡ 12
   pub placed : (n : ℕ) (d : Domain) → domain_in ds n ≡ Some d → IsDomain apps modules n d

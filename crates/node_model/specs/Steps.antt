@@ -81,7 +81,8 @@ abbrev pub case_by_line : Kernel → (pc : ℕ) → Option ℕ → Case
 case_by_line k pc (Some n) = Accepts n
 case_by_line k pc None = if pc == 0xF07E then IsIdle else case_at k (entry_at pc) (routine_at pc)
 
--- the first that applies: an interrupt is accepted, the machine idles, an entry or a routine is at PC, the module's budget is spent,
+-- the first that applies: an interrupt is accepted, the machine idles, an entry
+-- or a routine is at PC, the module's budget is spent,
 -- or the instruction at PC runs
 unfoldable pub case_of : Kernel → (context : List ℕ) → Case
 case_of k c = case_by_line k (reg c 0) (if allows_interrupts (reg c 2) then highest_line k else None)
@@ -117,7 +118,8 @@ abbrev pub instruction : System → Option (Instr × ℕ) → Next
 instruction s None = by_turn s (nothing_happens (work s None))
 instruction s (Some x) =
     let e = does (seen s) s.context x.0 x.1 in
-    by_effect s (counted s.kernel) e (record_of.Instr (s.steps + 1) (who_runs s.kernel) (reg s.context 0) (word_at (seen s) (reg s.context 0)) e.written)
+    let pc = reg s.context 0 in
+    by_effect s (counted s.kernel) e (record_of.Instr (s.steps + 1) (who_runs s.kernel) pc (word_at (seen s) pc) e.written)
 
 abbrev pub over_budget : Work → Turn
 over_budget w = faults w fault.Budget (reg w.context 0)

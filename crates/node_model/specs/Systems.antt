@@ -35,7 +35,8 @@ has_bit bytes k = bit_at (slice_index_or bytes (k / 8) 0) (k % 8) == 1
 
 -- a unit of the domain starts at an address
 unfoldable pub is_unit_address : Domain → (at : ℕ) → Bool
-is_unit_address d at = nat_le d.code_lo at && nat_lt at (d.code_lo + code_length d.object) && (at % 2 == 0) && has_bit d.units ((at - d.code_lo) / 2)
+is_unit_address d at =
+    nat_le d.code_lo at && nat_lt at (d.code_lo + code_length d.object) && (at % 2 == 0) && has_bit d.units ((at - d.code_lo) / 2)
 
 abbrev pub is_mark_in : Option Domain → (at : ℕ) → Bool
 is_mark_in None at = false

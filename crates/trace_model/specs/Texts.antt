@@ -69,7 +69,8 @@ record_text (record_of.Entry n w e) = head n w ++ codes "entry " ++ entry_name e
 record_text (record_of.Emit n w v) = head n w ++ codes "emit " ++ hex_word v ++ end_of_line
 record_text (record_of.Exit n w l) = head n w ++ codes "exit" ++ (if l then codes " last" else []) ++ end_of_line
 record_text (record_of.Fault n w k v) = head n w ++ codes "fault " ++ kind_text k ++ space ++ hex_word v ++ end_of_line
-record_text (record_of.Accept n w l pc ws) = head n w ++ codes "int " ++ decimal l ++ space ++ hex_word pc ++ writes_text ws ++ end_of_line
+record_text (record_of.Accept n w l pc ws) =
+    head n w ++ codes "int " ++ decimal l ++ space ++ hex_word pc ++ writes_text ws ++ end_of_line
 record_text (record_of.Vector n l) = decimal n ++ codes " kernel line " ++ decimal l ++ end_of_line
 record_text (record_of.IdleTurn n) = decimal n ++ codes " idle" ++ end_of_line
 
@@ -117,7 +118,8 @@ tail_text tail earlier r = if tail && is_fault r then flat_map tail_line (last_i
 -- the lines of these records, after others
 abbrev pub shown_after : (all tail : Bool) → (earlier : List Record) → List Record → List ℕ
 shown_after all tail earlier [] = []
-shown_after all tail earlier (r ∷ rs) = (tail_text tail earlier r ++ shown_text all r) ++ shown_after all tail (earlier ++ r ∷ []) rs
+shown_after all tail earlier (r ∷ rs) =
+    (tail_text tail earlier r ++ shown_text all r) ++ shown_after all tail (earlier ++ r ∷ []) rs
 
 unfoldable pub shown_texts : (all tail : Bool) → List Record → List ℕ
 shown_texts all tail rs = shown_after all tail [] rs

@@ -32,19 +32,53 @@ pub enum FaultKind {
 #[derive(Drop)]
 pub enum Record {
     /// An instruction: its address, its first word, and the bytes that it wrote.
-    Instr { step: u32, who: Who, pc: u16, word: u16, writes: Writes },
+    Instr {
+        step: u32,
+        who: Who,
+        pc: u16,
+        word: u16,
+        writes: Writes,
+    },
     /// An entry of the kernel, by its address, that has no record of its own.
-    Entry { step: u32, who: Who, entry: u16 },
+    Entry {
+        step: u32,
+        who: Who,
+        entry: u16,
+    },
     /// A value that was printed.
-    Emit { step: u32, who: Who, value: u16 },
+    Emit {
+        step: u32,
+        who: Who,
+        value: u16,
+    },
     /// A thread's end, and whether it was the last of its application.
-    Exit { step: u32, who: Who, last: bool },
+    Exit {
+        step: u32,
+        who: Who,
+        last: bool,
+    },
     /// The end of an application or of a module whose test failed.
-    Fault { step: u32, who: Who, kind: FaultKind, value: u16 },
+    Fault {
+        step: u32,
+        who: Who,
+        kind: FaultKind,
+        value: u16,
+    },
     /// An interrupt of line 0 to 13 that was accepted: PC as it was pushed, and the four bytes that were written.
-    Accept { step: u32, who: Who, line: u8, pc: u16, writes: Writes },
+    Accept {
+        step: u32,
+        who: Who,
+        line: u8,
+        pc: u16,
+        writes: Writes,
+    },
     /// The routine of a line.
-    Vector { step: u32, line: u8 },
+    Vector {
+        step: u32,
+        line: u8,
+    },
     /// A turn of the idle machine.
-    IdleTurn { step: u32 },
+    IdleTurn {
+        step: u32,
+    },
 }
