@@ -1,12 +1,12 @@
 //! Instructions worked out by hand, from their words in memory.
 
 use flat_mem::FlatMem;
+use machine_model::writes::Writes;
 use msp_decode::NoInstr;
 use msp_encode::instr::{Dst, Instr, Op2, Src, Width};
 use msp_machine::exec::exec;
 use msp_machine::fetch::fetch;
 use msp_machine::regs::{PC, Regs, SP, SR};
-use msp_machine::writes::Writes;
 use std::test::Fail;
 
 /// Where the code lies.

@@ -27,8 +27,8 @@ use Rattle.machine_model.specs.Operands.{sum_of}
 use Rattle.machine_model.specs.Fetching.{words_from, IsFetched}
 use Rattle.machine_laws.specs.Places.{GuardPlace, place_offset}
 use Rattle.load_model.specs.Domains.{Domain, addend}
-use Rattle.confinement_laws.specs.Placed.{IsWellPlaced, CodeStands, StandsIn, address}
-use Rattle.confinement_laws.specs.Good.{guard_of}
+use Rattle.node_model.specs.Placed.{IsWellPlaced, CodeStands, StandsIn, address}
+use Rattle.node_model.specs.Good.{guard_of}
 use Rattle.confinement_laws.proofs.Lines.{line, line_words, IsLine, SlotWord, Worded, begins-line}
 use Rattle.confinement_laws.proofs.Runs.{fit-at, line-least, line-few, line-ends}
 use Rattle.confinement_laws.proofs.Guarding.{stands-first}

@@ -22,9 +22,9 @@ use Rattle.machine_laws.specs.Guarded.{IsQuiet, IsStore, PushLaw, CallLaw}
 use Rattle.machine_laws.specs.Plain.{IsCalm, Plain, Tests, ToReg, ToData, SetsBits, ClearsBits, SetsConst, ClearsConst, ChangesReg, ChangesData}
 use Rattle.confinement_laws.specs.Given.{CheckerLaws}
 use Rattle.load_model.specs.Domains.{Domain}
-use Rattle.confinement_laws.specs.Placed.{StandsIn, address, bits}
-use Rattle.confinement_laws.specs.Good.{IsAtPlace, IsSomewhere, AtUnit, Within, Jumped, Called, bounds}
-use Rattle.confinement_laws.specs.Laws.{Inside, StaysInStack, StackLaw, RegionLaw}
+use Rattle.node_model.specs.Placed.{StandsIn, address, bits}
+use Rattle.node_model.specs.Good.{IsAtPlace, IsSomewhere, AtUnit, Within, Jumped, Called, bounds}
+use Rattle.node_model.specs.Instructions.{Inside, StaysInStack, StackLaw, RegionLaw}
 use Rattle.confinement_laws.proofs.Lines.{line, line_words, IsLine, load_of}
 use Rattle.confinement_laws.proofs.Placing.{placed, placed_src}
 use Rattle.confinement_laws.proofs.Fetching.{words_in, fetched-is, fetched-same, line-fetched}

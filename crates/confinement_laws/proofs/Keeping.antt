@@ -5,8 +5,8 @@ use Rattle.machine_model.specs.Memory.{word_at, put_all}
 use Rattle.machine_model.specs.Does.{does}
 use Rattle.machine_laws.specs.Writes.{SamePart, Avoids, MemoryLaw, PartLaw, WordLaw}
 use Rattle.load_model.specs.Domains.{Domain}
-use Rattle.confinement_laws.specs.Placed.{IsWellPlaced, address}
-use Rattle.confinement_laws.specs.Laws.{Inside}
+use Rattle.node_model.specs.Placed.{IsWellPlaced, address}
+use Rattle.node_model.specs.Instructions.{Inside}
 use Rattle.confinement_laws.specs.Kept.{CodeLaw, CodeLeftLaw, PartLeftLaw, LimitsLeftLaw, StandsLeftLaw}
 
 code-word : WordLaw → (d : Domain) (m n : List ℕ) (at : ℕ) → IsWellPlaced d → SamePart d.code_lo (d.code_lo + 2 * length d.object.code) m n → at < length d.object.code → word_at n (address d at) ≡ word_at m (address d at)

@@ -21,9 +21,9 @@ use Rattle.machine_laws.specs.Steady.{IsSteady, AreBounds, Limits}
 use Rattle.machine_laws.specs.Places.{GuardPlace, TakesAddress, AddsIndex, ComparesLow, JumpsIfLow, ComparesHigh, JumpsIfHigh, StoreFails, StoreRestores, ComparesLimit, JumpsIfRoom, GrowthFails, GrowthRestores, ComparesTop, JumpsIfFilled, PopFails, PopRestores, ComparesNewLow, JumpsIfNewLow, ComparesNewHigh, JumpsIfNewHigh, SpFails, SpRestores, Stores, Grows, Pops, SetsSp}
 use Rattle.machine_laws.specs.Own.{GuardAt, IsGuardAt, IsOwn, GoesTo, Faults, Next, OwnLaw}
 use Rattle.load_model.specs.Domains.{Domain}
-use Rattle.confinement_laws.specs.Placed.{IsWellPlaced, StandsIn, address, bits}
-use Rattle.confinement_laws.specs.Good.{guard_of, IsAtPlace, Within, Jumped, bounds}
-use Rattle.confinement_laws.specs.Laws.{Inside, Leads}
+use Rattle.node_model.specs.Placed.{IsWellPlaced, StandsIn, address, bits}
+use Rattle.node_model.specs.Good.{guard_of, IsAtPlace, Within, Jumped, bounds}
+use Rattle.node_model.specs.Instructions.{Inside, Leads}
 use Rattle.confinement_laws.proofs.Lines.{line, line_words, IsLine, load_src, load_src-takes}
 use Rattle.confinement_laws.proofs.Runs.{fit-at, some-words}
 use Rattle.confinement_laws.proofs.Fetching.{words_in, worded-in, moved-zero, line-fetched, fetched-same}

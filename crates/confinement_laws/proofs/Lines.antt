@@ -19,7 +19,7 @@ use Rattle.code_model.specs.Starts.{Begins}
 use Rattle.code_model.specs.Guards.{IsLoad, guard_words}
 use Rattle.machine_laws.specs.Places.{GuardPlace, TakesAddress, AddsIndex, ComparesLow, JumpsIfLow, ComparesHigh, JumpsIfHigh, StoreFails, StoreRestores, ComparesLimit, JumpsIfRoom, GrowthFails, GrowthRestores, ComparesTop, JumpsIfFilled, PopFails, PopRestores, ComparesNewLow, JumpsIfNewLow, ComparesNewHigh, JumpsIfNewHigh, SpFails, SpRestores, Stores, Grows, Pops, SetsSp, place_offset}
 use Rattle.machine_laws.specs.Own as own
-use Rattle.confinement_laws.specs.Good.{guard_of}
+use Rattle.node_model.specs.Good.{guard_of}
 
 -- the source of a move into R4
 abbrev pub load_of : Bool → ℕ → Src

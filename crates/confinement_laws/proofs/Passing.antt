@@ -15,9 +15,9 @@ use Rattle.machine_model.specs.Does.{Effect}
 use Rattle.machine_laws.specs.Guarded.{IsQuiet, Passes}
 use Rattle.machine_laws.specs.Plain.{IsCalm, Goes}
 use Rattle.load_model.specs.Domains.{Domain}
-use Rattle.confinement_laws.specs.Placed.{bits, address}
-use Rattle.confinement_laws.specs.Good.{AtUnit, bounds}
-use Rattle.confinement_laws.specs.Laws.{Inside, Leads}
+use Rattle.node_model.specs.Placed.{bits, address}
+use Rattle.node_model.specs.Good.{AtUnit, bounds}
+use Rattle.node_model.specs.Instructions.{Inside, Leads}
 use Rattle.confinement_laws.proofs.Placing.{placed_src}
 
 in-region : (d : Domain) (low top : ℕ) (ws : List (ℕ × ℕ)) → AllByRecursion (λ (w : ℕ × ℕ). (d.lo ≤ w.0) × (w.0 < d.hi)) ws → AllByRecursion (Inside d low top) ws

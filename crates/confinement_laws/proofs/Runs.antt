@@ -10,7 +10,7 @@ use Rattle.code_model.specs.Starts.{Stands, Start}
 use Rattle.code_model.specs.Guards.{guard_words, Takes, Fits, FitAll, Guarded}
 use Rattle.code_laws.proofs.Starting.{next_start}
 use Rattle.machine_laws.specs.Places.{GuardPlace, TakesAddress, AddsIndex, ComparesLow, JumpsIfLow, ComparesHigh, JumpsIfHigh, StoreFails, StoreRestores, ComparesLimit, JumpsIfRoom, GrowthFails, GrowthRestores, ComparesTop, JumpsIfFilled, PopFails, PopRestores, ComparesNewLow, JumpsIfNewLow, ComparesNewHigh, JumpsIfNewHigh, SpFails, SpRestores, Stores, Grows, Pops, SetsSp, place_offset}
-use Rattle.confinement_laws.specs.Good.{guard_of}
+use Rattle.node_model.specs.Good.{guard_of}
 use Rattle.confinement_laws.proofs.Lines.{line, line_words, IsLine, save, save-first, SlotWord, Worded, begins-one, begins-line}
 
 -- the words from a place on

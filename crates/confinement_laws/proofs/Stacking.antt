@@ -29,9 +29,9 @@ use Rattle.machine_laws.specs.Places.{Grows, Pops as pops_place, SetsSp}
 use Rattle.machine_laws.specs.Guarded.{Passes, PushLaw, CallLaw, PopLaw, SpLaw}
 use Rattle.confinement_laws.specs.Given.{CheckerLaws}
 use Rattle.load_model.specs.Domains.{Domain}
-use Rattle.confinement_laws.specs.Placed.{StandsIn, address, bits}
-use Rattle.confinement_laws.specs.Good.{IsAtPlace, Called, bounds}
-use Rattle.confinement_laws.specs.Laws.{Leads}
+use Rattle.node_model.specs.Placed.{StandsIn, address, bits}
+use Rattle.node_model.specs.Good.{IsAtPlace, Called, bounds}
+use Rattle.node_model.specs.Instructions.{Leads}
 use Rattle.confinement_laws.proofs.Placing.{placed, placed_src, size-is, operand-word}
 use Rattle.confinement_laws.proofs.Guarding.{stands-first}
 use Rattle.confinement_laws.proofs.Fetching.{words_in, fetched-is}

@@ -13,9 +13,9 @@ use Rattle.machine_laws.specs.Own.{OwnLaw}
 use Rattle.machine_laws.specs.Guarded.{StoreLaw, PushLaw, CallLaw, PopLaw, SpLaw}
 use Rattle.confinement_laws.specs.Given.{CheckerLaws}
 use Rattle.load_model.specs.Domains.{Domain}
-use Rattle.confinement_laws.specs.Placed.{StandsIn, address}
-use Rattle.confinement_laws.specs.Good.{guard_of, IsSomewhere, AtUnit, Within, Jumped, Called, bounds}
-use Rattle.confinement_laws.specs.Laws.{Leads, GuardLaw, UnitLaw, InstructionLaw, FetchLaw, StepsAt}
+use Rattle.node_model.specs.Placed.{StandsIn, address}
+use Rattle.node_model.specs.Good.{guard_of, IsSomewhere, AtUnit, Within, Jumped, Called, bounds}
+use Rattle.node_model.specs.Instructions.{Leads, GuardLaw, UnitLaw, InstructionLaw, FetchLaw, StepsAt}
 use Rattle.confinement_laws.proofs.Placing.{placed}
 use Rattle.confinement_laws.proofs.Runs.{place-start}
 use Rattle.confinement_laws.proofs.Fetching.{words_in, placed-fetched}

@@ -25,9 +25,9 @@ use Rattle.machine_laws.specs.Places.{Stores}
 use Rattle.machine_laws.specs.Guarded.{IsStore, StoreLaw}
 use Rattle.confinement_laws.specs.Given.{CheckerLaws}
 use Rattle.load_model.specs.Domains.{Domain}
-use Rattle.confinement_laws.specs.Placed.{CodeStands, StandsIn, address, bits}
-use Rattle.confinement_laws.specs.Good.{IsAtPlace, bounds}
-use Rattle.confinement_laws.specs.Laws.{Leads}
+use Rattle.node_model.specs.Placed.{CodeStands, StandsIn, address, bits}
+use Rattle.node_model.specs.Good.{IsAtPlace, bounds}
+use Rattle.node_model.specs.Instructions.{Leads}
 use Rattle.confinement_laws.proofs.Placing.{placed, size-is, operand-word}
 use Rattle.confinement_laws.proofs.Guarding.{stands-first}
 use Rattle.confinement_laws.proofs.Fetching.{words_in, fetched-is, runs-on}

@@ -31,9 +31,9 @@ use Rattle.machine_laws.specs.Plain as plain
 use Rattle.machine_laws.specs.Plain.{Plain, Tests, ToReg, ToData, SetsBits, ClearsBits, SetsConst, ClearsConst, ChangesReg, ChangesData, PlainLaw, BranchLaw, JumpLaw, SaveLaw, Saves, Goes}
 use Rattle.confinement_laws.specs.Given.{CheckerLaws}
 use Rattle.load_model.specs.Domains.{Domain}
-use Rattle.confinement_laws.specs.Placed.{StandsIn, address, bits}
-use Rattle.confinement_laws.specs.Good.{IsSomewhere, Within, Jumped, bounds}
-use Rattle.confinement_laws.specs.Laws.{Inside, Leads, UnitLaw}
+use Rattle.node_model.specs.Placed.{StandsIn, address, bits}
+use Rattle.node_model.specs.Good.{IsSomewhere, Within, Jumped, bounds}
+use Rattle.node_model.specs.Instructions.{Inside, Leads, UnitLaw}
 use Rattle.confinement_laws.proofs.Lines.{save}
 use Rattle.confinement_laws.proofs.Placing.{placed, size-is}
 use Rattle.confinement_laws.proofs.Guarding.{Begun, GoesOn, ToUnit, IntoGuard, goes-on}

@@ -29,7 +29,7 @@ use Rattle.machine_laws.specs.Plain.{IsCalm, Plain, Tests, ToReg, ToData, SetsBi
 use Rattle.machine_laws.proofs.Masks.{mask-by_and}
 use Rattle.confinement_laws.specs.Given.{CheckerLaws}
 use Rattle.load_model.specs.Domains.{Domain}
-use Rattle.confinement_laws.specs.Placed.{StandsIn, CodeStands}
+use Rattle.node_model.specs.Placed.{StandsIn, CodeStands}
 use Rattle.confinement_laws.proofs.Lines.{save}
 use Rattle.confinement_laws.proofs.Placing.{placed, placed_src, size-is, operand-word}
 use Rattle.confinement_laws.proofs.Guarding.{stands-first, own-first}

@@ -26,7 +26,7 @@ use Rattle.code_model.specs.Rules.{IsBranchTarget, IsJumpTarget, InStatic, Break
 use Rattle.machine_model.specs.Memory.{word_at}
 use Rattle.machine_laws.specs.Plain.{Plain, ChangesReg, ChangesData}
 use Rattle.load_model.specs.Domains.{Domain}
-use Rattle.confinement_laws.specs.Placed.{StandsIn, address}
+use Rattle.node_model.specs.Placed.{StandsIn, address}
 use Rattle.confinement_laws.proofs.Placing.{placed, size-is, operand-word}
 use Rattle.confinement_laws.proofs.Guarding.{stands-first, guarded-interior}
 use Rattle.code_laws.proofs.Deciding.{stable, static-or-not}

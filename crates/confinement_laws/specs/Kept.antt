@@ -8,8 +8,8 @@ use Rattle.machine_model.specs.Does.{does, memory_after}
 use Rattle.machine_laws.specs.Steady.{Limits}
 use Rattle.machine_laws.specs.Writes.{SamePart}
 use Rattle.load_model.specs.Domains.{Domain}
-use Rattle.confinement_laws.specs.Placed.{IsWellPlaced, CodeStands, StandsIn}
-use Rattle.confinement_laws.specs.Laws.{Inside}
+use Rattle.node_model.specs.Placed.{IsWellPlaced, CodeStands, StandsIn}
+use Rattle.node_model.specs.Instructions.{Inside}
 
 -- code stands as long as its bytes are the same
 abbrev pub CodeLaw : Type 0

@@ -1,5 +1,2 @@
-pub mod Placed
-pub mod Good
-pub mod Laws
 pub mod Kept
 pub mod Given

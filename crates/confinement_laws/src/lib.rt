@@ -15,7 +15,7 @@ ghost use Rattle.confinement_laws.specs.Kept.{
   PartLeftLaw,
   StandsLeftLaw,
 };
-ghost use Rattle.confinement_laws.specs.Laws.{
+ghost use Rattle.node_model.specs.Instructions.{
   FetchLaw,
   GuardLaw,
   InstructionLaw,

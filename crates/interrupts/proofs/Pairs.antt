@@ -5,7 +5,7 @@ use Rattle.std.proofs.lemmas.List.{set_comm}
 use Rattle.flat_mem.specs.Bytes.{with_word}
 use Rattle.machine_model.specs.Memory.{even, put_all}
 use Rattle.machine_model.specs.Pairs.{put_pair}
-use Rattle.msp_machine.specs.Rising.{Lacks}
+use Rattle.machine_model.specs.Rising.{Lacks}
 use Rattle.interrupts.specs.Pushed.{pushed_bytes}
 
 pub length-put_pair : (p : ℕ × ℕ) (ps : List (ℕ × ℕ)) → length (put_pair p ps) ≡ length ps + 1

@@ -8,13 +8,13 @@ ghost use Rattle.machine_model.specs.Pairs.{put_pair};
 ghost use Rattle.machine_model.specs.Operands.{sum_of};
 ghost use Rattle.machine_model.specs.Does.{lowered, memory_after};
 ghost use Rattle.machine_model.specs.Accepting.{accepted, vector_address};
-ghost use Rattle.msp_machine.specs.Rising.{Lacks};
+ghost use Rattle.machine_model.specs.Rising.{Lacks};
 ghost use Rattle.interrupts.specs.Pushed.{pushed_bytes};
 
 use crate::lines::LINES;
 use flat_mem::FlatMem;
 use msp_machine::regs::{PC, Regs, SP, SR};
-use msp_machine::writes::Writes;
+use machine_model::writes::Writes;
 
 /// Where the vector of line 0 lies. That of line n lies n words above it.
 const VECTORS: u16 = 0xFFE0;

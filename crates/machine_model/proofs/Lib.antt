@@ -1,3 +1,4 @@
 pub mod Examples
 pub mod LegalForms
 pub mod Written
+pub mod Placing

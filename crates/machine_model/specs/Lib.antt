@@ -7,3 +7,4 @@ pub mod Does
 pub mod Accepting
 pub mod Fetching
 pub mod Pairs
+pub mod Rising

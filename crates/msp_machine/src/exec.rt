@@ -11,9 +11,9 @@ use crate::arithmetic::{alu, alu_one, writes};
 use crate::operand::{place_of, place_to, source_value, step_source, sum, value_in, word};
 use crate::regs::{PC, Regs, SP, SR};
 use crate::write_back::{put, store};
-use crate::writes::Writes;
 use flat_mem::FlatMem;
 use machine_model::laws::legal_form;
+use machine_model::writes::Writes;
 use msp_encode::instr::{Cond, Dst, Instr, Op1, Op2, Src, Width};
 
 /// Runs one legal instruction of `len` words, and gives the bytes that it wrote, two at most.

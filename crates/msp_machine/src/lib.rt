@@ -13,7 +13,6 @@ pub mod fetch;
 mod operand;
 pub mod regs;
 mod write_back;
-pub mod writes;
 
+pub use machine_model::writes::Writes;
 pub use regs::Regs;
-pub use writes::Writes;

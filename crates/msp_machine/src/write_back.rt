@@ -5,9 +5,9 @@ ghost use Rattle.machine_model.specs.Memory.{put_all};
 ghost use Rattle.machine_model.specs.Operands.{stored, put_context, put_pairs, IsPlace};
 
 use crate::regs::Regs;
-use crate::writes::Writes;
 use flat_mem::FlatMem;
 use machine_model::place::Place;
+use machine_model::writes::Writes;
 use msp_encode::instr::Width;
 
 /// Writes a byte to memory.

@@ -20,7 +20,7 @@ use Rattle.code_model.specs.Rules.{IsCall}
 use Rattle.load_model.specs.Domains.{Domain}
 use Rattle.load_model.specs.Images.{code_image}
 use Rattle.load_model.specs.Standing.{HasBytes}
-use Rattle.confinement_laws.specs.Placed.{IsWellPlaced}
+use Rattle.node_model.specs.Placed.{IsWellPlaced}
 use Rattle.insert_model.specs.declared.line.Line.{Line}
 use Rattle.insert_model.specs.Words.{count, unit_words}
 use Rattle.insert_model.specs.Source.{lines, own}

@@ -14,8 +14,8 @@ use Rattle.machine_laws.proofs.Words.{set-context}
 use Rattle.load_model.specs.Domains.{region_length}
 use Rattle.load_model.specs.Standing.{CodeImageLaw}
 use Rattle.load_model.specs.Standing as image
-use Rattle.confinement_laws.specs.Placed.{CodeStands, IsWellPlaced, bits, control_bits}
-use Rattle.confinement_laws.specs.Good.{IsGood, AtUnit}
+use Rattle.node_model.specs.Placed.{CodeStands, IsWellPlaced, bits, control_bits}
+use Rattle.node_model.specs.Good.{IsGood, AtUnit}
 use Rattle.kernel_model.specs.Kernel.{Kernel}
 use Rattle.kernel_model.specs.Layout.{Fits, kernel_of, layout, table_bytes}
 use Rattle.solo_model.specs.Booted.{IsBootMemory, domain_of, region_end, stack_low, stack_top, boot_context, fresh, one_running}

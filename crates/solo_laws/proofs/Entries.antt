@@ -12,8 +12,8 @@ use Rattle.code_model.specs.Rules.{IsJumpEntry, IsCallEntry}
 use Rattle.machine_model.specs.Memory.{word_at, IsMemory, even}
 use Rattle.machine_model.specs.Context.{reg}
 use Rattle.load_model.specs.Domains.{Domain}
-use Rattle.confinement_laws.specs.Placed.{StandsIn}
-use Rattle.confinement_laws.specs.Good.{IsGood, IsSomewhere, AtUnit, Within, Jumped, Called, bounds}
+use Rattle.node_model.specs.Placed.{StandsIn}
+use Rattle.node_model.specs.Good.{IsGood, IsSomewhere, AtUnit, Within, Jumped, Called, bounds}
 use Rattle.confinement_laws.proofs.Runs.{place-start}
 use Rattle.solo_laws.specs.Sound.{AreEntries}
 

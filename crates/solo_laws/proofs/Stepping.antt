@@ -17,9 +17,9 @@ use Rattle.machine_model.specs.Operands.{sum_of}
 use Rattle.machine_model.specs.Does.{does}
 use Rattle.machine_model.specs.Fetching.{IsFetched}
 use Rattle.load_model.specs.Domains.{Domain}
-use Rattle.confinement_laws.specs.Good.{IsGood}
+use Rattle.node_model.specs.Good.{IsGood}
 use Rattle.confinement_laws.specs.Kept.{LimitsLeftLaw, PartLeftLaw, StandsLeftLaw}
-use Rattle.confinement_laws.specs.Laws.{FetchLaw, Inside, InstructionLaw, RegionLaw, StackLaw, Leads, StepsAt}
+use Rattle.node_model.specs.Instructions.{FetchLaw, Inside, InstructionLaw, RegionLaw, StackLaw, Leads, StepsAt}
 use Rattle.confinement_laws.proofs.Fetching.{first-unrelocated}
 use Rattle.solo_model.specs.declared.fault.Fault.{Fault}
 use Rattle.solo_model.specs.declared.fault.FaultKind.TheVariants.{Store, Stack}

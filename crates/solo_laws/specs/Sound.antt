@@ -8,9 +8,9 @@ use Rattle.machine_model.specs.Context.{reg}
 use Rattle.machine_model.specs.Does.{does}
 use Rattle.kernel_model.specs.Layout.{kernel_of}
 use Rattle.machine_laws.specs.Steady.{Limits}
-use Rattle.confinement_laws.specs.Placed.{StandsIn, CodeStands}
-use Rattle.confinement_laws.specs.Good.{IsGood}
-use Rattle.confinement_laws.specs.Laws.{StepsAt, StaysInStack}
+use Rattle.node_model.specs.Placed.{StandsIn, CodeStands}
+use Rattle.node_model.specs.Good.{IsGood}
+use Rattle.node_model.specs.Instructions.{StepsAt, StaysInStack}
 use Rattle.solo_model.specs.declared.fault.Fault.{Fault}
 use Rattle.solo_model.specs.declared.fault.FaultKind.{FaultKind}
 use Rattle.solo_model.specs.declared.fault.FaultKind.TheVariants.{Store, Stack}

@@ -1,3 +1,4 @@
+pub mod Texts
 pub mod Scripts
 pub mod Grammar
 pub mod Draws

@@ -1,8 +1,8 @@
 use Rattle.std.proofs.Common.{◌≡◌, ℕ, List, length, sym, subst, arith, ap}
 use Rattle.machine_model.specs.Pairs.{put_pair}
-use Rattle.msp_machine.specs.Rising.{Lacks, IsRising}
-use Rattle.msp_machine.proofs.Placing.{placed, put-rises}
-use Rattle.msp_machine.proofs.writes.Writes.add.Goals as goal
+use Rattle.machine_model.specs.Rising.{Lacks, IsRising}
+use Rattle.machine_model.proofs.Placing.{placed, put-rises}
+use Rattle.machine_model.proofs.writes.Writes.add.Goals as goal
 
 pub invariant_of-self : goal.invariant_of-self
 invariant_of-self c =

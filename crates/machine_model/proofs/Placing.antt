@@ -5,7 +5,7 @@ use Rattle.std.specs.List.{insert, position, position_or_len}
 use Rattle.std.proofs.lemmas.List.Sums.{prefix_len-le-length}
 use borrow.Author.Tests.{ltb-true, ltb-false}
 use Rattle.machine_model.specs.Pairs.{put_pair}
-use Rattle.msp_machine.specs.Rising.{Lacks, RisesFrom, is_above}
+use Rattle.machine_model.specs.Rising.{Lacks, RisesFrom, is_above}
 
 picked : (n l : ℕ) → n ≤ l → unwrap_or (cond (nat_lt n l) (Some n) None) l ≡ n
 picked n l h =

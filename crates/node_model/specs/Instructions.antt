@@ -12,8 +12,8 @@ use Rattle.code_model.specs.declared.guards.GuardKind.{GuardKind}
 use Rattle.machine_laws.specs.Steady.{IsSteady, Limits}
 use Rattle.machine_laws.specs.Places.{GuardPlace}
 use Rattle.load_model.specs.Domains.{Domain}
-use Rattle.confinement_laws.specs.Placed.{bits, StandsIn, address}
-use Rattle.confinement_laws.specs.Good.{IsGood, IsAtPlace, guard_of, bounds}
+use Rattle.node_model.specs.Placed.{bits, StandsIn, address}
+use Rattle.node_model.specs.Good.{IsGood, IsAtPlace, guard_of, bounds}
 
 -- in the region or in the stack
 abbrev pub Inside : Domain → (low top : ℕ) → ℕ × ℕ → Type 0

@@ -2,7 +2,7 @@
 
 ghost use Rattle.std.specs.Prelude.{◌≡◌, ◌<◌, ◌≤◌, [], length, position, slice_get};
 ghost use Rattle.machine_model.specs.Pairs.{put_pair};
-ghost use Rattle.msp_machine.specs.Rising.{Lacks, IsRising, is_above};
+ghost use Rattle.machine_model.specs.Rising.{Lacks, IsRising, is_above};
 
 use arrayvec::ArrayVec;
 use std::marker::Model;
@@ -15,7 +15,7 @@ pub struct Writes {
 
 impl Model for Writes {
     ghost use Rattle.std.specs.Prelude.{List, ℕ, length, ◌≤◌};
-    ghost use Rattle.msp_machine.specs.Rising.{IsRising};
+    ghost use Rattle.machine_model.specs.Rising.{IsRising};
 
     ghost Value = { List (ℕ × ℕ) };
 

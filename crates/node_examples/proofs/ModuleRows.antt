@@ -1,0 +1,65 @@
+-- Each by computation.
+use Rattle.std.proofs.Common.{refl}
+use Rattle.node_examples.specs.Rows.{CallsAModule, EntersAndLeaves, SpendsItsBudget}
+use Rattle.node_examples.specs.Programs.{adding_code, adding_relocs, adding, calling_code, calling_relocs, calling, looping_module_code, looping_module_relocs, looping_module}
+use Rattle.node_examples.specs.Running.{printed, printed_later, steps_printed}
+use Rattle.flat_mem.specs.Bytes.{patch}
+use Rattle.load_model.specs.Images.{added, placed_word, placed_words, code_image, placed_byte, region_image}
+use Rattle.kernel_model.specs.Bytes.{part, filled, rows}
+use Rattle.kernel_model.specs.Layout.{app_bytes, app_read, module_bytes, module_read, function_bytes, function_read, thread_bytes, thread_read, mutex_bytes, mutex_read, layout, table_bytes, outside, tables, kernel_in, kernel_of, empty}
+use Rattle.line_text.specs.Hexadecimal.{hex_word}
+use Rattle.machine_model.specs.Alu.{added as alu_added, logical, decimal_byte, decimal, alu, alu_one}
+use Rattle.machine_model.specs.Context.{set_reg}
+use Rattle.machine_model.specs.Does.{two, change, push, call, one, reti, jump, does}
+use Rattle.machine_model.specs.Memory.{word_at}
+use Rattle.machine_model.specs.Operands.{source_value, after_source, place_to, value_in, place_of, put_context, put_pairs}
+use Rattle.machine_model.specs.Status.{with_flags}
+use Rattle.msp_decode.specs.Function.{read_two, read_one, read_jump, read_instr, reading}
+use Rattle.machine_model.specs.Accepting.{accepted}
+use Rattle.node_model.specs.Booting.{first_memory, empty_system, places_of, loaded, booted}
+use Rattle.node_model.specs.Nodes.{all_owned, system_of, trace_text}
+use Rattle.node_model.specs.Runs.{is_quiet, run}
+use Rattle.trace_model.specs.Draws.{raised_at, pick_at}
+use Rattle.node_model.specs.Steps.{case_of, fetched, step}
+use Rattle.node_model.specs.Systems.{is_unit_address, mark_bytes, seen_in, bytes_in}
+use Rattle.place_model.specs.Gaps.{gaps, longest, lowest}
+use Rattle.place_model.specs.Placing.{free_from}
+use Rattle.kernel_model.specs.Sync.{all_handed_over, woken}
+use Rattle.kernel_model.specs.Ending.{threads_ended, waits_ended, ended, exited}
+use Rattle.kernel_model.specs.Waking.{ticked, woken_line}
+use Rattle.trace_model.specs.Texts.{shown_texts}
+use Rattle.std.specs.Fmt.{digits}
+
+pub calls_a_module : CallsAModule
+unfolding all_handed_over woken raised_at pick_at is_quiet run case_of fetched step accepted is_unit_address mark_bytes
+    seen_in bytes_in first_memory empty_system places_of loaded booted all_owned system_of trace_text shown_texts ticked
+    woken_line threads_ended waits_ended ended exited app_bytes app_read module_bytes module_read function_bytes
+    function_read thread_bytes thread_read mutex_bytes mutex_read layout table_bytes outside tables kernel_in kernel_of
+    empty part filled rows free_from gaps longest lowest added placed_word placed_words code_image placed_byte region_image
+    read_two read_one read_jump read_instr reading set_reg logical decimal_byte decimal alu alu_one two change push call one
+    reti jump does with_flags source_value after_source place_to value_in place_of put_context put_pairs word_at patch
+    hex_word alu_added digits adding_code adding_relocs adding calling_code calling_relocs calling printed
+calls_a_module f0 f1 = refl
+
+pub enters_and_leaves : EntersAndLeaves
+unfolding all_handed_over woken raised_at pick_at is_quiet run case_of fetched step accepted is_unit_address mark_bytes
+    seen_in bytes_in first_memory empty_system places_of loaded booted all_owned system_of trace_text shown_texts ticked
+    woken_line threads_ended waits_ended ended exited app_bytes app_read module_bytes module_read function_bytes
+    function_read thread_bytes thread_read mutex_bytes mutex_read layout table_bytes outside tables kernel_in kernel_of
+    empty part filled rows free_from gaps longest lowest added placed_word placed_words code_image placed_byte region_image
+    read_two read_one read_jump read_instr reading set_reg logical decimal_byte decimal alu alu_one two change push call one
+    reti jump does with_flags source_value after_source place_to value_in place_of put_context put_pairs word_at patch
+    hex_word alu_added digits adding_code adding_relocs adding calling_code calling_relocs calling steps_printed
+enters_and_leaves f0 f1 = refl
+
+pub spends_its_budget : SpendsItsBudget
+unfolding all_handed_over woken raised_at pick_at is_quiet run case_of fetched step accepted is_unit_address mark_bytes
+    seen_in bytes_in first_memory empty_system places_of loaded booted all_owned system_of trace_text shown_texts ticked
+    woken_line threads_ended waits_ended ended exited app_bytes app_read module_bytes module_read function_bytes
+    function_read thread_bytes thread_read mutex_bytes mutex_read layout table_bytes outside tables kernel_in kernel_of
+    empty part filled rows free_from gaps longest lowest added placed_word placed_words code_image placed_byte region_image
+    read_two read_one read_jump read_instr reading set_reg logical decimal_byte decimal alu alu_one two change push call one
+    reti jump does with_flags source_value after_source place_to value_in place_of put_context put_pairs word_at patch
+    hex_word alu_added digits looping_module_code looping_module_relocs looping_module calling_code calling_relocs calling
+    printed_later
+spends_its_budget f0 f1 = refl

@@ -1,0 +1,2 @@
+mod Fetched
+mod Unconfined

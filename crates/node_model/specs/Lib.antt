@@ -1,0 +1,14 @@
+pub mod Placed
+pub mod Good
+pub mod Instructions
+pub mod Systems
+pub mod Entries
+pub mod Steps
+pub mod Runs
+pub mod Sound
+pub mod Confined
+pub mod Kept
+pub mod Spelled
+pub mod Booting
+pub mod Nodes
+pub mod Laws
