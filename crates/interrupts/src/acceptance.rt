@@ -13,8 +13,8 @@ ghost use Rattle.interrupts.specs.Pushed.{pushed_bytes};
 
 use crate::lines::LINES;
 use flat_mem::FlatMem;
-use msp_machine::regs::{PC, Regs, SP, SR};
 use machine_model::writes::Writes;
+use msp_machine::regs::{PC, Regs, SP, SR};
 
 /// Where the vector of line 0 lies. That of line n lies n words above it.
 const VECTORS: u16 = 0xFFE0;

@@ -12,7 +12,7 @@ ended_module = 2
 
 abbrev pub enter_code : Kernel → (f : ℕ) → Option Code
 enter_code k f = first_code
-    ( (nat_lt 63 f || ((function_at k f).module == none), NoFunction)
+    ((nat_lt 63 f || ((function_at k f).module == none), NoFunction)
     ∷ ((module_at k (function_at k f).module).state == ended_module, ModuleEnded)
     ∷ [])
 
