@@ -2,7 +2,6 @@
 use Rattle.std.proofs.Common.{◌≡◌, ℕ, List, [], ◌∷◌, ap}
 use Rattle.machine_model.specs.Memory.{word_at, even}
 use Rattle.machine_model.specs.Context.{set_reg}
-use Rattle.machine_model.specs.Does.{Effect}
 use Rattle.machine_model.specs.Accepting.{accepted, vector_address}
 
 -- PC, SP and SR, and R4 to R15 as 4 to 15
