@@ -34,10 +34,8 @@ const MUTEXES: u8 = 4;
 pub fn lock(m: &mut FlatMem, i: u16) -> Result<bool, Code>
     requires settled { IsSettled m.old }
     requires runs { ThreadRuns (kernel_of m.old) }
-    ensures answer {
-        let k = kernel_of m.old in
-        AnswersBy m.old m.new (lock_code k i) (locked k i) (is_free_mutex k (own_app k) i) result
-    }
+    ensures answer { let k = kernel_of m.old in
+        AnswersBy m.old m.new (lock_code k i) (locked k i) (is_free_mutex k (own_app k) i) result }
     ensures owned { result ≡ Ok true → owner_of (kernel_of m.new) (own_app (kernel_of m.old)) i ≡ own_number (kernel_of m.old) }
     ensures locks { KeepsLocks (kernel_of m.old) (kernel_of m.new) }
     ensures settled { IsSettled m.new }

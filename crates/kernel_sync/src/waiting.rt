@@ -91,10 +91,8 @@ pub fn join_waiters(m: &mut FlatMem, a: u8, i: u8, n: u8)
 pub fn set_waiting(m: &mut FlatMem, t: u8, state: u16, object: u8, mutex: u8)
     requires number { t < 32 }
     requires queues { QueuesHold m.old }
-    ensures {
-        let k = kernel_of m.old in
-        Leaves m.old m.new (with_thread k t (record (thread_at k t) { state = state; object = object; mutex = mutex }))
-    }
+    ensures { let k = kernel_of m.old in
+        Leaves m.old m.new (with_thread k t (record (thread_at k t) { state = state; object = object; mutex = mutex })) }
 {
     let mut row = thread(m, t);
     row.state = state;
