@@ -1,8 +1,7 @@
 -- The kernel of the tests is settled: one application is loaded, and no thread is live.
-use Rattle.std.proofs.Common.{◌≡◌, ◌≢◌, ℕ, zero, suc, ◌+◌, ◌-◌, ◌*◌, ◌%◌, ◌<◌, ◌≤◌, Bool, true, false, List, [], get_or, set, replicate, refl, sym, ap, ◌∙◌, subst, inl, inr, arith, lit≤, AllPairs, Contains, IsTrue}
+use Rattle.std.proofs.Common.{◌≡◌, ◌≢◌, ℕ, zero, suc, ◌+◌, ◌-◌, ◌*◌, ◌%◌, ◌<◌, ◌≤◌, Bool, true, false, List, [], get_or, set, replicate, refl, sym, ap, ◌∙◌, subst, inl, inr, arith, lit≤, AllPairs, Contains}
 use Rattle.std.specs.Prelude.{nat_lt, if◌then◌else◌}
 use Rattle.std.proofs.lemmas.Bool.{cases_eq}
-use Rattle.std.proofs.lemmas.Bool.Decides.{nat_tests}
 use Rattle.std.proofs.lemmas.List.{get_or-replicate, get_or-set_other, length-set}
 use Rattle.kernel_model.specs.Kernel.{Kernel, with_app, app_at, module_at, thread_at, free_app, free_module, free_function, free_thread, free_mutex, empty_row}
 use Rattle.kernel_model.specs.Words.{free, app_of, identity, saved_register}
@@ -16,10 +15,8 @@ use Rattle.kernel_model.specs.declared.rows.FnRow.{FnRow}
 use Rattle.kernel_model.specs.declared.rows.ThreadRow.{ThreadRow}
 use Rattle.kernel_tables.specs.Clearing.{Cleared}
 use Rattle.place_model.specs.declared.places.DomainRow.{DomainRow}
-use Rattle.place_model.specs.declared.places.Range.{Range}
 use Rattle.place_model.specs.declared.places.Pool.{Pool}
 use Rattle.place_model.specs.declared.places.Pool.TheVariants.{Code, Data}
-use Rattle.place_model.specs.Gaps.{holds}
 use Rattle.place_model.specs.Placing.{app_domain, module_domain, domain_at, pool_range, range_in}
 use Rattle.place_model.specs.Settled.{IsInPool, AreApart, IsAppPlace, IsInUse, IsSettledKernel, IsSettled}
 

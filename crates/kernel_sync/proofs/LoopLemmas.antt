@@ -1,17 +1,17 @@
 -- What the loops leave: threads that go for their mutexes, mutexes that are handed over, and the end of a list.
-use Rattle.std.proofs.Common.{◌≡◌, ◌≢◌, ℕ, suc, ◌+◌, ◌-◌, ◌<◌, ◌≤◌, List, [], ◌∷◌, ◌++◌, length, get_or, take, drop, refl, ap, sym, ◌∙◌, subst, arith, add-one, drop-cons, length-drop}
+use Rattle.std.proofs.Common.{◌≡◌, ℕ, ◌+◌, ◌-◌, ◌<◌, ◌≤◌, List, [], ◌∷◌, ◌++◌, length, get_or, take, drop, ap, sym, ◌∙◌, subst, arith, add-one, drop-cons, length-drop}
 use Rattle.std.specs.List.{fold, range_with_len}
 use Rattle.std.proofs.lemmas.List.{take_more, take_all, get_or-drop}
 use Rattle.std.proofs.lemmas.List.Sums.{fold-append}
 use Rattle.kernel_model.specs.Ending.{OwnsNone}
 use Rattle.kernel_model.specs.Kernel.{Kernel}
-use Rattle.kernel_model.specs.Words.{running, app_of, number_of, owner_of}
+use Rattle.kernel_model.specs.Words.{app_of, number_of, owner_of}
 use Rattle.kernel_model.specs.Layout.{kernel_of}
 use Rattle.kernel_model.specs.Queues.{Leaves}
-use Rattle.kernel_model.specs.Sync.{own_app, own_number, gone_for, given_up, all_handed_over}
+use Rattle.kernel_model.specs.Sync.{gone_for, given_up, all_handed_over}
 use Rattle.sync_laws.specs.Laws.{IsHandedOver}
 use Rattle.sync_laws.specs.Waiters.{MayGo, AllMayGo}
-use Rattle.kernel_threads.proofs.ChainLemmas.{leaves_as, leaves_same, leaves_then}
+use Rattle.kernel_threads.proofs.ChainLemmas.{leaves_as, leaves_then}
 use Rattle.kernel_threads.proofs.FoldLemmas.{fold_range_more}
 
 -- ---- threads that go for their mutexes

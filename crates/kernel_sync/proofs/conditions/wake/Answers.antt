@@ -1,4 +1,4 @@
-use Rattle.std.proofs.Common.{◌≡◌, ℕ, List, take, drop, ap, ◌∙◌}
+use Rattle.std.proofs.Common.{ℕ, List, take, drop, ap, ◌∙◌}
 use Rattle.kernel_model.specs.Kernel.{Kernel, condition_at}
 use Rattle.kernel_model.specs.Layout.{kernel_of}
 use Rattle.kernel_model.specs.Sync.{woken}
