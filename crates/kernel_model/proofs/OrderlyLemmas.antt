@@ -1,13 +1,23 @@
 -- Laid-out memory with an orderly kernel has its two lists in order.
-use Rattle.std.proofs.Common.{◌≡◌, ◌≢◌, ℕ, ◌+◌, ◌-◌, ◌<◌, ◌≤◌, List, ◌++◌, length, get_or, refl, ap, sym, ◌∙◌, subst, ⊎_elim, length-append, arith, AllPairs, Contains}
+use Rattle.std.proofs.Common.{◌≡◌, ◌≢◌, ℕ, ◌+◌, ◌-◌, ◌<◌, ◌≤◌, List, ◌++◌, length, get_or, refl, ap, sym, ◌∙◌, subst, ⊎_elim, length-append, arith, All, AllPairs, Contains}
 use Rattle.std.proofs.lemmas.List.{get_or_append_left, get_or-append_right}
-use Rattle.std.proofs.lemmas.List.Elements.{Contains-get_or}
-use Rattle.std.proofs.lemmas.Bool.{cases_lt}
+use Rattle.std.proofs.lemmas.List.Elements.{All-contains, Contains-get_or}
+use Rattle.std.proofs.lemmas.Bool.{cases_lt, eqb-true}
+use Rattle.std.proofs.lemmas.Bool.Decides.{Decides-eqb}
+use Rattle.std.proofs.lemmas.Map.Made.{IsDistinct-from_AllPairs}
+use Rattle.std.proofs.lemmas.Map.Views.{Contains-from_any}
+use Rattle.std.proofs.lemmas.Map.Steps.{length-le_from_distinct_below}
 use Rattle.kernel_model.specs.Kernel.{Kernel}
 use Rattle.kernel_model.specs.Layout.{tables, nth, kernel_in, kernel_of, IsLaidOut}
 use Rattle.kernel_model.specs.Queues.{HasQueues, HasQueueBytes, QueuesHold}
 use Rattle.kernel_model.specs.Orderly.{IsOrderly}
 use Rattle.kernel_model.specs.Orderly.Spot.{Ready, Asleep}
+
+-- a list without repeats has no more members than there are numbers
+pub distinct_below : (xs : List ℕ) (n : ℕ) → AllPairs (λ x y. x ≢ y) xs → All (λ x. x < n) xs → length xs ≤ n
+distinct_below xs n h below =
+    length-le_from_distinct_below xs n (IsDistinct-from_AllPairs Decides-eqb xs h)
+    (λ q e. All-contains (λ x. x < n) xs q below (Contains-from_any eqb-true q xs e))
 
 -- two lists without repeats that share nothing
 pub pairs_apart : (xs ys : List ℕ) → AllPairs (λ x y. x ≢ y) xs → AllPairs (λ x y. x ≢ y) ys → ((t : ℕ) → Contains xs t → Contains ys t → ⊥) → AllPairs (λ x y. x ≢ y) (xs ++ ys)

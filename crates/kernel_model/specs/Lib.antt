@@ -13,3 +13,4 @@ pub mod Ending
 pub mod Waking
 pub mod Sync
 pub mod Modules
+pub mod Locks

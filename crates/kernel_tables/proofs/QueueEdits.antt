@@ -7,10 +7,7 @@ use Rattle.std.proofs.lemmas.List.Elements.{All-append, All-take, All-drop, All-
 use Rattle.std.proofs.lemmas.List.Quantifiers.{all_pairs_remove}
 use Rattle.std.proofs.lemmas.List.Sums.{fails_before_first, passes_at_first, prefix_len_passes, prefix_len_stops, prefix_len-le-length}
 use Rattle.std.proofs.lemmas.Bool.{cases_eq, cases_lt, leb-true, leb-false, ltb-true, ltb-false, eqb-true, eq-eqb, both_ways}
-use Rattle.std.proofs.lemmas.Bool.Decides.{Decides-eqb}
-use Rattle.std.proofs.lemmas.Map.Made.{IsDistinct-from_AllPairs}
-use Rattle.std.proofs.lemmas.Map.Views.{Contains-from_any}
-use Rattle.std.proofs.lemmas.Map.Steps.{length-le_from_distinct_below}
+use Rattle.kernel_model.proofs.OrderlyLemmas.{distinct_below}
 use Rattle.kernel_model.specs.Kernel.{Kernel, with_ready, with_sleepers}
 use Rattle.kernel_model.specs.Words.{priority_of, wake_time}
 use Rattle.kernel_model.specs.Queues.{AreQueues, HasQueues, priority_in, wake_time_in, at_front, at_end, among_sleepers, without}
@@ -67,11 +64,6 @@ not_member : (xs : List ℕ) (t : ℕ) → (Contains xs t → ⊥) → (k d : �
 not_member xs t none k d h e = none (subst (λ (x : ℕ). Contains xs x) e (Contains-get_or xs k d h))
 
 -- ---- room
-
-distinct_below : (xs : List ℕ) (n : ℕ) → AllPairs (λ x y. x ≢ y) xs → All (λ x. x < n) xs → length xs ≤ n
-distinct_below xs n h below =
-    length-le_from_distinct_below xs n (IsDistinct-from_AllPairs Decides-eqb xs h)
-    (λ q e. All-contains (λ x. x < n) xs q below (Contains-from_any eqb-true q xs e))
 
 -- a list of distinct identities that lacks one has room
 pub room_for : (xs : List ℕ) (t : ℕ) → AllPairs (λ x y. x ≢ y) xs → All (λ x. x < 32) xs → t < 32 → (Contains xs t → ⊥) → length xs < 32
