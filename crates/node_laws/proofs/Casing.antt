@@ -27,7 +27,6 @@ use Rattle.node_laws.proofs.Seeing.{sees}
 use Rattle.node_laws.proofs.Calls.{calling, yields-safe}
 use Rattle.node_laws.proofs.Faulting.{faults-safe, jump-safe, call-safe, emits-safe, self-safe, priority-safe}
 use Rattle.node_laws.proofs.Spawning.{spawn-safe}
-use Rattle.node_laws.proofs.Exiting.{exit-safe}
 
 -- ---- what is at an address
 
