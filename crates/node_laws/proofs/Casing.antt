@@ -20,7 +20,7 @@ use Rattle.node_model.specs.Sound.{IsSound, IsGoodFor, Nothing as NothingRuns}
 use Rattle.node_model.specs.Laws.{IsSeen, IsSafe}
 use Rattle.node_model.specs.Nodes.{most_steps}
 use Rattle.node_laws.specs.Facts.{Given}
-use Rattle.node_laws.specs.Steps.{IsCalm, AThread, Nobody, IsEarly, TurnLaw, TurnLaws, EarlyStepLaw}
+use Rattle.node_laws.specs.Steps.{TurnLaw, TurnLaws}
 use Rattle.node_laws.proofs.Stepping.{later, no-module, thread-steps, thread-facts, IsThread}
 use Rattle.node_laws.proofs.Contexts.{at-entry}
 use Rattle.node_laws.proofs.Seeing.{sees}
@@ -156,17 +156,6 @@ named Module x e h = absurd (cc)
 
 -- ---- which case it is
 
-no-line : (k : Kernel) → pending k ≡ 0 → highest_line k ≡ None
-no-line k e = ap (λ (p : ℕ). find (λ n. eqb (bit_at p n) 1) lines_down) e
-
-both-none : (b : Bool) (o : Option ℕ) → o ≡ None → cond b o None ≡ None
-both-none true o e = e
-both-none false o e = refl
-
-calm-case : (k : Kernel) (c : List ℕ) → pending k ≡ 0 → case_of k c ≡ case_by_line k (reg c 0) None
-unfolding case_of
-calm-case k c e = ap (case_by_line k (reg c 0)) (both-none (allows_interrupts (reg c 2)) (highest_line k) (no-line k e))
-
 pub in-code : (k : Kernel) → ThreadRuns k → case_in_code k ≡ Runs
 in-code k r = cond-false (is_over_budget k) OverBudget Runs (and_left (module_runs k) _ (no-module k r))
 
@@ -204,23 +193,6 @@ idle-safe s pick h r e = record {
   keeps = tt;
   spelled = tt;
 }
-
-by-calm : Given → TurnLaws → (s : System) (pick : Option ℕ) → IsSeen s → IsSound s → IsEarly s → s.steps < most_steps → IsCalm s → IsSafe s (step_of s pick)
-by-calm laws turns s pick see h early few (Nobody r e) =
-    subst (λ (c : Case). IsSafe s (by_case s pick c)) (sym (calm-case s.kernel s.context early.no_line ∙ ap (λ (c : List ℕ). case_by_line s.kernel (reg c 0) None) e)) (idle-safe s pick h r e)
-by-calm laws turns s pick see h early few (AThread r good) = elim (cases_lt (reg s.context 0) 0xF000) [
-  | inl l ↦ subst (λ (c : Case). IsSafe s (by_case s pick c)) (sym (calm-case s.kernel s.context early.no_line ∙ runs-below s.kernel (reg s.context 0) r l)) (thread-steps laws s see h r good l)
-  | inr u ↦ entry u
-]
-  where
-    entry : 0xF000 ≤ reg s.context 0 → IsSafe s (step_of s pick)
-    entry u =
-        let f : IsThread s good.domain = thread-facts laws s good.domain see h r good.placed in
-        let at : StandsAt (reg s.context 0) = named good.domain.object.kind (reg s.context 0) f.kind (at-entry laws good.domain _ _ (seen s) s.context f.stands good.good u) in
-        subst (λ (c : Case). IsSafe s (by_case s pick c)) (sym (calm-case s.kernel s.context early.no_line ∙ enters-at s.kernel (reg s.context 0) at.entry at.at)) (enters-safe turns s pick at.entry see h few r good at.at at.for_app)
-
-pub early-step : Given → TurnLaws → EarlyStepLaw
-early-step laws turns s pick h early few = by-calm laws turns s pick (sees s h) h early few early.calm
 
 -- ---- the turns
 

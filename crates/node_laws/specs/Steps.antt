@@ -10,17 +10,6 @@ use Rattle.node_model.specs.Sound.{IsSound, IsGoodFor}
 use Rattle.node_model.specs.Laws.{IsSeen, IsSafe}
 use Rattle.node_model.specs.Nodes.{most_steps}
 
--- who runs, where no interrupt was just accepted and no module runs
-pub data IsCalm (s : System) : Type 0 where
-  AThread : ThreadRuns s.kernel → IsGoodFor s.kernel.apps s.placed (running s.kernel) s.context → IsCalm s
-  Nobody : NoneRuns s.kernel → s.context ≡ idle_context → IsCalm s
-
--- no line is pending, and nobody owns a mutex
-pub record IsEarly (s : System) : Type 0 where
-  pub calm : IsCalm s
-  pub no_line : pending s.kernel ≡ 0
-  pub unowned : (a i : ℕ) → a < 8 → i < 4 → owner_of s.kernel a i ≡ none
-
 -- a running thread's turn at an entry
 abbrev pub TurnLaw : Call → Type 0
 TurnLaw e = (s : System) (pick : Option ℕ) → IsSeen s → IsSound s → s.steps < most_steps → ThreadRuns s.kernel → IsGoodFor s.kernel.apps s.placed (running s.kernel) s.context
@@ -29,9 +18,6 @@ TurnLaw e = (s : System) (pick : Option ℕ) → IsSeen s → IsSound s → s.st
 -- each turn of a thread
 abbrev pub TurnLaws : Type 0
 TurnLaws = (e : Call) → is_for_app e ≡ true → TurnLaw e
-
-abbrev pub EarlyStepLaw : Type 0
-EarlyStepLaw = (s : System) (pick : Option ℕ) → IsSound s → IsEarly s → s.steps < most_steps → IsSafe s (step_of s pick)
 
 -- the instruction that a thread stands at
 abbrev pub ThreadStepLaw : Type 0
