@@ -34,7 +34,7 @@ use Rattle.node_laws.proofs.Stepping.{later}
 use Rattle.node_laws.proofs.Contexts.{IsMark, mark-of, good-mark}
 use Rattle.node_laws.proofs.Untouched.{IsUntouched, untouched-twice, kept-dispatch}
 use Rattle.node_laws.proofs.Calls.{memory-untouched, untouched-front}
-use Rattle.node_laws.proofs.Entering.{well-placed}
+use Rattle.node_laws.proofs.Stepping.{well-placed}
 use Rattle.node_laws.proofs.Within.{IsInModule, runs-module, who-module, domain-module}
 
 -- ---- the caller's saved registers

@@ -33,37 +33,12 @@ use Rattle.node_laws.specs.Facts.{Given}
 use Rattle.node_laws.specs.Steps.{TurnLaw}
 use Rattle.node_laws.proofs.Rows.{saved-put, populated-put}
 use Rattle.node_laws.proofs.Resting.{sound-saved, saved-row}
-use Rattle.node_laws.proofs.Stepping.{HasPlaces, places-of, later, step-keeps}
+use Rattle.node_laws.proofs.Stepping.{well-placed, of-module, later, step-keeps}
 use Rattle.node_laws.proofs.Contexts.{IsMark, mark-of, good-mark, returned}
 use Rattle.node_laws.proofs.Untouched.{IsUntouched, untouched-twice, untouched-row}
 use Rattle.node_laws.proofs.Calls.{IsCalling, calling as calling-so, own_of, own-thread, comes-from, memory-untouched, IsReturned, good-returned}
 use Rattle.node_laws.proofs.Faulting.{behind-return, call-safe, code-safe}
 use Rattle.node_laws.proofs.Waiting.{mark-behind}
-
--- ---- a module's domain
-
-pub well-placed : (k : Kernel) (n : ℕ) (d : Domain) → IsSettledKernel k → IsDomain k.apps k.modules n d → IsWellPlaced d
-well-placed k n d h is =
-    let p : HasPlaces (domain_at k n) d = places-of k n d is in
-    let code : IsInPool (pool_range Code) (domain_at k n).code = h.inside Code n is.below p.used in
-    let region : IsInPool (pool_range Data) (domain_at k n).region = h.inside Data n is.below p.used in
-    record {
-      code_even = omega (arith, code.from_even, p.code_from);
-      code_low = omega (arith, code.from, p.code_from);
-      code_high = omega (arith, code.to, p.code_to);
-      lo_even = omega (arith, region.from_even, p.from);
-      hi_even = omega (arith, region.to_even, p.to);
-      lo_low = omega (arith, region.from, p.from);
-      hi_high = omega (arith, region.to, p.to);
-      statics = omega (arith, is.region);
-    }
-
-pub of-module : (k : Kernel) (i : ℕ) (d : Domain) → IsDomain k.apps k.modules (8 + i) d → (d.object.kind ≡ Module) × IsModuleRowOf d (module_at k i)
-of-module k i d h =
-    let e : kind_of (8 + i) ≡ Module = cond-false (nat_lt (8 + i) 8) App Module (le-ltb (8 + i) 8 (omega arith)) in
-    let row : HasRow Module k.apps k.modules (8 + i) d = subst (λ (x : Kind). HasRow x k.apps k.modules (8 + i) d) e h.row in
-    let same : row.0 ≡ i = (let x = row.1 in omega arith) in
-    (h.kind ∙ e, subst (λ (m : ℕ). IsModuleRowOf d (module_at k m)) same row.2)
 
 -- ---- the kernel in a call
 

@@ -37,7 +37,7 @@ use Rattle.node_model.specs.Instructions.{Inside, Leads, StaysInStack, StepsAt}
 use Rattle.node_model.specs.Systems.{System, seen, domain_in, kind_of}
 use Rattle.node_model.specs.Entries.{module_runs, who_runs}
 use Rattle.node_model.specs.Steps.{by_effect, instruction, counted, fetched}
-use Rattle.node_model.specs.Sound.{IsDomain, HasRow, IsAppRowOf, IsCodeInPlace, IsSound, IsSoundKernel, AThread, IsGoodFor, low_in, top_in}
+use Rattle.node_model.specs.Sound.{IsDomain, HasRow, IsAppRowOf, IsModuleRowOf, IsCodeInPlace, IsSound, IsSoundKernel, AThread, IsGoodFor, low_in, top_in}
 use Rattle.node_model.specs.Confined.{Within, MayWrite, stack_low_in, stack_top_in}
 use Rattle.node_model.specs.Kept.{Own, of_app, KernelKept, MemoryKept, OthersKept, StepKeeps}
 use Rattle.node_model.specs.Laws.{IsSeen, IsSafe, IsInPools, WritesLaw}
@@ -81,6 +81,31 @@ code-in-pool k n d h is =
     let p : HasPlaces (domain_at k n) d = places-of k n d is in
     let i : IsInPool (pool_range Code) (domain_at k n).code = h.inside Code n is.below p.used in
     (omega (arith, i.from, p.code_from), omega (arith, i.to, p.code_to))
+
+-- any domain is placed well
+pub well-placed : (k : Kernel) (n : ℕ) (d : Domain) → IsSettledKernel k → IsDomain k.apps k.modules n d → IsWellPlaced d
+well-placed k n d h is =
+    let p : HasPlaces (domain_at k n) d = places-of k n d is in
+    let code : IsInPool (pool_range Code) (domain_at k n).code = h.inside Code n is.below p.used in
+    let region : IsInPool (pool_range Data) (domain_at k n).region = h.inside Data n is.below p.used in
+    record {
+      code_even = omega (arith, code.from_even, p.code_from);
+      code_low = omega (arith, code.from, p.code_from);
+      code_high = omega (arith, code.to, p.code_to);
+      lo_even = omega (arith, region.from_even, p.from);
+      hi_even = omega (arith, region.to_even, p.to);
+      lo_low = omega (arith, region.from, p.from);
+      hi_high = omega (arith, region.to, p.to);
+      statics = omega (arith, is.region);
+    }
+
+-- a module's row
+pub of-module : (k : Kernel) (i : ℕ) (d : Domain) → IsDomain k.apps k.modules (8 + i) d → (d.object.kind ≡ Module) × IsModuleRowOf d (module_at k i)
+of-module k i d h =
+    let e : kind_of (8 + i) ≡ Module = cond-false (nat_lt (8 + i) 8) App Module (le-ltb (8 + i) 8 (omega arith)) in
+    let row : HasRow Module k.apps k.modules (8 + i) d = subst (λ (x : Kind). HasRow x k.apps k.modules (8 + i) d) e h.row in
+    let same : row.0 ≡ i = (let x = row.1 in omega arith) in
+    (h.kind ∙ e, subst (λ (m : ℕ). IsModuleRowOf d (module_at k m)) same row.2)
 
 -- ---- writes
 

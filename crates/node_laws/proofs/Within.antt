@@ -33,7 +33,7 @@ use Rattle.node_model.specs.Kept.{StepKeeps}
 use Rattle.node_model.specs.Laws.{IsSeen, IsSafe, IsInPools}
 use Rattle.node_laws.specs.Facts.{Given}
 use Rattle.node_laws.proofs.Stepping.{all-map, code-seen, stands-so, writes, memory-after}
-use Rattle.node_laws.proofs.Entering.{well-placed, of-module}
+use Rattle.node_laws.proofs.Stepping.{well-placed, of-module}
 
 -- ---- the module that runs
 
