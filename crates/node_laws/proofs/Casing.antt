@@ -1,29 +1,25 @@
 -- Which case a step is, and the step by its cases.
-use Rattle.std.proofs.Common.{◌≡◌, ℕ, ◌+◌, ◌*◌, ◌%◌, ◌<◌, ◌≤◌, ◌⊎◌, Bool, true, false, not, eqb, cond, List, [], ◌∷◌, refl, sym, ap, ◌∙◌, subst, inl, inr, arith, Option, None, Some}
+use Rattle.std.proofs.Common.{◌≡◌, ℕ, ◌+◌, ◌*◌, ◌%◌, ◌<◌, ◌≤◌, ◌⊎◌, Bool, true, false, not, eqb, List, [], ◌∷◌, refl, ap, ◌∙◌, inl, inr, arith, Option, None, Some}
 use Rattle.std.specs.Prelude.{◌&&◌}
 use Rattle.std.specs.List.{find}
-use Rattle.std.specs.Int.{bit_at}
-use Rattle.std.proofs.lemmas.Bool.{cases_eq, cases_lt, cond-false, cond_both, ne_eqb, and_left}
+use Rattle.std.proofs.lemmas.Bool.{cases_eq, cond-false, cond_both, ne_eqb, and_left}
 use Rattle.kernel_model.specs.declared.kinds.Kind.{Kind}
 use Rattle.kernel_model.specs.declared.kinds.Kind.TheVariants.{App, Module}
 use Rattle.code_model.specs.Rules.{IsJumpEntry, IsCallEntry}
 use Rattle.machine_model.specs.Context.{reg}
 use Rattle.kernel_model.specs.Kernel.{Kernel}
-use Rattle.kernel_model.specs.Words.{none, running, app_of}
+use Rattle.kernel_model.specs.Words.{none, running}
 use Rattle.kernel_model.specs.Running.{ThreadRuns, NoneRuns, idle_context}
-use Rattle.kernel_model.specs.Ending.{OwnsNone}
-use Rattle.node_model.specs.Systems.{System, seen}
+use Rattle.node_model.specs.Systems.{System}
 use Rattle.node_model.specs.Entries.{Call, StoreFault, StackFault, Goes, Calls, Exits, Spawn, Yield, Sleep, Priority, Self, Ticks, Lock, Unlock, Wait, Signal, Broadcast, Line, ModuleCall, Emits, Leave, calls, entry_address, is_for_app, is_for_module, has_row, module_runs, turn_at, nothing_happens, work}
 use Rattle.trace_model.specs.declared.records.FaultKind.TheVariants.{Store, Stack}
-use Rattle.node_model.specs.Steps.{Case, IsIdle, Enters, Runs, OverBudget, case_of, case_by_line, case_at, case_in_code, is_over_budget, highest_line, lines_down, entry_at, routine_at, allows_interrupts, by_case, by_turn, step_of, pending}
+use Rattle.node_model.specs.Steps.{IsIdle, Enters, Runs, OverBudget, case_by_line, case_at, case_in_code, is_over_budget, lines_down, entry_at, routine_at, by_case, by_turn}
 use Rattle.node_model.specs.Sound.{IsSound, IsGoodFor, Nothing as NothingRuns}
 use Rattle.node_model.specs.Laws.{IsSeen, IsSafe}
 use Rattle.node_model.specs.Nodes.{most_steps}
 use Rattle.node_laws.specs.Facts.{Given}
 use Rattle.node_laws.specs.Steps.{TurnLaw, TurnLaws}
-use Rattle.node_laws.proofs.Stepping.{later, no-module, thread-steps, thread-facts, IsThread}
-use Rattle.node_laws.proofs.Contexts.{at-entry}
-use Rattle.node_laws.proofs.Seeing.{sees}
+use Rattle.node_laws.proofs.Stepping.{later, no-module}
 use Rattle.node_laws.proofs.Calls.{calling, yields-safe}
 use Rattle.node_laws.proofs.Faulting.{faults-safe, jump-safe, call-safe, emits-safe, self-safe, priority-safe}
 use Rattle.node_laws.proofs.Spawning.{spawn-safe}
@@ -130,22 +126,67 @@ pub record StandsAt (pc : ℕ) : Type 0 where
 
 call-named : (x : ℕ) → 0xF006 ≤ x → x ≤ 0xF024 → x % 2 ≡ 0 → StandsAt x
 call-named x l u e =
-    elim (cases_eq x 0xF006) [ inl h ↦ record { entry = Calls; at = h; for_app = refl } | inr nf006 ↦
-    elim (cases_eq x 0xF008) [ inl h ↦ record { entry = Exits; at = h; for_app = refl } | inr nf008 ↦
-    elim (cases_eq x 0xF00A) [ inl h ↦ record { entry = Spawn; at = h; for_app = refl } | inr nf00a ↦
-    elim (cases_eq x 0xF00C) [ inl h ↦ record { entry = Yield; at = h; for_app = refl } | inr nf00c ↦
-    elim (cases_eq x 0xF00E) [ inl h ↦ record { entry = Sleep; at = h; for_app = refl } | inr nf00e ↦
-    elim (cases_eq x 0xF010) [ inl h ↦ record { entry = Priority; at = h; for_app = refl } | inr nf010 ↦
-    elim (cases_eq x 0xF012) [ inl h ↦ record { entry = Self; at = h; for_app = refl } | inr nf012 ↦
-    elim (cases_eq x 0xF014) [ inl h ↦ record { entry = Ticks; at = h; for_app = refl } | inr nf014 ↦
-    elim (cases_eq x 0xF016) [ inl h ↦ record { entry = Lock; at = h; for_app = refl } | inr nf016 ↦
-    elim (cases_eq x 0xF018) [ inl h ↦ record { entry = Unlock; at = h; for_app = refl } | inr nf018 ↦
-    elim (cases_eq x 0xF01A) [ inl h ↦ record { entry = Wait; at = h; for_app = refl } | inr nf01a ↦
-    elim (cases_eq x 0xF01C) [ inl h ↦ record { entry = Signal; at = h; for_app = refl } | inr nf01c ↦
-    elim (cases_eq x 0xF01E) [ inl h ↦ record { entry = Broadcast; at = h; for_app = refl } | inr nf01e ↦
-    elim (cases_eq x 0xF020) [ inl h ↦ record { entry = Line; at = h; for_app = refl } | inr nf020 ↦
-    elim (cases_eq x 0xF022) [ inl h ↦ record { entry = ModuleCall; at = h; for_app = refl } | inr nf022 ↦
-    record { entry = Emits; at = omega arith; for_app = refl } ] ] ] ] ] ] ] ] ] ] ] ] ] ] ]
+    elim (cases_eq x 0xF006) [
+      | inl h ↦ record { entry = Calls; at = h; for_app = refl }
+      | inr nf006 ↦
+          elim (cases_eq x 0xF008) [
+            | inl h ↦ record { entry = Exits; at = h; for_app = refl }
+            | inr nf008 ↦
+                elim (cases_eq x 0xF00A) [
+                  | inl h ↦ record { entry = Spawn; at = h; for_app = refl }
+                  | inr nf00a ↦
+                      elim (cases_eq x 0xF00C) [
+                        | inl h ↦ record { entry = Yield; at = h; for_app = refl }
+                        | inr nf00c ↦
+                            elim (cases_eq x 0xF00E) [
+                              | inl h ↦ record { entry = Sleep; at = h; for_app = refl }
+                              | inr nf00e ↦
+                                  elim (cases_eq x 0xF010) [
+                                    | inl h ↦ record { entry = Priority; at = h; for_app = refl }
+                                    | inr nf010 ↦
+                                        elim (cases_eq x 0xF012) [
+                                          | inl h ↦ record { entry = Self; at = h; for_app = refl }
+                                          | inr nf012 ↦
+                                              elim (cases_eq x 0xF014) [
+                                                | inl h ↦ record { entry = Ticks; at = h; for_app = refl }
+                                                | inr nf014 ↦
+                                                    elim (cases_eq x 0xF016) [
+                                                      | inl h ↦ record { entry = Lock; at = h; for_app = refl }
+                                                      | inr nf016 ↦
+                                                          elim (cases_eq x 0xF018) [
+                                                            | inl h ↦ record { entry = Unlock; at = h; for_app = refl }
+                                                            | inr nf018 ↦
+                                                                elim (cases_eq x 0xF01A) [
+                                                                  | inl h ↦ record { entry = Wait; at = h; for_app = refl }
+                                                                  | inr nf01a ↦
+                                                                      elim (cases_eq x 0xF01C) [
+                                                                        | inl h ↦ record { entry = Signal; at = h; for_app = refl }
+                                                                        | inr nf01c ↦
+                                                                            elim (cases_eq x 0xF01E) [
+                                                                              | inl h ↦ record { entry = Broadcast; at = h; for_app = refl }
+                                                                              | inr nf01e ↦
+                                                                                  elim (cases_eq x 0xF020) [
+                                                                                    | inl h ↦ record { entry = Line; at = h; for_app = refl }
+                                                                                    | inr nf020 ↦
+                                                                                        elim (cases_eq x 0xF022) [
+                                                                                          | inl h ↦ record { entry = ModuleCall; at = h; for_app = refl }
+                                                                                          | inr nf022 ↦
+                                                                                              record { entry = Emits; at = omega arith; for_app = refl }
+                                                                                        ]
+                                                                                  ]
+                                                                            ]
+                                                                      ]
+                                                                ]
+                                                          ]
+                                                    ]
+                                              ]
+                                        ]
+                                  ]
+                            ]
+                      ]
+                ]
+          ]
+    ]
 
 pub named : (k : Kind) (x : ℕ) → k ≡ App → IsJumpEntry k x ⊎ IsCallEntry k x → StandsAt x
 named App x e (inl (inl h)) = record { entry = StoreFault; at = h; for_app = refl }

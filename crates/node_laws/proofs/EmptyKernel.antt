@@ -1,5 +1,5 @@
 -- The empty kernel is settled.
-use Rattle.std.proofs.Common.{◌≡◌, ℕ, zero, suc, ◌-◌, ◌%◌, Bool, true, false, cond, get_or, replicate, refl, ap, ◌∙◌}
+use Rattle.std.proofs.Common.{◌≡◌, ℕ, ◌-◌, ◌%◌, Bool, true, false, cond, refl, ap, ◌∙◌}
 use Rattle.std.specs.Prelude.{nat_lt}
 use Rattle.kernel_model.specs.Kernel.{module_at, free_app, free_module, free_function}
 use Rattle.kernel_model.specs.Words.{free}

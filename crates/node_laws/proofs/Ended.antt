@@ -178,8 +178,10 @@ still-faulted k pick a o h false e = record { row = h.row; threads = λ n l. fro
   where
     t : ℕ
     t = chosen_thread k pick
+
     is : IsReady k t
     is = ready_is k o t (Contains-get_or k.ready (chosen_place pick k.ready) 0 (chosen-within pick k.ready (eqb-false (length k.ready) 0 e)))
+
     from : (n : ℕ) → n < 4 → (identity a n ≡ t) ⊎ (identity a n ≢ t) → (thread_at (begun k pick) (identity a n)).state ≡ free
     from n l (inl s) = absurd (omega (arith, is.state, ap (λ (u : ℕ). (thread_at k u).state) s, h.threads n l))
     from n l (inr x) = ap (λ (r : ThreadRow). r.state) (get_or-set_other k.threads t (identity a n) (record (thread_at k t) { state = running_state }) free_thread x) ∙ h.threads n l

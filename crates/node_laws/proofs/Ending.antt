@@ -87,10 +87,14 @@ saved-again apps ds before after t regs a h u lu = elim (cases_eq u t) [
 ]
 
 has-again : (before after : List ThreadRow) (t : ℕ) (regs : List ℕ) → IsAgain before after t regs → (b : ℕ) → HasThread before b → HasThread after b
-has-again before after t regs a b x = (x.0, x.1, elim (cases_eq (identity b x.0) t) [
-  | inl e ↦ λ q. omega (arith, a.state, ap (λ (v : ℕ). (get_or after v free_thread).state) e, q)
-  | inr n ↦ subst (λ (r : ThreadRow). r.state ≢ free) (sym (a.others (identity b x.0) n)) x.2
-])
+has-again before after t regs a b x = (
+  x.0,
+  x.1,
+  elim (cases_eq (identity b x.0) t) [
+    | inl e ↦ λ q. omega (arith, a.state, ap (λ (v : ℕ). (get_or after v free_thread).state) e, q)
+    | inr n ↦ subst (λ (r : ThreadRow). r.state ≢ free) (sym (a.others (identity b x.0) n)) x.2
+  ],
+)
 
 twice-again : (threads : List ThreadRow) (t : ℕ) (r1 : ThreadRow) (f : ThreadRow → ThreadRow) → t < length threads → get_or (set (set threads t r1) t (f (get_or (set threads t r1) t free_thread))) t free_thread ≡ f r1
 twice-again threads t r1 f l = get_or-set_same (set threads t r1) t _ free_thread (omega (arith, length-set threads t r1)) ∙ ap f (get_or-set_same threads t r1 free_thread l)
@@ -126,15 +130,17 @@ sound-left k ds n r h some small =
     let is : IsCaller k = caller_is k h.settled.orderly some in
     let a : IsAgain k.threads (left k r).threads t (set (set (thread_at k t).regs 12 0) 13 (reg r 12)) = two-again k t 12 0 13 (reg r 12) (let x = is.below in let size = h.settled.orderly.shape.thread_rows in omega arith) in
     let good : IsGoodFor k.apps ds t (set (set (thread_at k t).regs 12 0) 13 (reg r 12)) =
-        goes-good k ds t _ (caller-reg k ds t (set (thread_at k t).regs 12 0) 13 (reg r 12) (omega arith) (omega arith) small (caller-reg k ds t (thread_at k t).regs 12 0 (omega arith) (omega arith) (omega arith) (caller-good k ds n h is))) in
-    (record {
-      settled = left_stays_settled k r h.settled some;
-      domains = h.domains;
-      saved = saved-again k.apps ds k.threads (left k r).threads t _ a h.saved;
-      populated = λ b lb alive. has-again k.threads (left k r).threads t _ a b (h.populated b lb alive);
-      functions = h.functions;
-      bounded = record { ticks = h.bounded.ticks; count = omega arith; no_count = λ _. refl; lines = h.bounded.lines };
-    }, subst (IsGoodFor k.apps ds t) (sym a.saved) good)
+    goes-good k ds t _ (caller-reg k ds t (set (thread_at k t).regs 12 0) 13 (reg r 12) (omega arith) (omega arith) small (caller-reg k ds t (thread_at k t).regs 12 0 (omega arith) (omega arith) (omega arith) (caller-good k ds n h is))) in (
+      record {
+        settled = left_stays_settled k r h.settled some;
+        domains = h.domains;
+        saved = saved-again k.apps ds k.threads (left k r).threads t _ a h.saved;
+        populated = λ b lb alive. has-again k.threads (left k r).threads t _ a b (h.populated b lb alive);
+        functions = h.functions;
+        bounded = record { ticks = h.bounded.ticks; count = omega arith; no_count = λ _. refl; lines = h.bounded.lines };
+      },
+      subst (IsGoodFor k.apps ds t) (sym a.saved) good,
+    )
 
 -- the record of a module's turn comes from an entry
 pub comes-from-module : (s : System) (d : Domain) → IsInModule s d → IsJumpEntry d.object.kind (reg s.context 0) ⊎ IsCallEntry d.object.kind (reg s.context 0) → IsAtEntry s (who_runs s.kernel) (reg s.context 0)
@@ -163,14 +169,18 @@ leave-safe s d pick m at here =
 
 row-without : (apps : List AppRow) (modules : List ModuleRow) (n i : ℕ) (d : Domain) → i < length modules → (q : Kind) → HasRow q apps modules n d → HasRow q apps (set modules i (record (get_or modules i free_module) { state = ended_module })) n d
 row-without apps modules n i d l App h = h
-row-without apps modules n i d l Module h = (h.0, h.1, elim (cases_eq h.0 i) [
-  | inl e ↦
-      let old : IsModuleRowOf d (get_or modules i free_module) = subst (λ (m : ℕ). IsModuleRowOf d (get_or modules m free_module)) e h.2 in
-      subst (λ (m : ℕ). IsModuleRowOf d (get_or (set modules i (record (get_or modules i free_module) { state = ended_module })) m free_module)) (sym e)
-      (subst (IsModuleRowOf d) (sym (get_or-set_same modules i (record (get_or modules i free_module) { state = ended_module }) free_module l))
-      record { used = λ z. omega arith; known = omega arith; code_lo = old.code_lo; code_hi = old.code_hi; lo = old.lo; hi = old.hi })
-  | inr ne ↦ subst (IsModuleRowOf d) (sym (get_or-set_other modules i h.0 _ free_module ne)) h.2
-])
+row-without apps modules n i d l Module h = (
+  h.0,
+  h.1,
+  elim (cases_eq h.0 i) [
+    | inl e ↦
+        let old : IsModuleRowOf d (get_or modules i free_module) = subst (λ (m : ℕ). IsModuleRowOf d (get_or modules m free_module)) e h.2 in
+        subst (λ (m : ℕ). IsModuleRowOf d (get_or (set modules i (record (get_or modules i free_module) { state = ended_module })) m free_module)) (sym e)
+        (subst (IsModuleRowOf d) (sym (get_or-set_same modules i (record (get_or modules i free_module) { state = ended_module }) free_module l))
+        record { used = λ z. omega arith; known = omega arith; code_lo = old.code_lo; code_hi = old.code_hi; lo = old.lo; hi = old.hi })
+    | inr ne ↦ subst (IsModuleRowOf d) (sym (get_or-set_other modules i h.0 _ free_module ne)) h.2
+  ],
+)
 
 domains-without : (apps : List AppRow) (modules : List ModuleRow) (ds : List (Option Domain)) (i : ℕ) → i < length modules → (get_or modules i free_module).state ≢ free → AreDomains apps modules ds
     → AreDomains apps (set modules i (record (get_or modules i free_module) { state = ended_module })) ds
@@ -192,15 +202,17 @@ sound-faulted k ds n h below =
     let some : i ≢ none = some-module k below in
     let is : IsCaller k = caller_is k h.settled.orderly some in
     let a : IsAgain k.threads (module_ended k).threads t (set (thread_at k t).regs 12 6) = one-again k t 12 6 (let x = is.below in let size = h.settled.orderly.shape.thread_rows in omega arith) in
-    let good : IsGoodFor k.apps ds t (set (thread_at k t).regs 12 6) = goes-good k ds t _ (caller-reg k ds t (thread_at k t).regs 12 6 (omega arith) (omega arith) (omega arith) (caller-good k ds n h is)) in
-    (record {
-      settled = module_ended_stays_settled k h.settled some;
-      domains = domains-without k.apps k.modules ds i (let size = h.settled.orderly.shape.module_rows in omega arith) (λ e. omega (arith, e, h.settled.orderly.callee some)) h.domains;
-      saved = saved-again k.apps ds k.threads (module_ended k).threads t _ a h.saved;
-      populated = λ b lb alive. has-again k.threads (module_ended k).threads t _ a b (h.populated b lb alive);
-      functions = h.functions;
-      bounded = record { ticks = h.bounded.ticks; count = omega arith; no_count = λ _. refl; lines = h.bounded.lines };
-    }, subst (IsGoodFor k.apps ds t) (sym a.saved) good)
+    let good : IsGoodFor k.apps ds t (set (thread_at k t).regs 12 6) = goes-good k ds t _ (caller-reg k ds t (thread_at k t).regs 12 6 (omega arith) (omega arith) (omega arith) (caller-good k ds n h is)) in (
+      record {
+        settled = module_ended_stays_settled k h.settled some;
+        domains = domains-without k.apps k.modules ds i (let size = h.settled.orderly.shape.module_rows in omega arith) (λ e. omega (arith, e, h.settled.orderly.callee some)) h.domains;
+        saved = saved-again k.apps ds k.threads (module_ended k).threads t _ a h.saved;
+        populated = λ b lb alive. has-again k.threads (module_ended k).threads t _ a b (h.populated b lb alive);
+        functions = h.functions;
+        bounded = record { ticks = h.bounded.ticks; count = omega arith; no_count = λ _. refl; lines = h.bounded.lines };
+      },
+      subst (IsGoodFor k.apps ds t) (sym a.saved) good,
+    )
 
 untouched-faulted : (k : Kernel) → running k < length k.threads → IsUntouched (of_call (running_module k) (running k)) k (module_ended k)
 untouched-faulted k l = record {
@@ -228,32 +240,44 @@ module-faults s d pick f v m confined =
   where
     k : Kernel
     k = s.kernel
+
     i : ℕ
     i = running_module k
+
     t : ℕ
     t = running k
+
     is : IsCaller k
     is = caller_is k m.sound.kernel.settled.orderly (some-module k m.below)
+
     l : t < length k.threads
     l = let x = is.below in let size = m.sound.kernel.settled.orderly.shape.thread_rows in omega arith
+
     j : Kernel
     j = module_ended k
+
     x : IsSoundKernel j s.placed s.steps × IsGoodFor k.apps s.placed t (thread_at j t).regs
     x = sound-faulted k s.placed s.steps m.sound.kernel m.below
+
     front : IsSoundKernel (moved_to_front j) s.placed s.steps
     front = sound-front j s.placed s.steps x.0 record { thread = is.below; no_module = refl } x.1
+
     next : IsSoundKernel (dispatched (moved_to_front j) pick) s.placed s.steps × IsRunning s.memory (dispatched_context (moved_to_front j) pick) (dispatched (moved_to_front j) pick) s.placed
     next = dispatch s.memory (moved_to_front j) s.placed s.steps pick front record { no_thread = refl; no_module = refl }
+
     untouched : IsUntouched (of_call i t) k (moved_to_front j)
     untouched = untouched-twice (of_call i t) k j (moved_to_front j) (untouched-faulted k l) (untouched-front (of_call i t) j (eq-eqb t t refl))
+
     after : System
     after = record s { kernel = dispatched (moved_to_front j) pick; context = dispatched_context (moved_to_front j) pick; steps = s.steps + 1 }
+
     faulted : ModuleFaulted i s after
     faulted = record {
       others = record { memory = memory-untouched (of_call i t) s; kernel = kept-dispatch (of_call i t) k (moved_to_front j) pick untouched front.settled.orderly; placed = refl };
       ended = ap (λ (ms : List ModuleRow). (get_or ms i free_module).state) (modules-by (moved_to_front j) pick (nothing_ready (moved_to_front j)) _ refl)
           ∙ ap (λ (r : ModuleRow). r.state) (get_or-set_same k.modules i (ended_row k i) free_module (let size = m.sound.kernel.settled.orderly.shape.module_rows in let b = m.below in omega arith));
     }
+
     here : IsSafe s (by_turn s (record { kernel = dispatched (moved_to_front j) pick; context = dispatched_context (moved_to_front j) pick; shown = Fault (s.steps + 1) (who_runs s.kernel) f v }))
     here = record {
       sound = record { code = m.sound.code; kernel = later _ s.placed s.steps next.0; running = next.1 };

@@ -1,8 +1,8 @@
 -- A running thread calls a module.
-use Rattle.std.proofs.Common.{◌≡◌, ◌≢◌, ℕ, zero, suc, ◌+◌, ◌%◌, ◌<◌, ◌≤◌, Bool, true, false, eqb, cond, List, [], ◌∷◌, length, get_or, refl, sym, ap, ◌∙◌, subst, inl, inr, arith, Option, None, Some}
+use Rattle.std.proofs.Common.{◌≡◌, ◌≢◌, ℕ, zero, suc, ◌+◌, ◌%◌, ◌<◌, ◌≤◌, Bool, true, false, eqb, cond, List, [], ◌∷◌, length, get_or, refl, sym, ap, subst, inl, inr, arith, Option, None, Some}
 use Rattle.std.specs.Prelude.{nat_lt, ◌||◌}
 use Rattle.std.specs.List.{AllByRecursion}
-use Rattle.std.proofs.lemmas.Bool.{cases_lt, cond-false, le-ltb, ltb-false, eqb-false}
+use Rattle.std.proofs.lemmas.Bool.{cases_lt, ltb-false, eqb-false}
 use Rattle.std.proofs.lemmas.List.{get_or_past}
 use Rattle.kernel_model.specs.declared.kinds.Kind.{Kind}
 use Rattle.kernel_model.specs.declared.kinds.Kind.TheVariants.{App, Module}
@@ -13,9 +13,6 @@ use Rattle.kernel_model.specs.Kernel.{Kernel, thread_at, with_thread, module_at,
 use Rattle.kernel_model.specs.Words.{none, free, live, calling, running, app_of, with_running_module}
 use Rattle.kernel_model.specs.declared.rows.ModuleRow.{ModuleRow}
 use Rattle.kernel_model.specs.declared.rows.ThreadRow.{ThreadRow}
-use Rattle.place_model.specs.declared.places.Pool.TheVariants.{Code, Data}
-use Rattle.place_model.specs.Placing.{domain_at, pool_range}
-use Rattle.place_model.specs.Settled.{IsSettledKernel, IsInPool}
 use Rattle.kernel_model.specs.Running.{ThreadRuns}
 use Rattle.kernel_model.specs.Dispatching.{saved}
 use Rattle.kernel_model.specs.declared.code.Code.TheVariants.{NoFunction, ModuleEnded}
@@ -23,10 +20,10 @@ use Rattle.kernel_model.specs.Modules.{ended_module, entered, entered_context}
 use Rattle.module_laws.proofs.CallRules.{entered_stays_settled}
 use Rattle.load_model.specs.Domains.{Domain}
 use Rattle.node_model.specs.Placed.{IsWellPlaced, control_bits}
-use Rattle.node_model.specs.Systems.{System, seen, is_mark, kind_of}
+use Rattle.node_model.specs.Systems.{System, seen, is_mark}
 use Rattle.node_model.specs.Entries.{ModuleCall, work, unless, goes_straight, called}
 use Rattle.node_model.specs.Steps.{by_turn}
-use Rattle.node_model.specs.Sound.{IsDomain, HasDomain, HasRow, IsModuleRowOf, IsGoodIn, IsGoodFor, IsSoundKernel, AModule}
+use Rattle.node_model.specs.Sound.{IsDomain, HasDomain, IsGoodIn, IsGoodFor, IsSoundKernel, AModule}
 use Rattle.node_model.specs.Kept.{Own, KernelKept}
 use Rattle.node_model.specs.Laws.{IsSafe}
 use Rattle.node_laws.specs.Facts.{Given}
@@ -185,7 +182,7 @@ enters laws s d pick c x is m lf some on =
 enter-by : Given → (s : System) (d : Domain) (pick : Option ℕ) (c : List ℕ) → IsCalling s d 0xF022 → IsReturned s d c → is_mark s.placed (app_of (running s.kernel)) (reg c 0) ≡ true
     → (a : Bool) → nat_lt 63 (reg c 12) ≡ a → (b : Bool) → eqb (function_at s.kernel (reg c 12)).module none ≡ b → (e : Bool) → eqb (module_at s.kernel (function_at s.kernel (reg c 12)).module).state ended_module ≡ e
     → IsSafe s (by_turn s (unless ModuleCall (record (work s pick) { context = c }) (cond (a || b) (Some NoFunction) (cond e (Some ModuleEnded) None))
-        (goes_straight (entered s.kernel c) (entered_context s.kernel c) (called (record (work s pick) { context = c }) 0xF022))))
+    (goes_straight (entered s.kernel c) (entered_context s.kernel c) (called (record (work s pick) { context = c }) 0xF022))))
 enter-by laws s d pick c x is m true ea b eb e ee = code-safe laws s d pick ModuleCall NoFunction c x is
 enter-by laws s d pick c x is m false ea true eb e ee = code-safe laws s d pick ModuleCall NoFunction c x is
 enter-by laws s d pick c x is m false ea false eb true ee = code-safe laws s d pick ModuleCall ModuleEnded c x is

@@ -1,35 +1,31 @@
 -- A running thread that exits, and owns no mutex.
-use Rattle.std.proofs.Common.{◌≡◌, ◌≢◌, ℕ, suc, ◌+◌, ◌<◌, ◌≤◌, Bool, true, false, eqb, cond, List, [], ◌∷◌, length, get_or, set, refl, sym, ap, ◌∙◌, subst, inl, inr, arith, Option}
+use Rattle.std.proofs.Common.{◌≡◌, ◌≢◌, ℕ, suc, ◌+◌, ◌<◌, ◌≤◌, Bool, true, false, eqb, List, [], ◌∷◌, length, get_or, set, refl, sym, ap, ◌∙◌, subst, inl, inr, arith, Option}
 use Rattle.std.specs.Prelude.{◌||◌, ◌&&◌}
-use Rattle.std.specs.List.{list_all, fold}
-use Rattle.std.proofs.lemmas.Bool.{cases_eq, cond-false, eqb-false, ne_eqb}
+use Rattle.std.specs.List.{list_all}
+use Rattle.std.proofs.lemmas.Bool.{cases_eq, eqb-false}
 use Rattle.std.proofs.lemmas.List.{get_or-set_other}
 use Rattle.std.proofs.lemmas.List.FromFn.{get_or-map-range_with_len, length-map-range_with_len}
 use Rattle.kernel_model.specs.Kernel.{Kernel, thread_at, with_thread, app_at, free_thread, empty_row}
-use Rattle.kernel_model.specs.Words.{none, free, live, running, app_of, identity, none_running, owner_of}
+use Rattle.kernel_model.specs.Words.{none, free, live, running, app_of, identity, none_running}
 use Rattle.kernel_model.specs.declared.rows.ThreadRow.{ThreadRow}
 use Rattle.place_model.specs.Settled.{IsSettledKernel}
 use Rattle.kernel_model.specs.Running.{ThreadRuns, NoneRuns}
 use Rattle.kernel_model.specs.Dispatching.{dispatched, dispatched_context}
 use Rattle.kernel_model.specs.Starting.{is_free_thread, threads_of}
-use Rattle.kernel_model.specs.declared.ends.AppEnd.TheVariants.{Done}
-use Rattle.kernel_model.specs.Ending.{ended, is_last, exited, OwnsNone}
+use Rattle.kernel_model.specs.Ending.{is_last}
 use Rattle.thread_laws.proofs.Spots.{running_is}
-use Rattle.thread_laws.proofs.ExitedLemmas.{exited_settled}
-use Rattle.kernel_model.specs.Sync.{all_handed_over, owns, own_app, own_number, unlocked}
 use Rattle.load_model.specs.Domains.{Domain}
 use Rattle.trace_model.specs.declared.records.Record.TheVariants.{Exit}
 use Rattle.node_model.specs.Systems.{System}
-use Rattle.node_model.specs.Entries.{work, who_runs, exits}
+use Rattle.node_model.specs.Entries.{who_runs}
 use Rattle.node_model.specs.Steps.{by_turn}
 use Rattle.node_model.specs.Sound.{HasThread, ArePopulated, IsSoundKernel}
 use Rattle.node_model.specs.Laws.{IsSafe}
 use Rattle.node_laws.specs.Facts.{Given}
 use Rattle.node_laws.proofs.Rows.{saved-put}
 use Rattle.node_laws.proofs.Stepping.{step-keeps}
-use Rattle.node_laws.proofs.Untouched.{IsUntouched, untouched-twice, untouched-row}
-use Rattle.node_laws.proofs.Calls.{IsCalling, own_of, own-thread, comes-from, Leaves, leaves, untouched-runs}
-use Rattle.node_laws.proofs.Ended.{stopped_app, ended-running, sound-ended, untouched-ended}
+use Rattle.node_laws.proofs.Untouched.{IsUntouched}
+use Rattle.node_laws.proofs.Calls.{IsCalling, own_of, comes-from, Leaves, leaves}
 
 -- ---- one of several threads
 
@@ -80,6 +76,7 @@ populated-left k size r o h b lb alive = elim (cases_eq b (app_of (running k))) 
     same : b ≡ app_of (running k) → HasThread (set k.threads (running k) empty_row) b
     same e = subst (λ (a : ℕ). HasThread (set k.threads (running k) empty_row) a) (sym e)
         (o.number, o.few, subst (λ (w : ThreadRow). w.state ≢ free) (sym (get_or-set_other k.threads (running k) (identity (app_of (running k)) o.number) empty_row free_thread o.other)) o.alive)
+
     other : b ≢ app_of (running k) → HasThread k.threads b → HasThread (set k.threads (running k) empty_row) b
     other x has = (has.0, has.1, subst (λ (w : ThreadRow). w.state ≢ free) (sym (get_or-set_other k.threads (running k) (identity b has.0) empty_row free_thread (apart has.0 has.1))) has.2)
       where

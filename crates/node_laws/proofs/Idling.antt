@@ -56,38 +56,53 @@ accept-from s n see h r c is ctx sp bit idle l =
   where
     e : Effect
     e = accepted n (seen s) c
+
     vector : word_at (seen s) (vector_address n) ≡ word_at s.memory (vector_address n)
     vector = same-word s n see
+
     at : word_at (seen s) (vector_address n) ≡ 0xF080 + 2 * n
     at = vector ∙ h.code.vectors n l
+
     room : 4 ≤ reg c 1
     room = omega arith
+
     written : e.written ≡ four (reg c 1 - 4) (reg c 2 % 256) (reg c 2 / 256) (reg c 1 - 2) (reg c 0 % 256) (reg c 0 / 256)
     written = written-is n (seen s) c ctx room
+
     sr : reg c 2 < 65536
     sr = ctx.small 2
+
     pc : reg c 0 < 65536
     pc = ctx.small 0
+
     top : AllByRecursion (Within 0x10FC 0x1100) e.written
     top = subst (AllByRecursion (Within 0x10FC 0x1100)) (sym written)
         (all-four (Within 0x10FC 0x1100) (reg c 1 - 4) (reg c 2 % 256) (reg c 2 / 256) (reg c 1 - 2) (reg c 0 % 256) (reg c 0 / 256) (omega arith, omega arith) (omega arith, omega arith) (omega arith, omega arith) (omega arith, omega arith))
+
     pools : AllByRecursion IsInPools e.written
     pools = all-map (Within 0x10FC 0x1100) IsInPools (λ w i. inl (omega (arith, i.0), omega (arith, i.1))) e.written top
+
     small : AllByRecursion (λ (w : ℕ × ℕ). w.1 < 256) e.written
     small = subst (AllByRecursion (λ (w : ℕ × ℕ). w.1 < 256)) (sym written) (all-four (λ (w : ℕ × ℕ). w.1 < 256) (reg c 1 - 4) (reg c 2 % 256) (reg c 2 / 256) (reg c 1 - 2) (reg c 0 % 256) (reg c 0 / 256) (omega arith) (omega arith) (omega arith) (omega arith))
+
     memory : IsMemory (put_all s.memory e.written)
     memory = memory-after e.written s.memory h.code.memory small
+
     serves : IsServing e.context × (reg e.context 1 ≡ reg c 1 - 4)
     serves = serving n (seen s) c l ctx room bit at
+
     back : interrupted (put_all s.memory e.written) e.context ≡ c
     back = subst (λ (x : Effect). interrupted (put_all s.memory x.written) x.context ≡ c) (sym (same-accepted n (seen s) s.memory c vector)) (pushed-accepted n s.memory c h.code.memory.bytes ctx room)
+
     even-pc : word_at (put_all s.memory e.written) (reg e.context 1 + 2) % 2 ≡ 0
     even-pc =
         let word : word_at (put_all s.memory (four (reg c 1 - 4) (reg c 2 % 256) (reg c 2 / 256) (reg c 1 - 2) (reg c 0 % 256) (reg c 0 / 256))) (reg c 1 - 4 + 2) ≡ reg c 0 % 256 + 256 * (reg c 0 / 256) = high_word s.memory (reg c 1 - 4) (reg c 2 % 256) (reg c 2 / 256) (reg c 1 - 2) (reg c 0 % 256) (reg c 0 / 256) (omega (arith, ctx.sp_even)) (omega arith) (omega (arith, h.code.memory.bytes, ctx.small 1)) in
         let there : word_at (put_all s.memory e.written) (reg e.context 1 + 2) ≡ reg c 0 % 256 + 256 * (reg c 0 / 256) = ap (λ (ws : List (ℕ × ℕ)). word_at (put_all s.memory ws) (reg e.context 1 + 2)) written ∙ ap (λ (x : ℕ). word_at (put_all s.memory (four (reg c 1 - 4) (reg c 2 % 256) (reg c 2 / 256) (reg c 1 - 2) (reg c 0 % 256) (reg c 0 / 256))) (x + 2)) serves.1 ∙ word in
         omega (arith, there, ctx.pc_even)
+
     own : IsConfinedAccept (record s { context = c }) (who_runs s.kernel) n (reg c 0) e.written
     own = record { who = refl; number = l; at_pc = refl; four = ap (length {A = ℕ × ℕ}) written; inside = inr (r, top) }
+
     here : IsSafe (record s { context = c }) (acceptance (record s { context = c }) n)
     here = record {
       sound = record {
@@ -120,5 +135,5 @@ serve-idle s pick l h r serving i below at =
     let c : List ℕ = interrupted (seen s) s.context in
     let k : IsSoundKernel (served l s.kernel c) s.placed (s.steps + 1) × NoneRuns (served l s.kernel c) = sound-idle s.kernel s.placed s.steps l c below h.kernel r in
     let d : IsSoundKernel (dispatched (served l s.kernel c) pick) s.placed (s.steps + 1) × IsRunning s.memory (dispatched_context (served l s.kernel c) pick) (dispatched (served l s.kernel c) pick) s.placed =
-        dispatch s.memory (served l s.kernel c) s.placed (s.steps + 1) pick k.0 k.1 in
+    dispatch s.memory (served l s.kernel c) s.placed (s.steps + 1) pick k.0 k.1 in
     record { sound = record { code = h.code; kernel = d.0; running = d.1 }; confined = record { number = below; at = at; cleared = serving.cleared; pushed = inr (r, i) }; keeps = tt; spelled = tt }

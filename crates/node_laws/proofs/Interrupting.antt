@@ -114,14 +114,16 @@ serving n m c l h s bit v =
     let r2 : List ℕ = lowered (lowered c) in
     let r3 : List ℕ = set_reg r2 2 (only_scg0 (reg c 2)) in
     let w : ℕ = word_at m (vector_address n) in
-    let ctx : IsContext r3 = set-context r2 2 (only_scg0 (reg c 2)) two.0 (omega arith) in
-    (record {
-      context = set-context r3 0 w ctx (omega (arith, v));
-      line = n;
-      number = l;
-      at = pc_same r3 w ctx ∙ omega (arith, v);
-      cleared = reg_other r3 0 w 2 (omega arith) ∙ sr_same r2 (only_scg0 (reg c 2)) two.0 ∙ omega (arith, bit);
-    }, reg_other r3 0 w 1 (omega arith) ∙ reg_other r2 2 (only_scg0 (reg c 2)) 1 (omega arith) ∙ two.1 ∙ omega (arith, one.1))
+    let ctx : IsContext r3 = set-context r2 2 (only_scg0 (reg c 2)) two.0 (omega arith) in (
+      record {
+        context = set-context r3 0 w ctx (omega (arith, v));
+        line = n;
+        number = l;
+        at = pc_same r3 w ctx ∙ omega (arith, v);
+        cleared = reg_other r3 0 w 2 (omega arith) ∙ sr_same r2 (only_scg0 (reg c 2)) two.0 ∙ omega (arith, bit);
+      },
+      reg_other r3 0 w 1 (omega arith) ∙ reg_other r2 2 (only_scg0 (reg c 2)) 1 (omega arith) ∙ two.1 ∙ omega (arith, one.1),
+    )
 
 -- it depends on the vector's word alone
 pub same-accepted : (n : ℕ) (m j c : List ℕ) → word_at m (vector_address n) ≡ word_at j (vector_address n) → accepted n m c ≡ accepted n j c
@@ -157,7 +159,7 @@ accept-safe laws s n see h r good l =
     let sr : reg c 2 < 65536 = ctx.small 2 in
     let pc : reg c 0 < 65536 = ctx.small 0 in
     let own : AllByRecursion (Within low top) e.written = subst (AllByRecursion (Within low top)) (sym is)
-        (all-four (Within low top) (reg c 1 - 4) (reg c 2 % 256) (reg c 2 / 256) (reg c 1 - 2) (reg c 0 % 256) (reg c 0 / 256) (omega arith, omega arith) (omega arith, omega arith) (omega arith, omega (arith, ctx.sp_even)) (omega arith, omega (arith, ctx.sp_even))) in
+    (all-four (Within low top) (reg c 1 - 4) (reg c 2 % 256) (reg c 2 / 256) (reg c 1 - 2) (reg c 0 % 256) (reg c 0 / 256) (omega arith, omega arith) (omega arith, omega arith) (omega arith, omega (arith, ctx.sp_even)) (omega arith, omega (arith, ctx.sp_even))) in
     let pools : AllByRecursion IsInPools e.written = all-map (Within low top) IsInPools (λ w i. inr (omega (arith, i.0, f.stack.within_low, f.well.lo_low), omega (arith, i.1, f.stack.within_top, f.well.hi_high))) e.written own in
     let small : AllByRecursion (λ (w : ℕ × ℕ). w.1 < 256) e.written = subst (AllByRecursion (λ (w : ℕ × ℕ). w.1 < 256)) (sym is) (all-four (λ (w : ℕ × ℕ). w.1 < 256) (reg c 1 - 4) (reg c 2 % 256) (reg c 2 / 256) (reg c 1 - 2) (reg c 0 % 256) (reg c 0 / 256) (omega arith) (omega arith) (omega arith) (omega arith)) in
     let memory : IsMemory (put_all s.memory e.written) = memory-after e.written s.memory h.code.memory small in

@@ -177,8 +177,8 @@ taken k i = with_mutex_row k (own_app k) i (own_number k) (waiters_of k (own_app
 locks-by : Given → (s : System) (d : Domain) (pick : Option ℕ) (r : List ℕ) → IsCalling s d 0xF016 → IsReturned s d r → is_mark s.placed (app_of (running s.kernel)) (reg r 0) ≡ true → (i : ℕ) → i < 4
     → owner_of s.kernel (own_app s.kernel) i ≢ own_number s.kernel → (b : Bool) → is_free_mutex s.kernel (own_app s.kernel) i ≡ b
     → IsSafe s (by_turn s (cond b
-        (after_leaving Lock (record (work s pick) { context = r }) (moved_to_front (cond b (taken (saved s.kernel (set_reg r 12 0)) i) (none_running (queued (saved s.kernel (set_reg r 12 0)) (own_app s.kernel) i (own_number s.kernel))))))
-        (after_leaving Lock (record (work s pick) { context = r }) (cond b (taken (saved s.kernel (set_reg r 12 0)) i) (none_running (queued (saved s.kernel (set_reg r 12 0)) (own_app s.kernel) i (own_number s.kernel)))))))
+    (after_leaving Lock (record (work s pick) { context = r }) (moved_to_front (cond b (taken (saved s.kernel (set_reg r 12 0)) i) (none_running (queued (saved s.kernel (set_reg r 12 0)) (own_app s.kernel) i (own_number s.kernel))))))
+    (after_leaving Lock (record (work s pick) { context = r }) (cond b (taken (saved s.kernel (set_reg r 12 0)) i) (none_running (queued (saved s.kernel (set_reg r 12 0)) (own_app s.kernel) i (own_number s.kernel)))))))
 locks-by laws s d pick r x is m i li other true e =
     let k : Kernel = s.kernel in
     let c : List ℕ = set_reg r 12 0 in

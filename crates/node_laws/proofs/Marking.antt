@@ -70,6 +70,7 @@ any-at p (x ∷ ds) off e = any-by p x ds off (p x) refl e (λ f. any-at p ds of
     some-of : (p : Option Domain → Bool) (x : Option Domain) → p None ≡ false → p x ≡ true → (d : Domain) × (x ≡ Some d) × (p (Some d) ≡ true)
     some-of p None off e = absurd (cc)
     some-of p (Some d) off e = (d, refl, e)
+
     any-by : (p : Option Domain → Bool) (x : Option Domain) (ds : List (Option Domain)) → p None ≡ false → (b : Bool) → p x ≡ b → list_any p (x ∷ ds) ≡ true
         → (list_any p ds ≡ true → (n : ℕ) × (d : Domain) × (domain_in ds n ≡ Some d) × (p (Some d) ≡ true))
         → (n : ℕ) × (d : Domain) × (domain_in (x ∷ ds) n ≡ Some d) × (p (Some d) ≡ true)
@@ -126,6 +127,7 @@ mark-seen s n d at h e = (to, fro)
   where
     to : IsMarkOf (seen s) d.code_lo (d.code_lo + code_length d.object) at → is_mark s.placed n at ≡ true
     to m = own-unit s n d at h e m.from m.to (heavy (some-unit s.placed at) (sym (bit-seen s.memory s.kernel s.placed at h.code.memory.bytes m.word) ∙ m.set))
+
     fro : is_mark s.placed n at ≡ true → IsMarkOf (seen s) d.code_lo (d.code_lo + code_length d.object) at
     fro is =
         let domain : IsDomain s.kernel.apps s.kernel.modules n d = h.kernel.domains.placed n d e in

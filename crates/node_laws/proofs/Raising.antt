@@ -1,30 +1,14 @@
 -- Raised lines leave a system sound.
-use Rattle.std.proofs.Common.{◌≡◌, ℕ, ◌+◌, ◌*◌, ◌%◌, ◌^◌, ◌<◌, ◌≤◌, List, [], ◌∷◌, length, get_or, take, refl, sym, ap, ◌∙◌, subst, inl, inr, arith, Option}
+use Rattle.std.proofs.Common.{ℕ, ◌%◌, ◌^◌, List, arith, Option}
 use Rattle.std.specs.Prelude.{bit_or}
 use Rattle.std.proofs.lemmas.Nat.{or_lt}
-use Rattle.msp_encode.specs.declared.instr.Instr.{Instr}
-use Rattle.msp_encode.specs.Spelling.{Spells}
-use Rattle.machine_model.specs.Memory.{word_at, even}
-use Rattle.machine_model.specs.Operands.{sum_of}
-use Rattle.machine_model.specs.Fetching.{IsFetched}
-use Rattle.machine_model.specs.Context.{reg}
 use Rattle.kernel_model.specs.Kernel.{Kernel, with_word}
 use Rattle.kernel_model.specs.declared.rows.SysWord.TheVariants.{Pending}
-use Rattle.kernel_model.specs.Running.{running_domain}
-use Rattle.load_model.specs.Domains.{Domain, code_length}
-use Rattle.trace_model.specs.declared.records.Who.{Who}
-use Rattle.trace_model.specs.declared.records.FaultKind.{FaultKind}
-use Rattle.trace_model.specs.declared.records.FaultKind.TheVariants.{Store, Stack, Jump, Return, Budget}
-use Rattle.trace_model.specs.declared.records.Record.{Record}
-use Rattle.trace_model.specs.declared.records.Record.TheVariants.{Instr as InstrOf, Entry, Emit, Exit, Fault, Accept, Vector, IdleTurn}
-use Rattle.node_model.specs.Systems.{System, seen}
-use Rattle.node_model.specs.Steps.{with_raised, pending}
-use Rattle.node_model.specs.Sound.{IsSound, IsRunning, AThread, Nothing, Interrupted, IdleInterrupted, AModule}
-use Rattle.node_model.specs.Confined.{IsConfined, IsConfinedFault, IsAtEntry, IsOwnInstr}
-use Rattle.node_model.specs.Laws.{IsSeen, RaisedLaw}
-use Rattle.node_laws.proofs.Stepping.{code-in-pool, code-seen}
+use Rattle.load_model.specs.Domains.{Domain}
+use Rattle.node_model.specs.Steps.{pending}
+use Rattle.node_model.specs.Sound.{IsRunning, AThread, Nothing, Interrupted, IdleInterrupted, AModule}
+use Rattle.node_model.specs.Laws.{RaisedLaw}
 use Rattle.node_laws.proofs.Interrupting.{sound-pending}
-use Rattle.node_laws.proofs.Seeing.{sees}
 
 running-pending : (m c : List ℕ) (k : Kernel) (ds : List (Option Domain)) (v : ℕ) → IsRunning m c k ds → IsRunning m c (with_word k Pending v) ds
 running-pending m c k ds v (AThread r good) = AThread record { thread = r.thread; no_module = r.no_module } good

@@ -30,11 +30,14 @@ seen-outside m k j ds a e h = elim (cases_lt a 0x1100) [
   where
     over : Kernel → List ℕ
     over i = patch m 0x0200 (bytes_in 3584 (layout i))
+
     memory : (i : Kernel) → (a < 512) ⊎ (4096 ≤ a) → get_or (over i) a 0 ≡ get_or m a 0
     memory i (inl l) = below-patch m (bytes_in 3584 (layout i)) 0x0200 a (omega arith) l
     memory i (inr u) = above-patch m (bytes_in 3584 (layout i)) 0x0200 3584 a (tables-length i) (omega arith) (omega arith)
+
     under : (a < 512) ⊎ (4096 ≤ a) → get_or (over k) a 0 ≡ get_or (over j) a 0
     under x = memory k x ∙ sym (memory j x)
+
     marks : (i : Kernel) → 0x1100 ≤ a → a < 0x1900 → get_or (patch (over i) 0x1100 (mark_bytes ds)) a 0 ≡ get_or (mark_bytes ds) (a - 0x1100) 0
     marks i u l =
         let here : a ≡ 0x1100 + (a - 0x1100) = omega arith in
@@ -70,10 +73,13 @@ seen-leaves m before after k j ds hm hb ha laid is left =
   where
     tables-are : table_bytes after ≡ layout j
     tables-are = layout_from_laid_out after (left.laid_out laid) ∙ ap layout left.kernel
+
     beside : (a : ℕ) → (a < 512) ⊎ (4096 ≤ a) → get_or after a 0 ≡ get_or (seen_in m j ds) a 0
     beside a h = outside_byte after before ha.bytes hb.bytes left.others a h ∙ ap (λ (xs : List ℕ). get_or xs a 0) is ∙ seen-outside m k j ds a hm.bytes h
+
     inside : (a : ℕ) → a < 3584 → get_or after (512 + a) 0 ≡ get_or (seen_in m j ds) (512 + a) 0
     inside a l = sym (part-byte after a l) ∙ ap (λ (xs : List ℕ). get_or xs a 0) tables-are ∙ sym (whole after j a ha tables-are l) ∙ sym (seen-tables m j ds a hm.bytes l)
+
     each : (a : ℕ) → a < length after → get_or after a 0 ≡ get_or (seen_in m j ds) a 0
     each a l = elim (cases_lt a 512) [
       | inl x ↦ beside a (inl x)
@@ -110,16 +116,22 @@ seen-set m k ds w e h =
   where
     size : length (set m w.0 w.1) ≡ 65536
     size = length-set m w.0 w.1 ∙ e
+
     free : ((4096 ≤ w.0) × (w.0 < 0x1100)) ⊎ ((0x1900 ≤ w.0) × (w.0 < 65536))
     free = elim h [ inl i ↦ inl (omega (arith, i.0), omega (arith, i.1)) | inr i ↦ inr (omega (arith, i.0), omega (arith, i.1)) ]
+
     room : w.0 < 65536
     room = elim free [ inl i ↦ omega (arith, i.1) | inr i ↦ omega (arith, i.1) ]
+
     open-at : (w.0 < 512) ⊎ (((4096 ≤ w.0) × (w.0 < 0x1100)) ⊎ (0x1900 ≤ w.0))
     open-at = elim free [ inl i ↦ inr (inl i) | inr i ↦ inr (inr i.0) ]
+
     written : get_or (set (seen_in m k ds) w.0 w.1) w.0 0 ≡ get_or (seen_in (set m w.0 w.1) k ds) w.0 0
     written = get_or-set_same (seen_in m k ds) w.0 w.1 0 (omega (arith, seen-length m k ds e, room)) ∙ sym (seen-free (set m w.0 w.1) k ds w.0 size open-at ∙ get_or-set_same m w.0 w.1 0 (omega (arith, room)))
+
     kept : (a : ℕ) → a ≢ w.0 → (a < 512) ⊎ (((4096 ≤ a) × (a < 0x1100)) ⊎ (0x1900 ≤ a)) → get_or (seen_in m k ds) a 0 ≡ get_or (seen_in (set m w.0 w.1) k ds) a 0
     kept a n o = seen-free m k ds a e o ∙ sym (seen-free (set m w.0 w.1) k ds a size o ∙ get_or-set_other m w.0 a w.1 0 n)
+
     other : (a : ℕ) → a ≢ w.0 → get_or (seen_in m k ds) a 0 ≡ get_or (seen_in (set m w.0 w.1) k ds) a 0
     other a n = elim (cases_lt a 512) [
       | inl l ↦ kept a n (inl l)
@@ -131,6 +143,7 @@ seen-set m k ds w e h =
         ]
       ]
     ]
+
     each : (a : ℕ) → get_or (set (seen_in m k ds) w.0 w.1) a 0 ≡ get_or (seen_in (set m w.0 w.1) k ds) a 0
     each a = elim (cases_eq a w.0) [
       | inl s ↦ subst (λ (b : ℕ). get_or (set (seen_in m k ds) w.0 w.1) b 0 ≡ get_or (seen_in (set m w.0 w.1) k ds) b 0) (sym s) written

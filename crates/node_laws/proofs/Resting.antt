@@ -81,7 +81,6 @@ record Dispatches (m : List ℕ) (k : Kernel) (c : List ℕ) (ds : List (Option 
 
 by-ready : (m : List ℕ) (k : Kernel) (ds : List (Option Domain)) (n : ℕ) (pick : Option ℕ) → IsSoundKernel k ds n → NoneRuns k
     → (b : Bool) → nothing_ready k ≡ b → Dispatches m (cond b k (begun k pick)) (cond b idle_context (thread_at k (chosen_thread k pick)).regs) ds n
-
 by-ready m k ds n pick h r true e = record { kernel = λ _. h; running = Nothing r refl }
 by-ready m k ds n pick h r false e =
     let t : ℕ = chosen_thread k pick in

@@ -1,30 +1,29 @@
 -- The routine of a line, where a thread was interrupted.
-use Rattle.std.proofs.Common.{◌≡◌, ◌≢◌, ℕ, zero, suc, ◌+◌, ◌*◌, ◌/◌, ◌%◌, ◌<◌, ◌≤◌, ◌⊎◌, Bool, true, false, eqb, cond, List, [], ◌∷◌, length, get_or, set, take, drop, refl, sym, ap, ◌∙◌, subst, inl, inr, arith, Option, Some}
+use Rattle.std.proofs.Common.{◌≡◌, ◌≢◌, ℕ, ◌+◌, ◌*◌, ◌<◌, ◌≤◌, eqb, List, [], ◌∷◌, get_or, take, drop, refl, sym, ap, ◌∙◌, subst, inl, arith, Option}
 use Rattle.std.specs.List.{AllByRecursion}
-use Rattle.std.proofs.lemmas.Bool.{cond-true, cond-false, cond_both, ne_eqb, eqb-true, eqb-false}
+use Rattle.std.proofs.lemmas.Bool.{cond_both, eqb-true}
 use Rattle.std.proofs.lemmas.List.{get_or-set_other}
 use Rattle.machine_model.specs.Memory.{word_at, even, IsMemory}
 use Rattle.machine_model.specs.Context.{reg, set_reg, IsContext}
 use Rattle.machine_model.specs.Does.{raised}
 use Rattle.machine_laws.proofs.Words.{set-context}
 use Rattle.machine_laws.proofs.Registers.{reg_other, sp_same}
-use Rattle.kernel_model.specs.Kernel.{Kernel, thread_at, with_thread, free_thread}
-use Rattle.kernel_model.specs.Words.{none, running, app_of, ready_row, running_state}
+use Rattle.kernel_model.specs.Kernel.{Kernel, thread_at, free_thread}
+use Rattle.kernel_model.specs.Words.{none, running, ready_row, running_state}
 use Rattle.kernel_model.specs.Queues.{to_ready_end}
 use Rattle.kernel_model.specs.declared.rows.ThreadRow.{ThreadRow}
 use Rattle.kernel_model.specs.Running.{ThreadRuns, NoneRuns}
 use Rattle.kernel_model.specs.Dispatching.{saved, moved_to_front, moved_to_end, dispatched, dispatched_context}
 use Rattle.kernel_model.specs.Waking.{each_to_end, ticked, woken_line}
-use Rattle.thread_laws.specs.Facts.{IsRunning as IsRunningRow}
 use Rattle.thread_laws.proofs.Spots.{running_is}
 use Rattle.load_model.specs.Domains.{Domain}
-use Rattle.node_model.specs.Systems.{System, seen, domain_in}
+use Rattle.node_model.specs.Systems.{System, seen}
 use Rattle.node_model.specs.Entries.{interrupted, served, vector_turn, work}
 use Rattle.node_model.specs.Steps.{by_turn}
-use Rattle.node_model.specs.Sound.{IsSound, IsSoundKernel, IsRunning, IsServing, IsInterrupted, IsGoodFor, low_in, top_in}
+use Rattle.node_model.specs.Sound.{IsSound, IsSoundKernel, IsRunning, IsServing, IsInterrupted, IsGoodFor}
 use Rattle.node_model.specs.Laws.{IsSeen, IsSafe}
 use Rattle.node_laws.specs.Facts.{Given}
-use Rattle.node_laws.proofs.Resting.{sound-saved, saved-row, sound-front, sound-end, dispatch}
+use Rattle.node_laws.proofs.Resting.{sound-saved, sound-front, sound-end, dispatch}
 use Rattle.node_laws.proofs.Stepping.{IsThread, thread-facts, later, word-small}
 use Rattle.node_laws.proofs.Calls.{good-saved}
 use Rattle.node_laws.proofs.Waking.{IsWoken, each-leaves, Waits}
@@ -73,7 +72,7 @@ ticked-row : (k : Kernel) (ds : List (Option Domain)) (n : ℕ) → IsSoundKerne
 ticked-row k ds n h r =
     ap (λ (j : Kernel). thread_at j (running k)) (ticked-is k)
     ∙ row-stays (take (due k) k.sleepers) (with_sleepers (with-tick k) (drop (due k) k.sleepers)) (running k)
-        (apart k (running k) (running_is k h.settled.orderly r).state (take (due k) k.sleepers) (all-take (Waits k.threads) (due k) k.sleepers (all-from (Waits k.threads) k.sleepers (sleeper-waits k h.settled.orderly))))
+    (apart k (running k) (running_is k h.settled.orderly r).state (take (due k) k.sleepers) (all-take (Waits k.threads) (due k) k.sleepers (all-from (Waits k.threads) k.sleepers (sleeper-waits k h.settled.orderly))))
 
 -- who runs stays, and where its stack is
 pub record SameRuns (k j : Kernel) : Type 0 where
@@ -98,9 +97,9 @@ sound-tick k ds n c h r good =
     let row : thread_at k2 (running k2) ≡ thread_at k1 (running k1) = ap (thread_at k2) same.running ∙ ticked-row k1 ds n h1 r1 in
     let good1 : IsGoodFor k.apps ds (running k) (thread_at k1 (running k1)).regs = good-saved k ds c r h.settled.orderly.shape.thread_rows good in
     let good2 : IsGoodFor k2.apps ds (running k2) (thread_at k2 (running k2)).regs =
-        subst (λ (w : ThreadRow). IsGoodFor k2.apps ds (running k2) w.regs) (sym row)
-        (subst (λ (t : ℕ). IsGoodFor k2.apps ds t (thread_at k1 (running k1)).regs) (sym same.running)
-        (subst (λ (x : List AppRow). IsGoodFor x ds (running k) (thread_at k1 (running k1)).regs) (sym same.apps) good1)) in
+    subst (λ (w : ThreadRow). IsGoodFor k2.apps ds (running k2) w.regs) (sym row)
+    (subst (λ (t : ℕ). IsGoodFor k2.apps ds t (thread_at k1 (running k1)).regs) (sym same.running)
+    (subst (λ (x : List AppRow). IsGoodFor x ds (running k) (thread_at k1 (running k1)).regs) (sym same.apps) good1)) in
     (sound-end k2 ds (n + 1) (sound-ticked k1 ds n h1) r2 good2, record { no_thread = refl; no_module = r2.no_module })
 
 -- another line
@@ -136,7 +135,7 @@ serve-safe laws s pick l see h r serving i below at =
     let good : IsGoodFor s.kernel.apps s.placed (running s.kernel) (interrupted (seen s) s.context) = subst (λ (c : List ℕ). IsGoodFor s.kernel.apps s.placed (running s.kernel) c) (sym same) i.good in
     let k : IsSoundKernel (served l s.kernel (interrupted (seen s) s.context)) s.placed (s.steps + 1) × NoneRuns (served l s.kernel (interrupted (seen s) s.context)) = sound-served s.kernel s.placed s.steps l (interrupted (seen s) s.context) below h.kernel r good in
     let d : IsSoundKernel (dispatched (served l s.kernel (interrupted (seen s) s.context)) pick) s.placed (s.steps + 1) × IsRunning s.memory (dispatched_context (served l s.kernel (interrupted (seen s) s.context)) pick) (dispatched (served l s.kernel (interrupted (seen s) s.context)) pick) s.placed =
-        dispatch s.memory (served l s.kernel (interrupted (seen s) s.context)) s.placed (s.steps + 1) pick k.0 k.1 in
+    dispatch s.memory (served l s.kernel (interrupted (seen s) s.context)) s.placed (s.steps + 1) pick k.0 k.1 in
     record { sound = record { code = h.code; kernel = d.0; running = d.1 }; confined = record { number = below; at = at; cleared = serving.cleared; pushed = inl (r, i) }; keeps = tt; spelled = tt }
   where
     small : (m : List ℕ) (a : ℕ) → IsMemory m → word_at m a < 65536

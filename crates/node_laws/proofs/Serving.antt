@@ -1,11 +1,9 @@
 -- The routine of a line.
-use Rattle.std.proofs.Common.{◌≡◌, ◌≢◌, ℕ, zero, suc, ◌+◌, ◌*◌, ◌/◌, ◌%◌, ◌<◌, ◌≤◌, ◌⊎◌, Bool, true, false, eqb, cond, List, [], ◌∷◌, length, get_or, set, take, drop, refl, sym, ap, ◌∙◌, subst, inl, inr, arith, Option, Contains}
+use Rattle.std.proofs.Common.{◌≡◌, ℕ, zero, suc, ◌+◌, ◌/◌, ◌%◌, ◌<◌, List, [], ◌∷◌, length, take, drop, refl, sym, ap, ◌∙◌, subst, arith, Option, Contains}
 use Rattle.std.specs.Prelude.{nat_le}
 use Rattle.std.specs.List.{AllByRecursion, prefix_len}
-use Rattle.std.proofs.lemmas.Bool.{cond-true, cond-false, cond_both, ne_eqb, eqb-true}
-use Rattle.std.proofs.lemmas.List.{get_or-set_other}
-use Rattle.kernel_model.specs.Kernel.{Kernel, thread_at, with_word, with_line, with_sleepers, line_at, free_thread}
-use Rattle.kernel_model.specs.Words.{none, ready, asleep, on_line, running, running_module, app_of, ready_row, tick_number, wake_time}
+use Rattle.kernel_model.specs.Kernel.{Kernel, thread_at, with_word, with_line, with_sleepers, line_at}
+use Rattle.kernel_model.specs.Words.{asleep, on_line, tick_number, wake_time}
 use Rattle.kernel_model.specs.declared.rows.SysWord.TheVariants.{TickLow, TickHigh}
 use Rattle.kernel_model.specs.declared.rows.AppRow.{AppRow}
 use Rattle.kernel_model.specs.declared.rows.ModuleRow.{ModuleRow}
@@ -13,16 +11,12 @@ use Rattle.kernel_model.specs.declared.rows.FnRow.{FnRow}
 use Rattle.kernel_model.specs.declared.rows.ThreadRow.{ThreadRow}
 use Rattle.kernel_model.specs.Orderly.{IsOrderly}
 use Rattle.kernel_model.specs.Orderly.Spot.{Asleep, OnLine}
-use Rattle.kernel_model.specs.Queues.{to_ready_end}
 use Rattle.place_model.specs.Settled.{IsSettledKernel}
-use Rattle.kernel_model.specs.Running.{ThreadRuns, NoneRuns}
-use Rattle.kernel_model.specs.Dispatching.{saved, moved_to_front, moved_to_end, dispatched, dispatched_context}
 use Rattle.kernel_model.specs.Waking.{each_to_end, ticked, woken_line}
-use Rattle.thread_laws.specs.Facts.{IsRunning as IsRunningRow}
-use Rattle.thread_laws.proofs.Spots.{running_is, state_at}
+use Rattle.thread_laws.proofs.Spots.{state_at}
 use Rattle.thread_laws.proofs.WakeRules.{ticked_stays_settled, woken_line_stays_settled}
 use Rattle.load_model.specs.Domains.{Domain}
-use Rattle.node_model.specs.Sound.{IsSoundKernel, AreDomains, AreSaved, ArePopulated, AreFunctions, AreBounded, IsGoodFor}
+use Rattle.node_model.specs.Sound.{IsSoundKernel, AreDomains, AreSaved, ArePopulated, AreFunctions, AreBounded}
 use Rattle.node_laws.proofs.Waking.{IsWoken, each-leaves, Waits, AreWell, each-well}
 
 -- ---- who wakes
@@ -59,8 +53,8 @@ sound-each k k1 ts ds n m h et ea em ef w settled bounded =
     let left : IsWoken k1 j = each-leaves ts k1 in
     let apps : j.apps ≡ k.apps = left.apps ∙ ea in
     let well : AreWell k.apps ds j.threads = each-well ts k1 k.apps ds
-        record { size = ap length et ∙ h.settled.orderly.shape.thread_rows; saved = subst (λ (x : List ThreadRow). AreSaved k.apps ds x) (sym et) h.saved; populated = subst (λ (x : List ThreadRow). ArePopulated k.apps x) (sym et) h.populated }
-        (subst (λ (x : List ThreadRow). AllByRecursion (Waits x) ts) (sym et) w) in
+    record { size = ap length et ∙ h.settled.orderly.shape.thread_rows; saved = subst (λ (x : List ThreadRow). AreSaved k.apps ds x) (sym et) h.saved; populated = subst (λ (x : List ThreadRow). ArePopulated k.apps x) (sym et) h.populated }
+    (subst (λ (x : List ThreadRow). AllByRecursion (Waits x) ts) (sym et) w) in
     record {
       settled = settled;
       domains = subst (λ (x : List AppRow). AreDomains x j.modules ds) (sym apps) (subst (λ (x : List ModuleRow). AreDomains k.apps x ds) (sym (left.modules ∙ em)) h.domains);

@@ -53,12 +53,16 @@ next-is k ds n h r some = from (filter_had (is_free_thread k) (threads_of k a) t
   where
     a : ℕ
     a = app_of (running k)
+
     t : ℕ
     t = next_thread k
+
     live-app : (app_at k a).state ≡ live
     live-app = (running_is k h.settled.orderly r).app
+
     few : (app_at k a).threads ≤ 4
     few = (h.settled.apps a (let x = r.thread in omega arith) (λ e. omega (arith, live-app))).threads
+
     from : Contains (threads_of k a) t × (is_free_thread k t ≡ true) → IsNext k t
     from (c, f) =
         let l : c.0 < (app_at k a).threads = omega (arith, c.1, length-map-range_with_len (identity a) 0 (app_at k a).threads) in

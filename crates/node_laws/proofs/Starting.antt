@@ -25,9 +25,6 @@ use Rattle.node_laws.proofs.Domains.{of-app, IsStack, stack-in}
 use Rattle.node_laws.proofs.Stepping.{well-placed}
 use Rattle.node_laws.proofs.Contexts.{IsMark, mark-of, good-mark}
 use Rattle.node_laws.proofs.Spawning.{new-context, status-new}
-use Rattle.place_model.specs.declared.places.Pool.TheVariants.{Code, Data}
-use Rattle.place_model.specs.Placing.{domain_at, pool_range}
-use Rattle.place_model.specs.Settled.{IsInPool}
 
 -- the applications below m have a thread, and those from m on have none yet
 record IsStarting (ds : List (Option Domain)) (k : Kernel) (m : ℕ) : Type 0 where
@@ -116,22 +113,31 @@ one-starts ds k m (Some d) l h e = record {
   where
     t : ℕ
     t = identity m 0
+
     pc : ℕ
     pc = reg (thread_at k t).regs 0
+
     first : IsFirst ds k t pc
     first = first-is ds k m d l h e
+
     lt : t < length k.threads
     lt = let size = h.settled.orderly.shape.thread_rows in omega arith
+
     k1 : Kernel
     k1 = with_thread k t (first-row k t pc)
+
     k2 : Kernel
     k2 = with_thread k1 t (ready_row (thread_at k1 t))
+
     same : thread_at k1 t ≡ first-row k t pc
     same = row_put k t (first-row k t pc) (omega arith) h.settled.orderly.shape.thread_rows
+
     lt1 : t < length k1.threads
     lt1 = omega (arith, lt, length-set k.threads t (first-row k t pc))
+
     other : (u : ℕ) → u ≢ t → thread_at k2 u ≡ thread_at k u
     other u n = get_or-set_other k1.threads t u (ready_row (thread_at k1 t)) free_thread n ∙ get_or-set_other k.threads t u (first-row k t pc) free_thread n
+
     still : (a : ℕ) → a ≢ m → HasThread k.threads a → HasThread k2.threads a
     still a n x = (x.0, x.1, subst (λ (r : ThreadRow). r.state ≢ free) (sym (other (identity a x.0) (apart x.0 x.1))) x.2)
       where
@@ -173,12 +179,14 @@ started-sound s h =
     let h6 : IsStarting ds k6 6 = one-starts ds k5 5 (domain_in ds 5) (omega arith) h5 refl in
     let k7 : Kernel = next ds k6 6 in
     let h7 : IsStarting ds k7 7 = one-starts ds k6 6 (domain_in ds 6) (omega arith) h6 refl in
-    let h8 : IsStarting ds (next ds k7 7) 8 = one-starts ds k7 7 (domain_in ds 7) (omega arith) h7 refl in
-    (record {
-      settled = h8.settled;
-      domains = h8.domains;
-      saved = h8.saved;
-      populated = λ a la alive. h8.populated a la la alive;
-      functions = h8.functions;
-      bounded = h8.bounded;
-    }, h8.none_runs)
+    let h8 : IsStarting ds (next ds k7 7) 8 = one-starts ds k7 7 (domain_in ds 7) (omega arith) h7 refl in (
+      record {
+        settled = h8.settled;
+        domains = h8.domains;
+        saved = h8.saved;
+        populated = λ a la alive. h8.populated a la la alive;
+        functions = h8.functions;
+        bounded = h8.bounded;
+      },
+      h8.none_runs,
+    )

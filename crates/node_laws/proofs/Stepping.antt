@@ -1,5 +1,5 @@
 -- An instruction of a thread keeps a system sound, is confined, and keeps the others.
-use Rattle.std.proofs.Common.{◌≡◌, ◌≢◌, ℕ, zero, suc, ◌+◌, ◌*◌, ◌-◌, ◌%◌, ◌<◌, ◌≤◌, ◌⊎◌, false, not, eqb, cond, List, [], ◌∷◌, length, get_or, set, take, refl, sym, ap, ◌∙◌, subst, inl, inr, arith, Option, Some, None, MatchOption}
+use Rattle.std.proofs.Common.{◌≡◌, ◌≢◌, ℕ, ◌+◌, ◌*◌, ◌-◌, ◌%◌, ◌<◌, ◌≤◌, ◌⊎◌, false, not, eqb, cond, List, [], ◌∷◌, length, get_or, set, refl, sym, ap, ◌∙◌, subst, inl, inr, arith, Option, Some}
 use Rattle.std.specs.Prelude.{nat_lt, IsTrue}
 use Rattle.std.specs.List.{AllByRecursion}
 use Rattle.std.proofs.lemmas.Bool.{cases_lt, cases_eq, cond-true, cond-false, ne_eqb, eqb-false, lt-ltb, le-ltb}
@@ -7,7 +7,6 @@ use Rattle.std.proofs.lemmas.List.{length-set, get_or-set_same, get_or-set_other
 use Rattle.msp_encode.specs.declared.instr.Instr.{Instr}
 use Rattle.machine_model.specs.Memory.{word_at, put_all, IsMemory, even}
 use Rattle.machine_model.specs.Context.{reg}
-use Rattle.machine_model.specs.Operands.{sum_of}
 use Rattle.machine_model.specs.Does.{does, Effect}
 use Rattle.machine_laws.proofs.Memory.{part-stays, word-stays}
 use Rattle.machine_laws.specs.Steady.{Limits}
@@ -66,6 +65,7 @@ places-of k n d h = elim (cases_lt n 8) [ inl l ↦ app l | inr l ↦ of-module 
         let row : IsAppRowOf d (app_at k n) = (of-app k.apps k.modules n d l h).1 in
         subst (λ (r : DomainRow). HasPlaces r d) (sym (cond-true (nat_lt n 8) (app_domain (app_at k n)) _ (lt-ltb n 8 l)))
         record { used = row.used; code_from = row.code_lo; code_to = row.code_hi; from = row.lo; to = row.hi }
+
     of-module : 8 ≤ n → HasPlaces (domain_at k n) d
     of-module l =
         let e : kind_of n ≡ Module = cond-false (nat_lt n 8) App Module (le-ltb n 8 l) in
@@ -221,8 +221,10 @@ beside k a n d e w h da en ne l u = elim (cases_lt w e.lo) [ inl x ↦ inl x | i
   where
     p : HasPlaces (domain_at k a) d
     p = places-of k a d da
+
     q : HasPlaces (domain_at k n) e
     q = places-of k n e en
+
     both : e.lo ≤ w → w < e.hi → ⊥
     both x y = h.apart Data a n da.below en.below ne p.used q.used w (within (domain_at k a).region (omega (arith, p.from)) (omega (arith, p.to))) (within (domain_at k n).region (omega (arith, q.from)) (omega (arith, q.to)))
       where

@@ -163,18 +163,25 @@ by-ready own k j pick h o false e = record {
   where
     i : ℕ
     i = chosen_place pick j.ready
+
     t : ℕ
     t = chosen_thread j pick
+
     next : Kernel
     next = begun j pick
+
     c : List ℕ
     c = (thread_at j t).regs
+
     row : ThreadRow
     row = record (thread_at j t) { state = running_state }
+
     within : i < length j.ready
     within = chosen-within pick j.ready (eqb-false (length j.ready) 0 e)
+
     is : IsReady j t
     is = ready_is j o t (Contains-get_or j.ready i 0 within)
+
     chosen : own.threads t ≡ false → IsDispatched k next c t
     chosen f =
         let same : thread_at j t ≡ thread_at k t = h.threads t is.number f in
@@ -184,6 +191,7 @@ by-ready own k j pick h o false e = record {
           row = get_or-set_same j.threads t row free_thread (let x = is.number in let y = o.shape.thread_rows in omega arith) ∙ ap (λ (r : ThreadRow). record r { state = running_state }) same;
           context_is = ap (λ (r : ThreadRow). r.regs) same;
         }
+
     by-own : (b : Bool) → own.threads t ≡ b → ReadyKept own.threads k next c
     by-own true f = inl (without-remove own.threads j.ready i within f ∙ h.ready)
     by-own false f = inr (t, chosen f, omit-remove own.threads j.ready i within f (λ u m. (remove_from j.ready i u within (o.placed.once Ready) m).1) ∙ ap (omit t) h.ready)

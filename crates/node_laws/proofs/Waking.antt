@@ -1,18 +1,16 @@
 -- Threads that wake, and the routine of a line.
-use Rattle.std.proofs.Common.{◌≡◌, ◌≢◌, ℕ, zero, suc, ◌+◌, ◌*◌, ◌/◌, ◌%◌, ◌<◌, ◌≤◌, ◌⊎◌, Bool, true, false, eqb, cond, List, [], ◌∷◌, length, get_or, set, take, drop, refl, sym, ap, ◌∙◌, subst, inl, inr, arith, Option, Contains, length-set}
-use Rattle.std.specs.List.{AllByRecursion, prefix_len}
-use Rattle.std.proofs.lemmas.Bool.{cases_eq, cond-true, cond-false}
+use Rattle.std.proofs.Common.{◌≡◌, ◌≢◌, ℕ, ◌<◌, List, [], ◌∷◌, length, get_or, set, refl, sym, ap, ◌∙◌, subst, inl, inr, arith, Option, length-set}
+use Rattle.std.specs.List.{AllByRecursion}
+use Rattle.std.proofs.lemmas.Bool.{cases_eq}
 use Rattle.std.proofs.lemmas.List.{get_or-set_same, get_or-set_other}
-use Rattle.kernel_model.specs.Kernel.{Kernel, thread_at, with_thread, with_word, free_thread, with_line, line_at}
-use Rattle.kernel_model.specs.Words.{free, ready, asleep, on_line, running_state, running, ready_row, tick_number}
+use Rattle.kernel_model.specs.Kernel.{Kernel, thread_at, free_thread}
+use Rattle.kernel_model.specs.Words.{free, ready, running_state, ready_row}
 use Rattle.kernel_model.specs.Queues.{to_ready_end}
 use Rattle.kernel_model.specs.declared.rows.AppRow.{AppRow}
-use Rattle.kernel_model.specs.declared.rows.ModuleRow.{ModuleRow}
-use Rattle.kernel_model.specs.declared.rows.FnRow.{FnRow}
 use Rattle.kernel_model.specs.declared.rows.ThreadRow.{ThreadRow}
-use Rattle.kernel_model.specs.Waking.{each_to_end, ticked, woken_line}
+use Rattle.kernel_model.specs.Waking.{each_to_end}
 use Rattle.load_model.specs.Domains.{Domain}
-use Rattle.node_model.specs.Sound.{IsSaved, IsSavedWell, AreSaved, ArePopulated}
+use Rattle.node_model.specs.Sound.{IsSavedWell, AreSaved, ArePopulated}
 use Rattle.node_laws.proofs.Rows.{saved-put, populated-put}
 
 -- what waking leaves as it was

@@ -1,12 +1,11 @@
 -- A module's instruction, and its entries that don't leave it.
-use Rattle.std.proofs.Common.{◌≡◌, ◌≢◌, ℕ, ◌+◌, ◌<◌, true, false, not, eqb, List, refl, sym, ap, ◌∙◌, subst, inl, inr, arith, Option, None, Some, Contains, AllPairs}
+use Rattle.std.proofs.Common.{◌≡◌, ◌≢◌, ℕ, ◌+◌, ◌<◌, true, false, not, eqb, List, refl, sym, ap, ◌∙◌, subst, inl, inr, arith, Option, Some, Contains, AllPairs}
 use Rattle.std.specs.List.{AllByRecursion}
 use Rattle.std.proofs.lemmas.Bool.{cond-true, cond-false, ne_eqb, and_left}
 use Rattle.msp_encode.specs.declared.instr.Instr.{Instr}
 use Rattle.kernel_model.specs.declared.kinds.Kind.{Kind}
 use Rattle.kernel_model.specs.declared.kinds.Kind.TheVariants.{Module}
 use Rattle.machine_model.specs.Memory.{word_at, put_all, IsMemory}
-use Rattle.machine_model.specs.Operands.{sum_of}
 use Rattle.machine_model.specs.Context.{reg}
 use Rattle.machine_model.specs.Does.{does, Effect}
 use Rattle.machine_laws.specs.Steady.{Limits}

@@ -1,11 +1,11 @@
 -- The law of a step, from the laws of its parts.
 use Rattle.std.specs.Prelude.{◌≡◌, ℕ, ◌<◌, true, Option}
 use Rattle.machine_model.specs.Context.{reg}
-use Rattle.kernel_model.specs.Words.{none, running, owner_of}
-use Rattle.kernel_model.specs.Running.{ThreadRuns, NoneRuns, idle_context}
+use Rattle.kernel_model.specs.Words.{running}
+use Rattle.kernel_model.specs.Running.{ThreadRuns}
 use Rattle.node_model.specs.Systems.{System, seen}
 use Rattle.node_model.specs.Entries.{Call, entry_address, is_for_app, turn_at, work}
-use Rattle.node_model.specs.Steps.{by_turn, step_of, pending, instruction, fetched}
+use Rattle.node_model.specs.Steps.{by_turn, instruction, fetched}
 use Rattle.node_model.specs.Sound.{IsSound, IsGoodFor}
 use Rattle.node_model.specs.Laws.{IsSeen, IsSafe}
 use Rattle.node_model.specs.Nodes.{most_steps}
