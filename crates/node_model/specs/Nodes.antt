@@ -89,7 +89,8 @@ IsBootRefusal (Err e) i why = (e.object ≡ i) × (e.cause ≡ why)
 
 -- ---- step
 
--- the node stands for the system behind the step, whose record is told
+-- the node stands for the system behind the step, whose record is told. It is confined by the system whose lines were raised, since an
+-- instruction may read the mask of pending lines
 pub record Stepped (new : Parts) (os : List Loadable) (s : System) (raised : ℕ) (pick : Option ℕ) (told : Record) : Type 0 where
   pub represents : Represents new os (step s raised pick).system
   pub shown : told ≡ (step s raised pick).shown
@@ -141,7 +142,7 @@ pub record IsSoundStep (t : Script) (s : System) (r : Record) : Type 0 where
   pub spelled : IsSpelled r (with_raised s (raised_at t (s.steps + 1))) (next t s).system
 
 -- from a system on these are the records up to the last system. Each system is sound, and each record is confined by the system
--- before it and keeps the others
+-- before it, with its lines raised, and keeps the others
 abbrev pub AreSound : Script → System → List Record → (last : System) → Type 0
 AreSound t s [] last = IsSound s × (last ≡ s)
 AreSound t s (r ∷ rs) last = IsSoundStep t s r × AreSound t (next t s).system rs last
