@@ -50,7 +50,8 @@ same_but_calls k t i e (OnCondition a c) = inr refl
 same_but_calls k t i e (OnLine n) = inr refl
 same_but_calls k t i e Calls = inl refl
 
-order_in_call : (k : Kernel) (t i : ℕ) → (i ≢ none → (i < 4) × (t ≢ none)) → (i ≢ none → (module_at k i).state ≡ live) → HasOrder k → HasOrder (in_call k t i)
+order_in_call : (k : Kernel) (t i : ℕ) → (i ≢ none → (i < 4) × (t ≢ none)) → (i ≢ none → (module_at k i).state ≡ live) → HasOrder k
+    → HasOrder (in_call k t i)
 order_in_call k t i caller callee h = record {
   shape = record {
     app_rows = h.shape.app_rows;
@@ -78,20 +79,23 @@ order_in_call k t i caller callee h = record {
 spot_calls : (a s o : ℕ) → s ≡ calling → spot a s o ≡ Calls
 spot_calls a s o e = ap (λ x. spot a x o) e
 
-begins_calling : (k : Kernel) (t i : ℕ) → IsOrderlyBut k t → t < 32 → NoneRuns k → (thread_at k t).state ≡ calling → i < 4 → (module_at k i).state ≡ live → IsOrderly (in_call k t i)
+begins_calling : (k : Kernel) (t i : ℕ) → IsOrderlyBut k t → t < 32 → NoneRuns k → (thread_at k t).state ≡ calling → i < 4
+    → (module_at k i).state ≡ live → IsOrderly (in_call k t i)
 begins_calling k t i but l r e li alive =
     let k' : Kernel = in_call k t i in
     let some : i ≢ none = (λ q. omega arith) in
     let before : listed k Calls ≡ [] = no_caller (running_module k) (running k) r.no_module in
     let after : listed k' Calls ≡ t ∷ [] = the_caller i t some l in
     orderly_from k' (order_in_call k t i (λ _. (li, λ q. omega arith)) (λ _. alive) but.order)
-    (came_to_spot k k' Calls t but.placed l (spot_calls _ _ _ e) (λ u. refl) (same_but_calls k t i (no_runner i t some ∙ sym (nobody_runs (running_module k) (running k) r.no_module r.no_thread)))
+    (came_to_spot k k' Calls t but.placed l (spot_calls _ _ _ e) (λ u. refl)
+    (same_but_calls k t i (no_runner i t some ∙ sym (nobody_runs (running_module k) (running k) r.no_module r.no_thread)))
     (subst (λ (xs : List ℕ). Contains xs t) (sym after) (single_has t))
     (λ u c. absurd (none_in u (subst (λ (xs : List ℕ). Contains xs u) before c)))
     (λ u c. inl (single_is t u (subst (λ (xs : List ℕ). Contains xs u) after c)))
     (subst (λ (xs : List ℕ). AllPairs (λ x y. x ≢ y) xs) (sym after) (single_once t)))
 
-calling_fields : (row : ThreadRow) (s : ℕ) → IsThreadRow row → row.state ≡ running_state → s ≡ calling → IsThreadRow (record row { state = s })
+calling_fields : (row : ThreadRow) (s : ℕ) → IsThreadRow row → row.state ≡ running_state → s ≡ calling
+    → IsThreadRow (record row { state = s })
 calling_fields row s old e f = record {
   registers = old.registers;
   state = omega arith;
@@ -101,25 +105,33 @@ calling_fields row s old e f = record {
   wakes = λ _. old.wakes (omega arith);
 }
 
-calls_settled : (k : Kernel) (i : ℕ) → IsSettledKernel k → ThreadRuns k → i < 4 → (module_at k i).state ≡ live → IsSettledKernel (with_running_module (with_state k (running k) calling) i)
+calls_settled : (k : Kernel) (i : ℕ) → IsSettledKernel k → ThreadRuns k → i < 4 → (module_at k i).state ≡ live
+    → IsSettledKernel (with_running_module (with_state k (running k) calling) i)
 calls_settled k i h r li alive =
     let t : ℕ = running k in
     let is : IsRunning k t = running_is k h.orderly r in
     let row : ThreadRow = record (thread_at k t) { state = calling } in
     let rests : Kernel = with_running k none in
     let lives : IsLiveThread (app_at k (app_of t)) t = record { alive = is.app; number = is.within } in
-    let but : IsOrderlyBut (with_thread rests t row) t = moving_with_row rests t row r.thread (stops_running k h.orderly r) (live_row rests t row lives (calling_fields (thread_at k t) calling (h.orderly.rows t r.thread) is.state refl) (omega arith) (omega arith)) in
+    let but : IsOrderlyBut (with_thread rests t row) t =
+    moving_with_row rests t row r.thread (stops_running k h.orderly r)
+    (live_row rests t row lives (calling_fields (thread_at k t) calling (h.orderly.rows t r.thread) is.state refl) (omega arith)
+    (omega arith)) in
     record {
-      orderly = begins_calling (with_thread rests t row) t i but r.thread record { no_thread = refl; no_module = r.no_module } (ap (λ (w : ThreadRow). w.state) (row_put rests t row r.thread h.orderly.shape.thread_rows)) li alive;
+      orderly = begins_calling (with_thread rests t row) t i but r.thread record { no_thread = refl; no_module = r.no_module }
+          (ap (λ (w : ThreadRow). w.state) (row_put rests t row r.thread h.orderly.shape.thread_rows)) li alive;
       inside = h.inside;
       apart = h.apart;
       apps = h.apps;
       functions = h.functions;
     }
 
-pub entered_stays_settled : (k : Kernel) (r : List ℕ) → IsSettledKernel k → ThreadRuns k → length r ≡ 16 → (function_at k (get_or r 12 0)).module < 4 → (module_at k (function_at k (get_or r 12 0)).module).state ≡ live → IsSettledKernel (entered k r)
+pub entered_stays_settled : (k : Kernel) (r : List ℕ) → IsSettledKernel k → ThreadRuns k → length r ≡ 16
+    → (function_at k (get_or r 12 0)).module < 4 → (module_at k (function_at k (get_or r 12 0)).module).state ≡ live
+    → IsSettledKernel (entered k r)
 entered_stays_settled k r h run size li alive =
-    calls_settled (saved k r) (function_at k (get_or r 12 0)).module (saved_stays_settled k r h run size) record { thread = run.thread; no_module = run.no_module } li alive
+    calls_settled (saved k r) (function_at k (get_or r 12 0)).module (saved_stays_settled k r h run size)
+    record { thread = run.thread; no_module = run.no_module } li alive
 
 -- ---- the call ends
 
@@ -129,7 +141,9 @@ call_left k = in_call k none none
 
 caller_listed : (k : Kernel) → IsOrderly k → running_module k ≢ none → Contains (listed k Calls) (running k)
 caller_listed k h n =
-    let one : listed k Calls ≡ running k ∷ [] = cond-false (eqb (running_module k) none) [] (only (running k)) (ne_eqb (running_module k) none n) ∙ cond-false (eqb (running k) none) [] (running k ∷ []) (ne_eqb (running k) none (h.caller n).1) in
+    let one : listed k Calls ≡ running k ∷ [] =
+    cond-false (eqb (running_module k) none) [] (only (running k)) (ne_eqb (running_module k) none n)
+    ∙ cond-false (eqb (running k) none) [] (running k ∷ []) (ne_eqb (running k) none (h.caller n).1) in
     subst (λ (xs : List ℕ). Contains xs (running k)) (sym one) (0, omega arith, refl)
 
 -- the caller of the running module
@@ -152,7 +166,8 @@ stops_calling k h n =
     let after : listed (call_left k) Calls ≡ [] = no_caller none none refl in
     record {
       order = order_in_call k none none (λ m. absurd (m refl)) (λ m. absurd (m refl)) (order_of k h);
-      placed = left_spot k (call_left k) Calls t h.placed (caller_listed k h n) (λ u. refl) (same_but_calls k none none (nobody_runs none none refl refl ∙ sym (no_runner (running_module k) t n)))
+      placed = left_spot k (call_left k) Calls t h.placed (caller_listed k h n) (λ u. refl)
+          (same_but_calls k none none (nobody_runs none none refl refl ∙ sym (no_runner (running_module k) t n)))
           (λ u ne c. absurd (ne (single_is t u (subst (λ (xs : List ℕ). Contains xs u) before c))))
           (λ u c. absurd (none_in u (subst (λ (xs : List ℕ). Contains xs u) after c)))
           (subst (λ (xs : List ℕ). AllPairs (λ x y. x ≢ y) xs) (sym after) (λ i j d lt l. absurd (omega arith)));
@@ -168,7 +183,15 @@ pub register_moves : (k : Kernel) (t n v : ℕ) → IsMovingCaller k t → IsMov
 register_moves k t n v m =
     let row : ThreadRow = record (thread_at k t) { regs = set (thread_at k t).regs n v } in
     let old : IsThreadRow (thread_at k t) = m.but.order.rows t m.below in
-    let fields : IsThreadRow row = record { registers = length-set (thread_at k t).regs n v ∙ old.registers; state = old.state; priority = old.priority; waits = old.waits; takes = old.takes; wakes = old.wakes } in
+    let fields : IsThreadRow row =
+    record {
+      registers = length-set (thread_at k t).regs n v ∙ old.registers;
+      state = old.state;
+      priority = old.priority;
+      waits = old.waits;
+      takes = old.takes;
+      wakes = old.wakes;
+    } in
     let state : (thread_at k t).state ≡ calling = m.state in
     let live : IsLiveThread (app_at k (app_of t)) t = m.but.order.threads t m.below (λ e. omega arith) in
     record {
@@ -192,8 +215,12 @@ runs_again k t r m =
     let row : ThreadRow = record (thread_at k t) { state = running_state } in
     let state : (thread_at k t).state ≡ calling = m.state in
     let live : IsLiveThread (app_at k (app_of t)) t = m.but.order.threads t m.below (λ e. omega arith) in
-    begins_running (with_thread k t row) t (moving_with_row k t row m.below m.but (live_row k t row live (running_fields (thread_at k t) (m.but.order.rows t m.below) state) (omega arith) (omega arith))) m.below
-    record { no_thread = r.no_thread; no_module = r.no_module } (ap (λ (w : ThreadRow). w.state) (row_put k t row m.below m.but.order.shape.thread_rows))
+    begins_running (with_thread k t row) t
+    (moving_with_row k t row m.below m.but
+    (live_row k t row live (running_fields (thread_at k t) (m.but.order.rows t m.below) state) (omega arith) (omega arith)))
+    m.below
+    record { no_thread = r.no_thread; no_module = r.no_module }
+    (ap (λ (w : ThreadRow). w.state) (row_put k t row m.below m.but.order.shape.thread_rows))
 
 pub left_stays_settled : (k : Kernel) (r : List ℕ) → IsSettledKernel k → running_module k ≢ none → IsSettledKernel (left k r)
 left_stays_settled k r h n =
@@ -204,7 +231,8 @@ left_stays_settled k r h n =
     let k1 : Kernel = saved_register k0 t 12 0 in
     let k2 : Kernel = saved_register k1 t 13 (get_or r 12 0) in
     record {
-      orderly = runs_again k2 t record { no_thread = refl; no_module = refl } (register_moves k1 t 13 (get_or r 12 0) (register_moves k0 t 12 0 m0));
+      orderly = runs_again k2 t record { no_thread = refl; no_module = refl }
+          (register_moves k1 t 13 (get_or r 12 0) (register_moves k0 t 12 0 m0));
       inside = h.inside;
       apart = h.apart;
       apps = h.apps;

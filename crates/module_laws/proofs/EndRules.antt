@@ -23,33 +23,41 @@ without_module k i = with_module k i (ended_row k i)
 
 -- ---- its places stay
 
-range_of_state : (p : Pool) (b : Bool) (d : DomainRow) (r : ModuleRow) (s : ℕ) → range_in p (cond b d (module_domain (record r { state = s }))) ≡ range_in p (cond b d (module_domain r))
+range_of_state : (p : Pool) (b : Bool) (d : DomainRow) (r : ModuleRow) (s : ℕ)
+    → range_in p (cond b d (module_domain (record r { state = s }))) ≡ range_in p (cond b d (module_domain r))
 range_of_state Code true d r s = refl
 range_of_state Code false d r s = refl
 range_of_state Data true d r s = refl
 range_of_state Data false d r s = refl
 
-range_kept : (k : Kernel) (i : ℕ) → i < length k.modules → (p : Pool) (n : ℕ) → range_in p (domain_at (without_module k i) n) ≡ range_in p (domain_at k n)
+range_kept : (k : Kernel) (i : ℕ) → i < length k.modules → (p : Pool) (n : ℕ)
+    → range_in p (domain_at (without_module k i) n) ≡ range_in p (domain_at k n)
 range_kept k i l p n = ⊎_elim
     (λ (e : n - 8 ≡ i).
     let f : ModuleRow → Range = λ r. range_in p (cond (ltb n 8) (app_domain (app_at k n)) (module_domain r)) in
     ap f (ap (module_at (without_module k i)) e ∙ get_or-set_same k.modules i (ended_row k i) free_module l)
     ∙ range_of_state p (ltb n 8) (app_domain (app_at k n)) (module_at k i) ended_module
     ∙ ap f (ap (module_at k) (sym e)))
-    (λ (ne : n - 8 ≢ i). ap (λ (r : ModuleRow). range_in p (cond (ltb n 8) (app_domain (app_at k n)) (module_domain r))) (get_or-set_other k.modules i (n - 8) (ended_row k i) free_module ne))
+    (λ (ne : n - 8 ≢ i). ap (λ (r : ModuleRow). range_in p (cond (ltb n 8) (app_domain (app_at k n)) (module_domain r)))
+    (get_or-set_other k.modules i (n - 8) (ended_row k i) free_module ne))
     (cases_eq (n - 8) i)
 
-used_by : (b : Bool) (d : DomainRow) (r : ModuleRow) → r.state ≢ free → (cond b d (module_domain (record r { state = ended_module }))).state ≢ free → (cond b d (module_domain r)).state ≢ free
+used_by : (b : Bool) (d : DomainRow) (r : ModuleRow) → r.state ≢ free
+    → (cond b d (module_domain (record r { state = ended_module }))).state ≢ free → (cond b d (module_domain r)).state ≢ free
 used_by true d r n h = h
 used_by false d r n h = n
 
-was_used : (k : Kernel) (i : ℕ) → i < length k.modules → (module_at k i).state ≢ free → (n : ℕ) → IsInUse (without_module k i) n → IsInUse k n
+was_used : (k : Kernel) (i : ℕ) → i < length k.modules → (module_at k i).state ≢ free → (n : ℕ) → IsInUse (without_module k i) n
+    → IsInUse k n
 was_used k i l on n used = ⊎_elim
     (λ (e : n - 8 ≡ i).
-    let here : module_at (without_module k i) (n - 8) ≡ ended_row k i = ap (module_at (without_module k i)) e ∙ get_or-set_same k.modules i (ended_row k i) free_module l in
+    let here : module_at (without_module k i) (n - 8) ≡ ended_row k i = ap (module_at (without_module k i)) e
+    ∙ get_or-set_same k.modules i (ended_row k i) free_module l in
     subst (λ (j : ℕ). (cond (ltb n 8) (app_domain (app_at k n)) (module_domain (module_at k j))).state ≢ free) (sym e)
-    (used_by (ltb n 8) (app_domain (app_at k n)) (module_at k i) on (subst (λ (r : ModuleRow). (cond (ltb n 8) (app_domain (app_at k n)) (module_domain r)).state ≢ free) here used)))
-    (λ (ne : n - 8 ≢ i). subst (λ (r : ModuleRow). (cond (ltb n 8) (app_domain (app_at k n)) (module_domain r)).state ≢ free) (get_or-set_other k.modules i (n - 8) (ended_row k i) free_module ne) used)
+    (used_by (ltb n 8) (app_domain (app_at k n)) (module_at k i) on
+    (subst (λ (r : ModuleRow). (cond (ltb n 8) (app_domain (app_at k n)) (module_domain r)).state ≢ free) here used)))
+    (λ (ne : n - 8 ≢ i). subst (λ (r : ModuleRow). (cond (ltb n 8) (app_domain (app_at k n)) (module_domain r)).state ≢ free)
+    (get_or-set_other k.modules i (n - 8) (ended_row k i) free_module ne) used)
     (cases_eq (n - 8) i)
 
 -- ---- it ends while nobody runs
@@ -77,16 +85,27 @@ order_without k i e l h = record {
   by_wake_time = h.by_wake_time;
   later = h.later;
   functions = λ f lf n. ⊎_elim
-      (λ (q : (function_at k f).module ≡ i). λ z. let state : ended_module ≡ free = ap (λ (r : ModuleRow). r.state) (sym (ap (module_at (without_module k i)) q ∙ get_or-set_same k.modules i (ended_row k i) free_module l)) ∙ z in omega arith)
-      (λ (ne : (function_at k f).module ≢ i). subst (λ (r : ModuleRow). r.state ≢ free) (sym (get_or-set_other k.modules i (function_at k f).module (ended_row k i) free_module ne)) (h.functions f lf n))
+      (λ (q : (function_at k f).module ≡ i). λ z. let state : ended_module ≡ free =
+      ap (λ (r : ModuleRow). r.state)
+      (sym (ap (module_at (without_module k i)) q ∙ get_or-set_same k.modules i (ended_row k i) free_module l)) ∙ z in
+      omega arith)
+      (λ (ne : (function_at k f).module ≢ i). subst (λ (r : ModuleRow). r.state ≢ free)
+      (sym (get_or-set_other k.modules i (function_at k f).module (ended_row k i) free_module ne)) (h.functions f lf n))
       (cases_eq (function_at k f).module i);
 }
 
-moves_without : (k : Kernel) (t i : ℕ) → running_module k ≡ none → i < length k.modules → IsMovingCaller k t → IsMovingCaller (without_module k i) t
+moves_without : (k : Kernel) (t i : ℕ) → running_module k ≡ none → i < length k.modules → IsMovingCaller k t
+    → IsMovingCaller (without_module k i) t
 moves_without k t i e l m = record {
   but = record {
     order = order_without k i e l m.but.order;
-    placed = record { there = m.but.placed.there; nowhere_else = m.but.placed.nowhere_else; unlisted = m.but.placed.unlisted; once = m.but.placed.once };
+    placed = record {
+      there = m.but.placed.there;
+      nowhere_else = m.but.placed.nowhere_else;
+      unlisted = m.but.placed.unlisted;
+      once =
+          m.but.placed.once;
+    };
   };
   below = m.below;
   state = m.state;
@@ -105,8 +124,10 @@ module_ended_stays_settled k h n =
     let m0 : IsMovingCaller k0 t = record { but = stops_calling k h.orderly n; below = is.below; state = is.state } in
     let k1 : Kernel = without_module k0 i in
     record {
-      orderly = runs_again (saved_register k1 t 12 6) t record { no_thread = refl; no_module = refl } (register_moves k1 t 12 6 (moves_without k0 t i refl l m0));
-      inside = λ p m hm used. subst (λ (x : Range). IsInPool (pool_range p) x) (sym (range_kept k i l p m)) (h.inside p m hm (was_used k i l on m used));
+      orderly = runs_again (saved_register k1 t 12 6) t record { no_thread = refl; no_module = refl }
+          (register_moves k1 t 12 6 (moves_without k0 t i refl l m0));
+      inside = λ p m hm used. subst (λ (x : Range). IsInPool (pool_range p) x) (sym (range_kept k i l p m))
+          (h.inside p m hm (was_used k i l on m used));
       apart = λ p m j hm hj ne um uj.
           subst (λ (x : Range). AreApart x (range_in p (domain_at (without_module k i) j))) (sym (range_kept k i l p m))
           (subst (λ (x : Range). AreApart (range_in p (domain_at k m)) x) (sym (range_kept k i l p j))

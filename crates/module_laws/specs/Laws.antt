@@ -8,7 +8,8 @@ use Rattle.place_model.specs.Settled.{IsSettledKernel}
 
 -- a running thread calls a function of a live module
 abbrev pub EnteredLaw : Type 0
-EnteredLaw = (k : Kernel) (r : List ℕ) → IsSettledKernel k → ThreadRuns k → length r ≡ 16 → (function_at k (slice_index r 12)).module < 4
+EnteredLaw = (k : Kernel) (r : List ℕ) → IsSettledKernel k → ThreadRuns k → length r ≡ 16
+    → (function_at k (slice_index r 12)).module < 4
     → (module_at k (function_at k (slice_index r 12)).module).state ≡ live → IsSettledKernel (entered k r)
 
 -- a running module leaves

@@ -21,7 +21,11 @@ four b x y a z w = (b, x) ∷ (b + 1, y) ∷ (a, z) ∷ (a + 1, w) ∷ []
 
 pub in_order : (b x y a z w : ℕ) → b + 1 < a → by_address (four b x y a z w) ≡ four b x y a z w
 in_order b x y a z w h =
-    rw (put_pair-none (a + 1, w), put_pair-first (a, z) (a + 1, w) [] (omega arith), put_pair-first (b + 1, y) (a, z) ((a + 1, w) ∷ []) h)
+    rw (
+      put_pair-none (a + 1, w),
+      put_pair-first (a, z) (a + 1, w) [] (omega arith),
+      put_pair-first (b + 1, y) (a, z) ((a + 1, w) ∷ []) h,
+    )
     (put_pair-first (b, x) (b + 1, y) ((a, z) ∷ (a + 1, w) ∷ []) (omega arith))
 
 module _ (m : List ℕ) (b x y a z w : ℕ) (e : b % 2 ≡ 0) (f : a ≡ b + 2) (l : a + 1 < length m) where
@@ -47,10 +51,13 @@ module _ (m : List ℕ) (b x y a z w : ℕ) (e : b % 2 ≡ 0) (f : a ≡ b + 2) 
   n3 = length-set m2 a z ∙ n2
 
   at_b : get_or m4 b 0 ≡ x
-  at_b = get_or-set_other m3 (a + 1) b w 0 (λ q. omega arith) ∙ (get_or-set_other m2 a b z 0 (λ q. omega arith) ∙ (get_or-set_other m1 (b + 1) b y 0 (λ q. omega arith) ∙ get_or-set_same m b x 0 (omega arith)))
+  at_b = get_or-set_other m3 (a + 1) b w 0 (λ q. omega arith)
+      ∙ (get_or-set_other m2 a b z 0 (λ q. omega arith)
+      ∙ (get_or-set_other m1 (b + 1) b y 0 (λ q. omega arith) ∙ get_or-set_same m b x 0 (omega arith)))
 
   at_b1 : get_or m4 (b + 1) 0 ≡ y
-  at_b1 = get_or-set_other m3 (a + 1) (b + 1) w 0 (λ q. omega arith) ∙ (get_or-set_other m2 a (b + 1) z 0 (λ q. omega arith) ∙ get_or-set_same m1 (b + 1) y 0 (omega (arith, n1)))
+  at_b1 = get_or-set_other m3 (a + 1) (b + 1) w 0 (λ q. omega arith)
+      ∙ (get_or-set_other m2 a (b + 1) z 0 (λ q. omega arith) ∙ get_or-set_same m1 (b + 1) y 0 (omega (arith, n1)))
 
   at_a : get_or m4 a 0 ≡ z
   at_a = get_or-set_other m3 (a + 1) a w 0 (λ q. omega arith) ∙ get_or-set_same m2 a z 0 (omega (arith, n2))
@@ -70,7 +77,9 @@ module _ (m : List ℕ) (b x y a z w : ℕ) (e : b % 2 ≡ 0) (f : a ≡ b + 2) 
 abbrev pub PushedIs : (n : ℕ) → List ℕ → List ℕ → Type 0
 PushedIs n m c = interrupted (put_all m (accepted n m c).written) (accepted n m c).context ≡ c
 
-of_words : (n : ℕ) (m : List ℕ) → length m ≡ 65536 → (a0 a1 a2 a3 a4 a5 a6 a7 a8 a9 a10 a11 a12 a13 a14 a15 : ℕ) → IsContext (a0 ∷ a1 ∷ a2 ∷ a3 ∷ a4 ∷ a5 ∷ a6 ∷ a7 ∷ a8 ∷ a9 ∷ a10 ∷ a11 ∷ a12 ∷ a13 ∷ a14 ∷ a15 ∷ []) → 4 ≤ a1 → PushedIs n m (a0 ∷ a1 ∷ a2 ∷ a3 ∷ a4 ∷ a5 ∷ a6 ∷ a7 ∷ a8 ∷ a9 ∷ a10 ∷ a11 ∷ a12 ∷ a13 ∷ a14 ∷ a15 ∷ [])
+of_words : (n : ℕ) (m : List ℕ) → length m ≡ 65536 → (a0 a1 a2 a3 a4 a5 a6 a7 a8 a9 a10 a11 a12 a13 a14 a15 : ℕ)
+    → IsContext (a0 ∷ a1 ∷ a2 ∷ a3 ∷ a4 ∷ a5 ∷ a6 ∷ a7 ∷ a8 ∷ a9 ∷ a10 ∷ a11 ∷ a12 ∷ a13 ∷ a14 ∷ a15 ∷ []) → 4 ≤ a1
+    → PushedIs n m (a0 ∷ a1 ∷ a2 ∷ a3 ∷ a4 ∷ a5 ∷ a6 ∷ a7 ∷ a8 ∷ a9 ∷ a10 ∷ a11 ∷ a12 ∷ a13 ∷ a14 ∷ a15 ∷ [])
 unfolding accepted set_reg
 of_words n m lm a0 a1 a2 a3 a4 a5 a6 a7 a8 a9 a10 a11 a12 a13 a14 a15 h s =
     let small : a1 < 65536 = h.small 1 in
@@ -88,8 +97,11 @@ of_words n m lm a0 a1 a2 a3 a4 a5 a6 a7 a8 a9 a10 a11 a12 a13 a14 a15 h s =
     let pc : even (a0 % 256 + 256 * (a0 / 256)) ≡ a0 = omega (arith, h.pc_even) in
     let sr : a2 % 256 + 256 * (a2 / 256) ≡ a2 = omega arith in
     let sp : even ((b + 2 + 2) % 65536) ≡ a1 = omega arith in
-    rw (ea, eb, va, vb, o, up, low, high) (λ i. pc i ∷ sp i ∷ sr i ∷ a3 ∷ a4 ∷ a5 ∷ a6 ∷ a7 ∷ a8 ∷ a9 ∷ a10 ∷ a11 ∷ a12 ∷ a13 ∷ a14 ∷ a15 ∷ [])
+    rw (ea, eb, va, vb, o, up, low, high)
+    (λ i. pc i ∷ sp i ∷ sr i ∷ a3 ∷ a4 ∷ a5 ∷ a6 ∷ a7 ∷ a8 ∷ a9 ∷ a10 ∷ a11 ∷ a12 ∷ a13 ∷ a14 ∷ a15 ∷ [])
 
 pub pushed-accepted : (n : ℕ) (m c : List ℕ) → length m ≡ 65536 → IsContext c → 4 ≤ reg c 1 → PushedIs n m c
 pushed-accepted n m c lm h s =
-    subst (λ (r : List ℕ). PushedIs n m r) (as_words c h.words) (of_words n m lm (reg c 0) (reg c 1) (reg c 2) (reg c 3) (reg c 4) (reg c 5) (reg c 6) (reg c 7) (reg c 8) (reg c 9) (reg c 10) (reg c 11) (reg c 12) (reg c 13) (reg c 14) (reg c 15) (subst IsContext (sym (as_words c h.words)) h) s)
+    subst (λ (r : List ℕ). PushedIs n m r) (as_words c h.words)
+    (of_words n m lm (reg c 0) (reg c 1) (reg c 2) (reg c 3) (reg c 4) (reg c 5) (reg c 6) (reg c 7) (reg c 8) (reg c 9)
+    (reg c 10) (reg c 11) (reg c 12) (reg c 13) (reg c 14) (reg c 15) (subst IsContext (sym (as_words c h.words)) h) s)

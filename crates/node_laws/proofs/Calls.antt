@@ -44,8 +44,20 @@ pub record IsCalling (s : System) (d : Domain) (entry : ℕ) : Type 0 where
 abbrev pub own_of : System → Own
 own_of s = of_app (app_of (running s.kernel))
 
-pub calling : {entry : ℕ} → Given → (s : System) → IsSeen s → IsSound s → ThreadRuns s.kernel → (good : IsGoodFor s.kernel.apps s.placed (running s.kernel) s.context) → (reg s.context 0 ≡ entry) × (0xF000 ≤ entry) → IsCalling s good.domain entry
-calling laws s see h r good l = record { see = see; sound = h; runs = r; placed = good.placed; facts = thread-facts laws s good.domain see h r good.placed; good = good.good; at = l.0; high = omega (arith, l.0, l.1) }
+pub calling : {entry : ℕ} → Given → (s : System) → IsSeen s → IsSound s → ThreadRuns s.kernel
+    → (good : IsGoodFor s.kernel.apps s.placed (running s.kernel) s.context) → (reg s.context 0 ≡ entry) × (0xF000 ≤ entry)
+    → IsCalling s good.domain entry
+calling laws s see h r good l =
+    record {
+      see = see;
+      sound = h;
+      runs = r;
+      placed = good.placed;
+      facts = thread-facts laws s good.domain see h r good.placed;
+      good = good.good;
+      at = l.0;
+      high = omega (arith, l.0, l.1);
+    }
 
 -- the record of a turn of the thread comes from an entry
 pub comes-from : {entry : ℕ} → Given → (s : System) (d : Domain) → IsCalling s d entry → IsAtEntry s (who_runs s.kernel) entry
@@ -53,7 +65,9 @@ comes-from laws s d x = record {
   domain = d;
   runs = record { placed = ap (domain_in s.placed) (domain-runs s.kernel x.runs) ∙ x.placed; who = refl };
   at = sym x.at;
-  allowed = subst (λ (e : ℕ). IsJumpEntry d.object.kind e ⊎ IsCallEntry d.object.kind e) x.at (at-entry laws d (low_in s.kernel.apps (running s.kernel)) (top_in s.kernel.apps (running s.kernel)) (seen s) s.context x.facts.stands x.good x.high);
+  allowed = subst (λ (e : ℕ). IsJumpEntry d.object.kind e ⊎ IsCallEntry d.object.kind e) x.at
+      (at-entry laws d (low_in s.kernel.apps (running s.kernel)) (top_in s.kernel.apps (running s.kernel)) (seen s) s.context
+      x.facts.stands x.good x.high);
 }
 
 pub memory-untouched : (own : Own) (s : System) → MemoryKept own s.placed s.memory s.memory
@@ -62,14 +76,23 @@ memory-untouched own s = record { code = λ n d e f k l u. refl; region = λ n d
 -- what a turn that ends in a dispatch leaves
 pub record Leaves (s : System) (k : Kernel) (pick : Option ℕ) (told : Record) : Type 0 where
   pub sound : IsSound (record s { kernel = dispatched k pick; context = dispatched_context k pick; steps = s.steps + 1 })
-  pub others : OthersKept (app_of (running s.kernel)) s (record s { kernel = dispatched k pick; context = dispatched_context k pick; steps = s.steps + 1 })
+  pub others : OthersKept (app_of (running s.kernel)) s
+      (record s { kernel = dispatched k pick; context = dispatched_context k pick; steps = s.steps + 1 })
 
-pub leaves : (s : System) (k : Kernel) (pick : Option ℕ) (told : Record) → IsSound s → IsSoundKernel k s.placed s.steps → NoneRuns k → IsUntouched (own_of s) s.kernel k → Leaves s k pick told
+pub leaves : (s : System) (k : Kernel) (pick : Option ℕ) (told : Record) → IsSound s → IsSoundKernel k s.placed s.steps → NoneRuns k
+    → IsUntouched (own_of s) s.kernel k → Leaves s k pick told
 leaves s k pick told h sound none untouched =
-    let after : IsSoundKernel (dispatched k pick) s.placed s.steps × IsRunning s.memory (dispatched_context k pick) (dispatched k pick) s.placed = dispatch s.memory k s.placed s.steps pick sound none in
+    let after : IsSoundKernel (dispatched k pick) s.placed s.steps
+    × IsRunning s.memory (dispatched_context k pick) (dispatched k pick) s.placed =
+    dispatch s.memory k s.placed s.steps pick sound none in
     record {
       sound = record { code = h.code; kernel = later (dispatched k pick) s.placed s.steps after.0; running = after.1 };
-      others = record { memory = memory-untouched (own_of s) s; kernel = kept-dispatch (own_of s) s.kernel k pick untouched sound.settled.orderly; placed = refl };
+      others = record {
+        memory = memory-untouched (own_of s) s;
+        kernel =
+            kept-dispatch (own_of s) s.kernel k pick untouched sound.settled.orderly;
+        placed = refl;
+      };
     }
 
 -- ---- the caller goes on
@@ -96,14 +119,16 @@ pub untouched-front : (own : Own) (k : Kernel) → own.threads (running k) ≡ t
 untouched-front own k e =
     let k1 : Kernel = with_thread k (running k) (ready_row (thread_at k (running k))) in
     untouched-twice own k (to_ready_front k (running k)) (moved_to_front k)
-    (untouched-twice own k k1 (to_ready_front k (running k)) (untouched-row own k (running k) (ready_row (thread_at k (running k))) e) (untouched-ready own k1 _ (running k) e))
+    (untouched-twice own k k1 (to_ready_front k (running k))
+    (untouched-row own k (running k) (ready_row (thread_at k (running k))) e) (untouched-ready own k1 _ (running k) e))
     (untouched-runs own (to_ready_front k (running k)) none)
 
 pub untouched-end : (own : Own) (k : Kernel) → own.threads (running k) ≡ true → IsUntouched own k (moved_to_end k)
 untouched-end own k e =
     let k1 : Kernel = with_thread k (running k) (ready_row (thread_at k (running k))) in
     untouched-twice own k (to_ready_end k (running k)) (moved_to_end k)
-    (untouched-twice own k k1 (to_ready_end k (running k)) (untouched-row own k (running k) (ready_row (thread_at k (running k))) e) (untouched-ready own k1 _ (running k) e))
+    (untouched-twice own k k1 (to_ready_end k (running k)) (untouched-row own k (running k) (ready_row (thread_at k (running k))) e)
+    (untouched-ready own k1 _ (running k) e))
     (untouched-runs own (to_ready_end k (running k)) none)
 
 -- the kernel of a caller that is saved and goes to the front, or to the end
@@ -112,27 +137,37 @@ pub record IsResting (own : Own) (before after : Kernel) (ds : List (Option Doma
   pub none_runs : NoneRuns after
   pub untouched : IsUntouched own before after
 
-pub good-saved : (k : Kernel) (ds : List (Option Domain)) (c : List ℕ) → ThreadRuns k → length k.threads ≡ 32 → IsGoodFor k.apps ds (running k) c → IsGoodFor k.apps ds (running k) (thread_at (saved k c) (running k)).regs
-good-saved k ds c r size good = subst (λ (row : ThreadRow). IsGoodFor k.apps ds (running k) row.regs) (sym (saved-row k c r size)) good
+pub good-saved : (k : Kernel) (ds : List (Option Domain)) (c : List ℕ) → ThreadRuns k → length k.threads ≡ 32
+    → IsGoodFor k.apps ds (running k) c → IsGoodFor k.apps ds (running k) (thread_at (saved k c) (running k)).regs
+good-saved k ds c r size good =
+    subst (λ (row : ThreadRow). IsGoodFor k.apps ds (running k) row.regs) (sym (saved-row k c r size)) good
 
-pub rests-front : (own : Own) (before k : Kernel) (ds : List (Option Domain)) (n : ℕ) (c : List ℕ) → IsSoundKernel k ds n → ThreadRuns k → own.threads (running k) ≡ true → IsUntouched own before k
+pub rests-front : (own : Own) (before k : Kernel) (ds : List (Option Domain)) (n : ℕ) (c : List ℕ) → IsSoundKernel k ds n
+    → ThreadRuns k → own.threads (running k) ≡ true → IsUntouched own before k
     → IsGoodFor k.apps ds (running k) c → IsResting own before (moved_to_front (saved k c)) ds n
 rests-front own before k ds n c h r e u good =
     let runs : ThreadRuns (saved k c) = record { thread = r.thread; no_module = r.no_module } in
     record {
-      sound = sound-front (saved k c) ds n (sound-saved k ds n c h r good.good.steady.context.words) runs (good-saved k ds c r h.settled.orderly.shape.thread_rows good);
+      sound = sound-front (saved k c) ds n (sound-saved k ds n c h r good.good.steady.context.words) runs
+          (good-saved k ds c r h.settled.orderly.shape.thread_rows good);
       none_runs = record { no_thread = refl; no_module = r.no_module };
-      untouched = untouched-twice own before (saved k c) (moved_to_front (saved k c)) (untouched-twice own before k (saved k c) u (untouched-row own k (running k) (record (thread_at k (running k)) { regs = c }) e)) (untouched-front own (saved k c) e);
+      untouched = untouched-twice own before (saved k c) (moved_to_front (saved k c))
+          (untouched-twice own before k (saved k c) u
+          (untouched-row own k (running k) (record (thread_at k (running k)) { regs = c }) e)) (untouched-front own (saved k c) e);
     }
 
-pub rests-end : (own : Own) (before k : Kernel) (ds : List (Option Domain)) (n : ℕ) (c : List ℕ) → IsSoundKernel k ds n → ThreadRuns k → own.threads (running k) ≡ true → IsUntouched own before k
+pub rests-end : (own : Own) (before k : Kernel) (ds : List (Option Domain)) (n : ℕ) (c : List ℕ) → IsSoundKernel k ds n
+    → ThreadRuns k → own.threads (running k) ≡ true → IsUntouched own before k
     → IsGoodFor k.apps ds (running k) c → IsResting own before (moved_to_end (saved k c)) ds n
 rests-end own before k ds n c h r e u good =
     let runs : ThreadRuns (saved k c) = record { thread = r.thread; no_module = r.no_module } in
     record {
-      sound = sound-end (saved k c) ds n (sound-saved k ds n c h r good.good.steady.context.words) runs (good-saved k ds c r h.settled.orderly.shape.thread_rows good);
+      sound = sound-end (saved k c) ds n (sound-saved k ds n c h r good.good.steady.context.words) runs
+          (good-saved k ds c r h.settled.orderly.shape.thread_rows good);
       none_runs = record { no_thread = refl; no_module = r.no_module };
-      untouched = untouched-twice own before (saved k c) (moved_to_end (saved k c)) (untouched-twice own before k (saved k c) u (untouched-row own k (running k) (record (thread_at k (running k)) { regs = c }) e)) (untouched-end own (saved k c) e);
+      untouched = untouched-twice own before (saved k c) (moved_to_end (saved k c))
+          (untouched-twice own before k (saved k c) u
+          (untouched-row own k (running k) (record (thread_at k (running k)) { regs = c }) e)) (untouched-end own (saved k c) e);
     }
 
 -- ---- behind a return to a mark
@@ -142,53 +177,71 @@ pub record IsReturned (s : System) (d : Domain) (c : List ℕ) : Type 0 where
   pub steady : IsSteady (bits d) (low_in s.kernel.apps (running s.kernel)) (top_in s.kernel.apps (running s.kernel)) c
   pub mark : IsMark d (reg c 0)
 
-pub returns-to : {entry : ℕ} → Given → (s : System) (d : Domain) (at : ℕ) → IsCalling s d entry → 0xF006 ≤ reg s.context 0 → at < 65536 → is_mark s.placed (running_domain s.kernel) at ≡ true → IsReturned s d (returned s.context at)
+pub returns-to : {entry : ℕ} → Given → (s : System) (d : Domain) (at : ℕ) → IsCalling s d entry → 0xF006 ≤ reg s.context 0
+    → at < 65536 → is_mark s.placed (running_domain s.kernel) at ≡ true → IsReturned s d (returned s.context at)
 returns-to laws s d at x l small e =
     let low : ℕ = low_in s.kernel.apps (running s.kernel) in
     let top : ℕ = top_in s.kernel.apps (running s.kernel) in
     let room : reg s.context 1 + 2 ≤ top = at-call laws d low top (seen s) s.context x.facts.stands x.good x.facts.kind l in
     let word : top < 65536 = x.facts.limits.word in
-    let mark : IsMark d at = mark-of s.placed (app_of (running s.kernel)) at d x.placed x.facts.is.accepted (subst (λ (n : ℕ). is_mark s.placed n at ≡ true) (domain-runs s.kernel x.runs) e) in
+    let mark : IsMark d at = mark-of s.placed (app_of (running s.kernel)) at d x.placed x.facts.is.accepted
+    (subst (λ (n : ℕ). is_mark s.placed n at ≡ true) (domain-runs s.kernel x.runs) e) in
     record {
       steady = steady-returned (bits d) low top s.context at x.good.steady room word small;
       mark = subst (IsMark d) (sym (pc-returned (bits d) low top s.context at x.good.steady room word mark.even_at)) mark;
     }
 
-pub pc-behind : {entry : ℕ} → Given → (s : System) (d : Domain) (at : ℕ) → IsCalling s d entry → 0xF006 ≤ reg s.context 0 → is_mark s.placed (running_domain s.kernel) at ≡ true → reg (returned s.context at) 0 ≡ at
+pub pc-behind : {entry : ℕ} → Given → (s : System) (d : Domain) (at : ℕ) → IsCalling s d entry → 0xF006 ≤ reg s.context 0
+    → is_mark s.placed (running_domain s.kernel) at ≡ true → reg (returned s.context at) 0 ≡ at
 pc-behind laws s d at x l e =
     let low : ℕ = low_in s.kernel.apps (running s.kernel) in
     let top : ℕ = top_in s.kernel.apps (running s.kernel) in
-    let mark : IsMark d at = mark-of s.placed (app_of (running s.kernel)) at d x.placed x.facts.is.accepted (subst (λ (n : ℕ). is_mark s.placed n at ≡ true) (domain-runs s.kernel x.runs) e) in
-    pc-returned (bits d) low top s.context at x.good.steady (at-call laws d low top (seen s) s.context x.facts.stands x.good x.facts.kind l) x.facts.limits.word mark.even_at
+    let mark : IsMark d at = mark-of s.placed (app_of (running s.kernel)) at d x.placed x.facts.is.accepted
+    (subst (λ (n : ℕ). is_mark s.placed n at ≡ true) (domain-runs s.kernel x.runs) e) in
+    pc-returned (bits d) low top s.context at x.good.steady
+    (at-call laws d low top (seen s) s.context x.facts.stands x.good x.facts.kind l) x.facts.limits.word mark.even_at
 
-pub with-register : (s : System) (d : Domain) (c : List ℕ) (n v : ℕ) → 4 ≤ n → v < 65536 → IsReturned s d c → IsReturned s d (set_reg c n v)
+pub with-register : (s : System) (d : Domain) (c : List ℕ) (n v : ℕ) → 4 ≤ n → v < 65536 → IsReturned s d c
+    → IsReturned s d (set_reg c n v)
 with-register s d c n v l small h = record {
   steady = steady-reg (bits d) _ _ c n v h.steady (omega arith) (omega arith) small;
   mark = subst (IsMark d) (sym (reg_other c n v 0 (omega arith))) h.mark;
 }
 
-pub good-returned : {entry : ℕ} → (s : System) (d : Domain) (c : List ℕ) → IsCalling s d entry → IsReturned s d c → IsGoodFor s.kernel.apps s.placed (running s.kernel) c
+pub good-returned : {entry : ℕ} → (s : System) (d : Domain) (c : List ℕ) → IsCalling s d entry → IsReturned s d c
+    → IsGoodFor s.kernel.apps s.placed (running s.kernel) c
 good-returned s d c x h = record { domain = d; placed = x.placed; good = good-mark d _ _ c h.steady x.facts.well h.mark }
 
 -- ---- yield
 
 -- an entry's record
-pub told-safe : Given → (s : System) (d : Domain) (k : Kernel) (pick : Option ℕ) (e : ℕ) → IsCalling s d e → IsResting (own_of s) s.kernel k s.placed s.steps
-    → IsSafe s (by_turn s (record { kernel = dispatched k pick; context = dispatched_context k pick; shown = Entry (s.steps + 1) (who_runs s.kernel) e }))
+pub told-safe : Given → (s : System) (d : Domain) (k : Kernel) (pick : Option ℕ) (e : ℕ) → IsCalling s d e
+    → IsResting (own_of s) s.kernel k s.placed s.steps
+    → IsSafe s (by_turn s (record {
+      kernel = dispatched k pick;
+      context = dispatched_context k pick;
+      shown =
+          Entry (s.steps + 1) (who_runs s.kernel) e;
+    }))
 told-safe laws s d k pick e x rest =
-    let l : Leaves s k pick (Entry (s.steps + 1) (who_runs s.kernel) e) = leaves s k pick (Entry (s.steps + 1) (who_runs s.kernel) e) x.sound rest.sound rest.none_runs rest.untouched in
+    let l : Leaves s k pick (Entry (s.steps + 1) (who_runs s.kernel) e) =
+    leaves s k pick (Entry (s.steps + 1) (who_runs s.kernel) e) x.sound rest.sound rest.none_runs rest.untouched in
     record {
       sound = l.sound;
       confined = comes-from laws s d x;
-      keeps = step-keeps s (record s { kernel = dispatched k pick; context = dispatched_context k pick; steps = s.steps + 1 }) x.runs l.others;
+      keeps = step-keeps s (record s { kernel = dispatched k pick; context = dispatched_context k pick; steps = s.steps + 1 })
+          x.runs l.others;
       spelled = tt;
     }
 
-pub yields-safe : Given → (s : System) (d : Domain) (pick : Option ℕ) → IsCalling s d 0xF00C → 0xF006 ≤ reg s.context 0 → is_mark s.placed (running_domain s.kernel) (word_at (seen s) (reg s.context 1)) ≡ true
+pub yields-safe : Given → (s : System) (d : Domain) (pick : Option ℕ) → IsCalling s d 0xF00C → 0xF006 ≤ reg s.context 0
+    → is_mark s.placed (running_domain s.kernel) (word_at (seen s) (reg s.context 1)) ≡ true
     → IsSafe s (by_turn s (row Yield (returning (work s pick))))
 yields-safe laws s d pick x l e =
     let at : ℕ = word_at (seen s) (reg s.context 1) in
     let c : List ℕ = set_reg (returned s.context at) 12 0 in
-    let r : IsReturned s d c = with-register s d (returned s.context at) 12 0 (omega arith) (omega arith) (returns-to laws s d at x l (word-small (seen s) (reg s.context 1) x.see.memory) e) in
+    let r : IsReturned s d c = with-register s d (returned s.context at) 12 0 (omega arith) (omega arith)
+    (returns-to laws s d at x l (word-small (seen s) (reg s.context 1) x.see.memory) e) in
     told-safe laws s d (moved_to_end (saved s.kernel c)) pick 0xF00C x
-    (rests-end (own_of s) s.kernel s.kernel s.placed s.steps c x.sound.kernel x.runs (own-thread s) (untouched-all (own_of s) s.kernel) (good-returned s d c x r))
+    (rests-end (own_of s) s.kernel s.kernel s.placed s.steps c x.sound.kernel x.runs (own-thread s)
+    (untouched-all (own_of s) s.kernel) (good-returned s d c x r))

@@ -163,15 +163,32 @@ call-named x l u e =
                                                                         | inl h ↦ record { entry = Signal; at = h; for_app = refl }
                                                                         | inr nf01c ↦
                                                                             elim (cases_eq x 0xF01E) [
-                                                                              | inl h ↦ record { entry = Broadcast; at = h; for_app = refl }
+                                                                              | inl h ↦ record {
+                                                                                entry = Broadcast;
+                                                                                at = h;
+                                                                                for_app = refl;
+                                                                              }
                                                                               | inr nf01e ↦
                                                                                   elim (cases_eq x 0xF020) [
-                                                                                    | inl h ↦ record { entry = Line; at = h; for_app = refl }
+                                                                                    | inl h ↦ record {
+                                                                                      entry = Line;
+                                                                                      at = h;
+                                                                                      for_app = refl;
+                                                                                    }
                                                                                     | inr nf020 ↦
                                                                                         elim (cases_eq x 0xF022) [
-                                                                                          | inl h ↦ record { entry = ModuleCall; at = h; for_app = refl }
+                                                                                          | inl h ↦ record {
+                                                                                            entry = ModuleCall;
+                                                                                            at = h;
+                                                                                            for_app = refl;
+                                                                                          }
                                                                                           | inr nf022 ↦
-                                                                                              record { entry = Emits; at = omega arith; for_app = refl }
+                                                                                              record {
+                                                                                                entry = Emits;
+                                                                                                at = omega
+                                                                                                    arith;
+                                                                                                for_app = refl;
+                                                                                              }
                                                                                         ]
                                                                                   ]
                                                                             ]
@@ -203,8 +220,10 @@ in-code k r = cond-false (is_over_budget k) OverBudget Runs (and_left (module_ru
 pub runs-below : (k : Kernel) (pc : ℕ) → ThreadRuns k → pc < 0xF000 → case_by_line k pc None ≡ Runs
 runs-below k pc r l =
     cond-false (eqb pc 0xF07E) IsIdle _ (ne_eqb pc 0xF07E (λ e. omega arith))
-    ∙ ap (λ (o : Option Call). case_at k o (routine_at pc)) (find-none (λ c. eqb (entry_address c) pc) calls (λ c. ne_eqb (entry_address c) pc (λ e. omega (arith, (entry-least c).0))))
-    ∙ ap (λ (o : Option ℕ). case_at k None o) (find-none (λ n. eqb (0xF080 + 2 * n) pc) lines_down (λ n. ne_eqb (0xF080 + 2 * n) pc (λ e. omega arith)))
+    ∙ ap (λ (o : Option Call). case_at k o (routine_at pc))
+    (find-none (λ c. eqb (entry_address c) pc) calls (λ c. ne_eqb (entry_address c) pc (λ e. omega (arith, (entry-least c).0))))
+    ∙ ap (λ (o : Option ℕ). case_at k None o)
+    (find-none (λ n. eqb (0xF080 + 2 * n) pc) lines_down (λ n. ne_eqb (0xF080 + 2 * n) pc (λ e. omega arith)))
     ∙ in-code k r
 
 pub enters-at : (k : Kernel) (pc : ℕ) (e : Call) → pc ≡ entry_address e → case_by_line k pc None ≡ Enters e
@@ -221,13 +240,15 @@ has-a-row k e r h =
     ∙ ap (λ (b : Bool). not b && is_for_app e) (ne_eqb (running k) none (λ q. let l = r.thread in omega arith))
     ∙ h
 
-pub enters-safe : TurnLaws → (s : System) (pick : Option ℕ) (e : Call) → IsSeen s → IsSound s → s.steps < most_steps → (r : ThreadRuns s.kernel) → IsGoodFor s.kernel.apps s.placed (running s.kernel) s.context
+pub enters-safe : TurnLaws → (s : System) (pick : Option ℕ) (e : Call) → IsSeen s → IsSound s → s.steps < most_steps
+    → (r : ThreadRuns s.kernel) → IsGoodFor s.kernel.apps s.placed (running s.kernel) s.context
     → reg s.context 0 ≡ entry_address e → is_for_app e ≡ true → IsSafe s (by_case s pick (Enters e))
 enters-safe turns s pick e see h few r good at app =
     cond_both (has_row s.kernel e) (turn_at e (work s pick)) (nothing_happens (work s pick)) (λ t. IsSafe s (by_turn s t))
     (λ _. turns e app s pick see h few r good at) (λ f. absurd (cc (has-a-row s.kernel e r app, f)))
 
-pub idle-safe : (s : System) (pick : Option ℕ) → IsSound s → NoneRuns s.kernel → s.context ≡ idle_context → IsSafe s (by_case s pick IsIdle)
+pub idle-safe : (s : System) (pick : Option ℕ) → IsSound s → NoneRuns s.kernel → s.context ≡ idle_context
+    → IsSafe s (by_case s pick IsIdle)
 idle-safe s pick h r e = record {
   sound = record { code = h.code; kernel = later s.kernel s.placed s.steps h.kernel; running = NothingRuns r e };
   confined = record { at = ap (λ (c : List ℕ). reg c 0) e; none = r };
@@ -238,24 +259,51 @@ idle-safe s pick h r e = record {
 -- ---- the turns
 
 -- what the turns of the later calls are proved to be
-pub turns : Given → TurnLaw Exits → TurnLaw Sleep → TurnLaw Ticks → TurnLaw Lock → TurnLaw Unlock → TurnLaw Wait → TurnLaw Signal → TurnLaw Broadcast → TurnLaw Line → TurnLaw ModuleCall → TurnLaws
-turns laws exit sleep ticks lock unlock wait signal broadcast line modules StoreFault app s pick see h few r good at = faults-safe laws s good.domain pick Store (reg s.context 4) (calling laws s see h r good (omega arith, omega arith)) (λ a. (a, refl))
-turns laws exit sleep ticks lock unlock wait signal broadcast line modules StackFault app s pick see h few r good at = faults-safe laws s good.domain pick Stack (reg s.context 1) (calling laws s see h r good (omega arith, omega arith)) (λ a. (a, refl))
-turns laws exit sleep ticks lock unlock wait signal broadcast line modules Goes app s pick see h few r good at = jump-safe laws s good.domain pick Goes (calling laws s see h r good (omega arith, omega arith)) (λ a. inl a)
-turns laws exit sleep ticks lock unlock wait signal broadcast line modules Calls app s pick see h few r good at = jump-safe laws s good.domain pick Calls (calling laws s see h r good (omega arith, omega arith)) (λ a. inr a)
-turns laws exit sleep ticks lock unlock wait signal broadcast line modules Exits app s pick see h few r good at = exit s pick see h few r good at
-turns laws exit sleep ticks lock unlock wait signal broadcast line modules Spawn app s pick see h few r good at = call-safe laws s good.domain pick Spawn (calling laws s see h r good (omega arith, omega arith)) (omega arith) (spawn-safe laws s good.domain pick (calling laws s see h r good (omega arith, omega arith)) (omega arith))
-turns laws exit sleep ticks lock unlock wait signal broadcast line modules Yield app s pick see h few r good at = call-safe laws s good.domain pick Yield (calling laws s see h r good (omega arith, omega arith)) (omega arith) (yields-safe laws s good.domain pick (calling laws s see h r good (omega arith, omega arith)) (omega arith))
-turns laws exit sleep ticks lock unlock wait signal broadcast line modules Priority app s pick see h few r good at = call-safe laws s good.domain pick Priority (calling laws s see h r good (omega arith, omega arith)) (omega arith) (priority-safe laws s good.domain pick (calling laws s see h r good (omega arith, omega arith)) (omega arith))
-turns laws exit sleep ticks lock unlock wait signal broadcast line modules Self app s pick see h few r good at = call-safe laws s good.domain pick Self (calling laws s see h r good (omega arith, omega arith)) (omega arith) (self-safe laws s good.domain pick (calling laws s see h r good (omega arith, omega arith)) (omega arith))
-turns laws exit sleep ticks lock unlock wait signal broadcast line modules Emits app s pick see h few r good at = call-safe laws s good.domain pick Emits (calling laws s see h r good (omega arith, omega arith)) (omega arith) (emits-safe laws s good.domain pick (calling laws s see h r good (omega arith, omega arith)) (omega arith))
-turns laws exit sleep ticks lock unlock wait signal broadcast line modules Sleep app s pick see h few r good at = sleep s pick see h few r good at
-turns laws exit sleep ticks lock unlock wait signal broadcast line modules Ticks app s pick see h few r good at = ticks s pick see h few r good at
-turns laws exit sleep ticks lock unlock wait signal broadcast line modules Lock app s pick see h few r good at = lock s pick see h few r good at
-turns laws exit sleep ticks lock unlock wait signal broadcast line modules Unlock app s pick see h few r good at = unlock s pick see h few r good at
-turns laws exit sleep ticks lock unlock wait signal broadcast line modules Wait app s pick see h few r good at = wait s pick see h few r good at
-turns laws exit sleep ticks lock unlock wait signal broadcast line modules Signal app s pick see h few r good at = signal s pick see h few r good at
-turns laws exit sleep ticks lock unlock wait signal broadcast line modules Broadcast app s pick see h few r good at = broadcast s pick see h few r good at
-turns laws exit sleep ticks lock unlock wait signal broadcast line modules Line app s pick see h few r good at = line s pick see h few r good at
-turns laws exit sleep ticks lock unlock wait signal broadcast line modules ModuleCall app s pick see h few r good at = modules s pick see h few r good at
+pub turns : Given → TurnLaw Exits → TurnLaw Sleep → TurnLaw Ticks → TurnLaw Lock → TurnLaw Unlock → TurnLaw Wait → TurnLaw Signal
+    → TurnLaw Broadcast → TurnLaw Line → TurnLaw ModuleCall → TurnLaws
+turns laws exit sleep ticks lock unlock wait signal broadcast line modules StoreFault app s pick see h few r good at =
+    faults-safe laws s good.domain pick Store (reg s.context 4) (calling laws s see h r good (omega arith, omega arith))
+    (λ a. (a, refl))
+turns laws exit sleep ticks lock unlock wait signal broadcast line modules StackFault app s pick see h few r good at =
+    faults-safe laws s good.domain pick Stack (reg s.context 1) (calling laws s see h r good (omega arith, omega arith))
+    (λ a. (a, refl))
+turns laws exit sleep ticks lock unlock wait signal broadcast line modules Goes app s pick see h few r good at =
+    jump-safe laws s good.domain pick Goes (calling laws s see h r good (omega arith, omega arith)) (λ a. inl a)
+turns laws exit sleep ticks lock unlock wait signal broadcast line modules Calls app s pick see h few r good at =
+    jump-safe laws s good.domain pick Calls (calling laws s see h r good (omega arith, omega arith)) (λ a. inr a)
+turns laws exit sleep ticks lock unlock wait signal broadcast line modules Exits app s pick see h few r good at =
+    exit s pick see h few r good at
+turns laws exit sleep ticks lock unlock wait signal broadcast line modules Spawn app s pick see h few r good at =
+    call-safe laws s good.domain pick Spawn (calling laws s see h r good (omega arith, omega arith)) (omega arith)
+    (spawn-safe laws s good.domain pick (calling laws s see h r good (omega arith, omega arith)) (omega arith))
+turns laws exit sleep ticks lock unlock wait signal broadcast line modules Yield app s pick see h few r good at =
+    call-safe laws s good.domain pick Yield (calling laws s see h r good (omega arith, omega arith)) (omega arith)
+    (yields-safe laws s good.domain pick (calling laws s see h r good (omega arith, omega arith)) (omega arith))
+turns laws exit sleep ticks lock unlock wait signal broadcast line modules Priority app s pick see h few r good at =
+    call-safe laws s good.domain pick Priority (calling laws s see h r good (omega arith, omega arith)) (omega arith)
+    (priority-safe laws s good.domain pick (calling laws s see h r good (omega arith, omega arith)) (omega arith))
+turns laws exit sleep ticks lock unlock wait signal broadcast line modules Self app s pick see h few r good at =
+    call-safe laws s good.domain pick Self (calling laws s see h r good (omega arith, omega arith)) (omega arith)
+    (self-safe laws s good.domain pick (calling laws s see h r good (omega arith, omega arith)) (omega arith))
+turns laws exit sleep ticks lock unlock wait signal broadcast line modules Emits app s pick see h few r good at =
+    call-safe laws s good.domain pick Emits (calling laws s see h r good (omega arith, omega arith)) (omega arith)
+    (emits-safe laws s good.domain pick (calling laws s see h r good (omega arith, omega arith)) (omega arith))
+turns laws exit sleep ticks lock unlock wait signal broadcast line modules Sleep app s pick see h few r good at =
+    sleep s pick see h few r good at
+turns laws exit sleep ticks lock unlock wait signal broadcast line modules Ticks app s pick see h few r good at =
+    ticks s pick see h few r good at
+turns laws exit sleep ticks lock unlock wait signal broadcast line modules Lock app s pick see h few r good at =
+    lock s pick see h few r good at
+turns laws exit sleep ticks lock unlock wait signal broadcast line modules Unlock app s pick see h few r good at =
+    unlock s pick see h few r good at
+turns laws exit sleep ticks lock unlock wait signal broadcast line modules Wait app s pick see h few r good at =
+    wait s pick see h few r good at
+turns laws exit sleep ticks lock unlock wait signal broadcast line modules Signal app s pick see h few r good at =
+    signal s pick see h few r good at
+turns laws exit sleep ticks lock unlock wait signal broadcast line modules Broadcast app s pick see h few r good at =
+    broadcast s pick see h few r good at
+turns laws exit sleep ticks lock unlock wait signal broadcast line modules Line app s pick see h few r good at =
+    line s pick see h few r good at
+turns laws exit sleep ticks lock unlock wait signal broadcast line modules ModuleCall app s pick see h few r good at =
+    modules s pick see h few r good at
 turns laws exit sleep ticks lock unlock wait signal broadcast line modules Leave app s pick see h few r good at = absurd (cc)

@@ -44,7 +44,31 @@ find-below p (x ∷ xs) n h e = by (p x) e (λ f. find-below p xs n h.1 f)
     by false e next = next e
 
 all-below : AllByRecursion (λ (x : ℕ). x < 14) lines_down
-all-below = (omega arith, (omega arith, (omega arith, (omega arith, (omega arith, (omega arith, (omega arith, (omega arith, (omega arith, (omega arith, (omega arith, (omega arith, (omega arith, (omega arith, tt))))))))))))))
+all-below = (
+  omega arith,
+  (
+    omega arith,
+    (
+      omega arith,
+      (
+        omega arith,
+        (
+          omega arith,
+          (
+            omega arith,
+            (
+              omega arith,
+              (
+                omega arith,
+                (omega arith, (omega arith, (omega arith, (omega arith, (omega arith, (omega arith, tt)))))),
+              ),
+            ),
+          ),
+        ),
+      ),
+    ),
+  ),
+)
 
 accepted-below : (k : Kernel) (b : Bool) (n : ℕ) → cond b (highest_line k) None ≡ Some n → n < 14
 accepted-below k true n e = find-below (λ x. eqb (bit_at (pending k) x) 1) lines_down n all-below e
@@ -70,7 +94,8 @@ routine-found (suc (suc (suc (suc (suc (suc (suc (suc (suc (suc (suc (suc (suc z
 routine-found (suc (suc (suc (suc (suc (suc (suc (suc (suc (suc (suc (suc (suc (suc l)))))))))))))) h = absurd (omega arith)
 
 no-entry : (l : ℕ) → entry_at (0xF080 + 2 * l) ≡ None
-no-entry l = find-none (λ c. eqb (entry_address c) (0xF080 + 2 * l)) calls (λ c. ne_eqb (entry_address c) (0xF080 + 2 * l) (λ e. omega (arith, (entry-least c).1)))
+no-entry l = find-none (λ c. eqb (entry_address c) (0xF080 + 2 * l)) calls
+    (λ c. ne_eqb (entry_address c) (0xF080 + 2 * l) (λ e. omega (arith, (entry-least c).1)))
 
 serves-at : (k : Kernel) (c : List ℕ) (s : IsServing c) → case_of k c ≡ Serves s.line
 unfolding case_of
@@ -81,38 +106,58 @@ serves-at k c s =
     ∙ ap (λ (o : Option Call). case_at k o (routine_at (0xF080 + 2 * s.line))) (no-entry s.line)
     ∙ ap (λ (o : Option ℕ). case_at k None o) (routine-found s.line s.number)
 
-by-line : (k : Kernel) (c : List ℕ) → case_of k c ≡ case_by_line k (reg c 0) (cond (allows_interrupts (reg c 2)) (highest_line k) None)
+by-line : (k : Kernel) (c : List ℕ)
+    → case_of k c ≡ case_by_line k (reg c 0) (cond (allows_interrupts (reg c 2)) (highest_line k) None)
 unfolding case_of
 by-line k c = refl
 
 -- ---- the step
 
 -- a thread runs, and a line is accepted or none is
-thread-by : Given → TurnLaws → (s : System) (pick : Option ℕ) → IsSeen s → IsSound s → s.steps < most_steps → ThreadRuns s.kernel → IsGoodFor s.kernel.apps s.placed (running s.kernel) s.context
-    → (o : Option ℕ) → ((n : ℕ) → o ≡ Some n → n < 14) → case_of s.kernel s.context ≡ case_by_line s.kernel (reg s.context 0) o → IsSafe s (step_of s pick)
-thread-by laws turns s pick see h few r good (Some n) below e = subst (λ (c : Case). IsSafe s (by_case s pick c)) (sym e) (accept-safe laws s n see h r good (below n refl))
+thread-by : Given → TurnLaws → (s : System) (pick : Option ℕ) → IsSeen s → IsSound s → s.steps < most_steps → ThreadRuns s.kernel
+    → IsGoodFor s.kernel.apps s.placed (running s.kernel) s.context
+    → (o : Option ℕ) → ((n : ℕ) → o ≡ Some n → n < 14) → case_of s.kernel s.context ≡ case_by_line s.kernel (reg s.context 0) o
+    → IsSafe s (step_of s pick)
+thread-by laws turns s pick see h few r good (Some n) below e =
+    subst (λ (c : Case). IsSafe s (by_case s pick c)) (sym e) (accept-safe laws s n see h r good (below n refl))
 thread-by laws turns s pick see h few r good None below e = elim (cases_lt (reg s.context 0) 0xF000) [
-  | inl l ↦ subst (λ (c : Case). IsSafe s (by_case s pick c)) (sym (e ∙ runs-below s.kernel (reg s.context 0) r l)) (thread-steps laws s see h r good l)
+  | inl l ↦ subst (λ (c : Case). IsSafe s (by_case s pick c)) (sym (e ∙ runs-below s.kernel (reg s.context 0) r l))
+      (thread-steps laws s see h r good l)
   | inr u ↦ entry u
 ]
   where
     entry : 0xF000 ≤ reg s.context 0 → IsSafe s (step_of s pick)
     entry u =
         let f : IsThread s good.domain = thread-facts laws s good.domain see h r good.placed in
-        let at : StandsAt (reg s.context 0) = named good.domain.object.kind (reg s.context 0) f.kind (at-entry laws good.domain _ _ (seen s) s.context f.stands good.good u) in
-        subst (λ (c : Case). IsSafe s (by_case s pick c)) (sym (e ∙ enters-at s.kernel (reg s.context 0) at.entry at.at)) (enters-safe turns s pick at.entry see h few r good at.at at.for_app)
+        let at : StandsAt (reg s.context 0) =
+        named good.domain.object.kind (reg s.context 0) f.kind
+        (at-entry laws good.domain _ _ (seen s) s.context f.stands good.good u) in
+        subst (λ (c : Case). IsSafe s (by_case s pick c)) (sym (e ∙ enters-at s.kernel (reg s.context 0) at.entry at.at))
+        (enters-safe turns s pick at.entry see h few r good at.at at.for_app)
 
 -- nothing runs
-idle-by : (s : System) (pick : Option ℕ) → IsSeen s → IsSound s → NoneRuns s.kernel → s.context ≡ idle_context → (o : Option ℕ) → ((n : ℕ) → o ≡ Some n → n < 14)
+idle-by : (s : System) (pick : Option ℕ) → IsSeen s → IsSound s → NoneRuns s.kernel → s.context ≡ idle_context → (o : Option ℕ)
+    → ((n : ℕ) → o ≡ Some n → n < 14)
     → case_of s.kernel s.context ≡ case_by_line s.kernel (reg s.context 0) o → IsSafe s (step_of s pick)
-idle-by s pick see h r c (Some n) below e = subst (λ (x : Case). IsSafe s (by_case s pick x)) (sym e) (accept-idle s n see h r c (below n refl))
-idle-by s pick see h r c None below e = subst (λ (x : Case). IsSafe s (by_case s pick x)) (sym (e ∙ ap (λ (x : List ℕ). case_by_line s.kernel (reg x 0) None) c)) (idle-safe s pick h r c)
+idle-by s pick see h r c (Some n) below e =
+    subst (λ (x : Case). IsSafe s (by_case s pick x)) (sym e) (accept-idle s n see h r c (below n refl))
+idle-by s pick see h r c None below e =
+    subst (λ (x : Case). IsSafe s (by_case s pick x)) (sym (e ∙ ap (λ (x : List ℕ). case_by_line s.kernel (reg x 0) None) c))
+    (idle-safe s pick h r c)
 
-by-who : Given → TurnLaws → ModuleStepLaw → (s : System) (pick : Option ℕ) → IsSeen s → IsSound s → s.steps < most_steps → IsRunning s.memory s.context s.kernel s.placed → IsSafe s (step_of s pick)
-by-who laws turns modules s pick see h few (AThread r good) = thread-by laws turns s pick see h few r good _ (accepted-below s.kernel (allows_interrupts (reg s.context 2))) (by-line s.kernel s.context)
-by-who laws turns modules s pick see h few (Nothing r e) = idle-by s pick see h r e _ (accepted-below s.kernel (allows_interrupts (reg s.context 2))) (by-line s.kernel s.context)
-by-who laws turns modules s pick see h few (Interrupted r serving i) = subst (λ (c : Case). IsSafe s (by_case s pick c)) (sym (serves-at s.kernel s.context serving)) (serve-safe laws s pick serving.line see h r serving i serving.number serving.at)
-by-who laws turns modules s pick see h few (IdleInterrupted r serving e) = subst (λ (c : Case). IsSafe s (by_case s pick c)) (sym (serves-at s.kernel s.context serving)) (serve-idle s pick serving.line h r serving e serving.number serving.at)
+by-who : Given → TurnLaws → ModuleStepLaw → (s : System) (pick : Option ℕ) → IsSeen s → IsSound s → s.steps < most_steps
+    → IsRunning s.memory s.context s.kernel s.placed → IsSafe s (step_of s pick)
+by-who laws turns modules s pick see h few (AThread r good) =
+    thread-by laws turns s pick see h few r good _ (accepted-below s.kernel (allows_interrupts (reg s.context 2)))
+    (by-line s.kernel s.context)
+by-who laws turns modules s pick see h few (Nothing r e) =
+    idle-by s pick see h r e _ (accepted-below s.kernel (allows_interrupts (reg s.context 2))) (by-line s.kernel s.context)
+by-who laws turns modules s pick see h few (Interrupted r serving i) =
+    subst (λ (c : Case). IsSafe s (by_case s pick c)) (sym (serves-at s.kernel s.context serving))
+    (serve-safe laws s pick serving.line see h r serving i serving.number serving.at)
+by-who laws turns modules s pick see h few (IdleInterrupted r serving e) =
+    subst (λ (c : Case). IsSafe s (by_case s pick c)) (sym (serves-at s.kernel s.context serving))
+    (serve-idle s pick serving.line h r serving e serving.number serving.at)
 by-who laws turns modules s pick see h few (AModule l good) = modules s pick see h few l good
 
 pub step-safe : Given → TurnLaws → ModuleStepLaw → StepLaw

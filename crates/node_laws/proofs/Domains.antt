@@ -20,7 +20,8 @@ use Rattle.node_model.specs.Sound.{IsDomain, HasRow, IsAppRowOf, IsSoundKernel, 
 
 -- ---- places
 
-pub of-app : (apps : List AppRow) (modules : List ModuleRow) (n : ℕ) (d : Domain) → n < 8 → IsDomain apps modules n d → (d.object.kind ≡ App) × IsAppRowOf d (get_or apps n free_app)
+pub of-app : (apps : List AppRow) (modules : List ModuleRow) (n : ℕ) (d : Domain) → n < 8 → IsDomain apps modules n d
+    → (d.object.kind ≡ App) × IsAppRowOf d (get_or apps n free_app)
 of-app apps modules n d l h =
     let e : kind_of n ≡ App = cond-true (nat_lt n 8) App Module (lt-ltb n 8 l) in
     (h.kind ∙ e, subst (λ (k : Kind). HasRow k apps modules n d) e h.row)
@@ -29,11 +30,16 @@ app-row : (k : Kernel) (n : ℕ) → n < 8 → domain_at k n ≡ app_domain (app
 app-row k n l = cond-true (nat_lt n 8) (app_domain (app_at k n)) _ (lt-ltb n 8 l)
 
 -- the places of an application's row lie in the pools
-app-well : (k : Kernel) (n : ℕ) (d : Domain) → n < 8 → IsSettledKernel k → IsDomain k.apps k.modules n d → IsAppRowOf d (app_at k n) → IsWellPlaced d
+app-well : (k : Kernel) (n : ℕ) (d : Domain) → n < 8 → IsSettledKernel k → IsDomain k.apps k.modules n d → IsAppRowOf d (app_at k n)
+    → IsWellPlaced d
 app-well k n d l h is row =
     let used : IsInUse k n = subst (λ (r : DomainRow). r.state ≢ free) (sym (app-row k n l)) row.used in
-    let code : IsInPool (pool_range Code) (app_domain (app_at k n)).code = subst (λ (r : DomainRow). IsInPool (pool_range Code) (range_in Code r)) (app-row k n l) (h.inside Code n (omega arith) used) in
-    let region : IsInPool (pool_range Data) (app_domain (app_at k n)).region = subst (λ (r : DomainRow). IsInPool (pool_range Data) (range_in Data r)) (app-row k n l) (h.inside Data n (omega arith) used) in
+    let code : IsInPool (pool_range Code) (app_domain (app_at k n)).code =
+    subst (λ (r : DomainRow). IsInPool (pool_range Code) (range_in Code r)) (app-row k n l)
+    (h.inside Code n (omega arith) used) in
+    let region : IsInPool (pool_range Data) (app_domain (app_at k n)).region =
+    subst (λ (r : DomainRow). IsInPool (pool_range Data) (range_in Data r)) (app-row k n l)
+    (h.inside Data n (omega arith) used) in
     record {
       code_even = omega (arith, code.from_even, row.code_lo);
       code_low = omega (arith, code.from, row.code_lo);
@@ -45,7 +51,8 @@ app-well k n d l h is row =
       statics = omega (arith, is.region);
     }
 
-pub app-placed : (k : Kernel) (ds : List (Option Domain)) (s n : ℕ) (d : Domain) → IsSoundKernel k ds s → n < 8 → domain_in ds n ≡ Some d → IsWellPlaced d
+pub app-placed : (k : Kernel) (ds : List (Option Domain)) (s n : ℕ) (d : Domain) → IsSoundKernel k ds s → n < 8
+    → domain_in ds n ≡ Some d → IsWellPlaced d
 app-placed k ds s n d h l e =
     let is : IsDomain k.apps k.modules n d = h.domains.placed n d e in
     app-well k n d l h.settled is (of-app k.apps k.modules n d l is).1
@@ -64,7 +71,8 @@ pub record IsStack (d : Domain) (low top : ℕ) : Type 0 where
   pub within_top : top ≤ d.hi
   pub room : low + 16 ≤ top
 
-pub stack-in : (apps : List AppRow) (t : ℕ) (d : Domain) → IsWellPlaced d → d.object.kind ≡ App → d.hi ≡ d.lo + region_length d.object → IsAppRowOf d (get_or apps (app_of t) free_app)
+pub stack-in : (apps : List AppRow) (t : ℕ) (d : Domain) → IsWellPlaced d → d.object.kind ≡ App
+    → d.hi ≡ d.lo + region_length d.object → IsAppRowOf d (get_or apps (app_of t) free_app)
     → number_of t < d.object.threads → IsStack d (low_in apps t) (top_in apps t)
 stack-in apps t d well app region row l =
     let o : Object = d.object in

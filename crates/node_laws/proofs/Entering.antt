@@ -70,7 +70,8 @@ untouched-call own k i = record {
   lines_pending = refl;
 }
 
-sound-entered : (k : Kernel) (ds : List (Option Domain)) (n : ℕ) (c : List ℕ) → IsSoundKernel k ds n → ThreadRuns k → (function_at k (reg c 12)).module < 4 → (module_at k (function_at k (reg c 12)).module).state ≡ live
+sound-entered : (k : Kernel) (ds : List (Option Domain)) (n : ℕ) (c : List ℕ) → IsSoundKernel k ds n → ThreadRuns k
+    → (function_at k (reg c 12)).module < 4 → (module_at k (function_at k (reg c 12)).module).state ≡ live
     → IsGoodFor k.apps ds (running k) c → is_mark ds (app_of (running k)) (reg c 0) ≡ true → IsSoundKernel (entered k c) ds n
 sound-entered k ds n c h r li alive good mark =
     let t : ℕ = running k in
@@ -106,7 +107,8 @@ small-list [] h k = omega arith
 small-list (x ∷ xs) h zero = h.0
 small-list (x ∷ xs) h (suc k) = small-list xs h.1 k
 
-first-context : (k : Kernel) (c : List ℕ) → (function_at k (reg c 12)).address % 2 ≡ 0 → (function_at k (reg c 12)).address < 65536 → IsContext c → IsContext (entered_context k c)
+first-context : (k : Kernel) (c : List ℕ) → (function_at k (reg c 12)).address % 2 ≡ 0 → (function_at k (reg c 12)).address < 65536
+    → IsContext c → IsContext (entered_context k c)
 first-context k c e l h =
     let z : 0 < 65536 = omega arith in
     record {
@@ -114,14 +116,16 @@ first-context k c e l h =
       pc_even = e;
       sp_even = refl;
       zero = refl;
-      small = small-list (entered_context k c) (l, (omega arith, (z, (z, (z, (z, (z, (z, (z, (z, (z, (z, (h.small 13, (h.small 14, (z, (z, tt))))))))))))))));
+      small = small-list (entered_context k c)
+          (l, (omega arith, (z, (z, (z, (z, (z, (z, (z, (z, (z, (z, (h.small 13, (h.small 14, (z, (z, tt))))))))))))))));
     }
 
 pub status-module : (k : Kind) → k ≡ Module → IsStatus (control_bits k) 0
 status-module Module e = record { high = refl; control = refl }
 status-module App e = absurd (cc)
 
-first-good : (s : System) (c : List ℕ) → IsSoundKernel s.kernel s.placed s.steps → IsContext c → reg c 12 < 64 → (function_at s.kernel (reg c 12)).module < 4 → (module_at s.kernel (function_at s.kernel (reg c 12)).module).state ≢ free
+first-good : (s : System) (c : List ℕ) → IsSoundKernel s.kernel s.placed s.steps → IsContext c → reg c 12 < 64
+    → (function_at s.kernel (reg c 12)).module < 4 → (module_at s.kernel (function_at s.kernel (reg c 12)).module).state ≢ free
     → IsGoodIn s.placed (8 + (function_at s.kernel (reg c 12)).module) 0x1000 0x1100 (entered_context s.kernel c)
 first-good s c h ctx lf li used =
     let k : Kernel = s.kernel in
@@ -145,9 +149,12 @@ first-good s c h ctx lf li used =
 
 -- ---- the call
 
-enters : Given → (s : System) (d : Domain) (pick : Option ℕ) (c : List ℕ) → IsCalling s d 0xF022 → IsReturned s d c → is_mark s.placed (app_of (running s.kernel)) (reg c 0) ≡ true → reg c 12 < 64
-    → (function_at s.kernel (reg c 12)).module ≢ none → (module_at s.kernel (function_at s.kernel (reg c 12)).module).state ≢ ended_module
-    → IsSafe s (by_turn s (goes_straight (entered s.kernel c) (entered_context s.kernel c) (called (record (work s pick) { context = c }) 0xF022)))
+enters : Given → (s : System) (d : Domain) (pick : Option ℕ) (c : List ℕ) → IsCalling s d 0xF022 → IsReturned s d c
+    → is_mark s.placed (app_of (running s.kernel)) (reg c 0) ≡ true → reg c 12 < 64
+    → (function_at s.kernel (reg c 12)).module ≢ none
+    → (module_at s.kernel (function_at s.kernel (reg c 12)).module).state ≢ ended_module
+    → IsSafe s (by_turn s (goes_straight (entered s.kernel c) (entered_context s.kernel c)
+    (called (record (work s pick) { context = c }) 0xF022)))
 enters laws s d pick c x is m lf some on =
     let k : Kernel = s.kernel in
     let i : ℕ = (function_at k (reg c 12)).module in
@@ -176,12 +183,17 @@ enters laws s d pick c x is m lf some on =
     within : (i : ℕ) → (module_at s.kernel i).state ≢ free → i < 4
     within i used = elim (cases_lt i 4) [
       | inl l ↦ l
-      | inr u ↦ absurd (used (ap (λ (r : ModuleRow). r.state) (get_or_past s.kernel.modules i free_module (let size = x.sound.kernel.settled.orderly.shape.module_rows in omega arith))))
+      | inr u ↦ absurd (used (ap (λ (r : ModuleRow). r.state)
+          (get_or_past s.kernel.modules i free_module
+          (let size = x.sound.kernel.settled.orderly.shape.module_rows in omega arith))))
     ]
 
-enter-by : Given → (s : System) (d : Domain) (pick : Option ℕ) (c : List ℕ) → IsCalling s d 0xF022 → IsReturned s d c → is_mark s.placed (app_of (running s.kernel)) (reg c 0) ≡ true
-    → (a : Bool) → nat_lt 63 (reg c 12) ≡ a → (b : Bool) → eqb (function_at s.kernel (reg c 12)).module none ≡ b → (e : Bool) → eqb (module_at s.kernel (function_at s.kernel (reg c 12)).module).state ended_module ≡ e
-    → IsSafe s (by_turn s (unless ModuleCall (record (work s pick) { context = c }) (cond (a || b) (Some NoFunction) (cond e (Some ModuleEnded) None))
+enter-by : Given → (s : System) (d : Domain) (pick : Option ℕ) (c : List ℕ) → IsCalling s d 0xF022 → IsReturned s d c
+    → is_mark s.placed (app_of (running s.kernel)) (reg c 0) ≡ true
+    → (a : Bool) → nat_lt 63 (reg c 12) ≡ a → (b : Bool) → eqb (function_at s.kernel (reg c 12)).module none ≡ b → (e : Bool)
+    → eqb (module_at s.kernel (function_at s.kernel (reg c 12)).module).state ended_module ≡ e
+    → IsSafe s (by_turn s (unless ModuleCall (record (work s pick) { context = c })
+    (cond (a || b) (Some NoFunction) (cond e (Some ModuleEnded) None))
     (goes_straight (entered s.kernel c) (entered_context s.kernel c) (called (record (work s pick) { context = c }) 0xF022))))
 enter-by laws s d pick c x is m true ea b eb e ee = code-safe laws s d pick ModuleCall NoFunction c x is
 enter-by laws s d pick c x is m false ea true eb e ee = code-safe laws s d pick ModuleCall NoFunction c x is
@@ -194,5 +206,8 @@ pub enter-turn : Given → TurnLaw ModuleCall
 enter-turn laws s pick see h few r good at =
     let x : IsCalling s good.domain 0xF022 = calling-so laws s see h r good (omega arith, omega arith) in
     let c : List ℕ = returned s.context (word_at (seen s) (reg s.context 1)) in
-    call-safe laws s good.domain pick ModuleCall x (omega arith) (λ e. enter-by laws s good.domain pick c x (behind-return laws s good.domain x (omega arith) e) (mark-behind laws s good.domain x (omega arith) e)
-    (nat_lt 63 (reg c 12)) refl (eqb (function_at s.kernel (reg c 12)).module none) refl (eqb (module_at s.kernel (function_at s.kernel (reg c 12)).module).state ended_module) refl)
+    call-safe laws s good.domain pick ModuleCall x (omega arith)
+    (λ e. enter-by laws s good.domain pick c x (behind-return laws s good.domain x (omega arith) e)
+    (mark-behind laws s good.domain x (omega arith) e)
+    (nat_lt 63 (reg c 12)) refl (eqb (function_at s.kernel (reg c 12)).module none) refl
+    (eqb (module_at s.kernel (function_at s.kernel (reg c 12)).module).state ended_module) refl)

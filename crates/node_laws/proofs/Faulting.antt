@@ -54,43 +54,76 @@ behind s k pick = record s { kernel = dispatched k pick; context = dispatched_co
 fault-keeps : (s t : System) → ThreadRuns s.kernel → AppFaulted (app_of (running s.kernel)) s t → FaultKeeps (who_runs s.kernel) s t
 fault-keeps s t r h = subst (λ (w : Who). FaultKeeps w s t) (sym (who-runs s.kernel r)) h
 
-faults-by : {entry : ℕ} → Given → (s : System) (d : Domain) (pick : Option ℕ) (f : FaultKind) (v : ℕ) → IsCalling s d entry → (IsAtEntry s (who_runs s.kernel) entry → IsConfinedFault s (who_runs s.kernel) f v)
-    → IsSafe s (by_turn s (record { kernel = dispatched (stopped_app s.kernel Faulted) pick; context = dispatched_context (stopped_app s.kernel Faulted) pick; shown = Fault (s.steps + 1) (who_runs s.kernel) f v }))
+faults-by : {entry : ℕ} → Given → (s : System) (d : Domain) (pick : Option ℕ) (f : FaultKind) (v : ℕ) → IsCalling s d entry
+    → (IsAtEntry s (who_runs s.kernel) entry → IsConfinedFault s (who_runs s.kernel) f v)
+    → IsSafe s (by_turn s (record {
+      kernel = dispatched (stopped_app s.kernel Faulted) pick;
+      context =
+          dispatched_context (stopped_app s.kernel Faulted) pick;
+      shown = Fault (s.steps + 1) (who_runs s.kernel) f v;
+    }))
 faults-by laws s d pick f v x confined =
     let k : Kernel = stopped_app s.kernel Faulted in
     let sound : IsSoundKernel k s.placed s.steps = sound-ended s.kernel s.placed s.steps Faulted x.sound.kernel x.runs in
-    let l : Leaves s k pick (Fault (s.steps + 1) (who_runs s.kernel) f v) = leaves s k pick (Fault (s.steps + 1) (who_runs s.kernel) f v) x.sound sound record { no_thread = refl; no_module = x.runs.no_module } (untouched-ended s.kernel Faulted) in
+    let l : Leaves s k pick (Fault (s.steps + 1) (who_runs s.kernel) f v) =
+    leaves s k pick (Fault (s.steps + 1) (who_runs s.kernel) f v) x.sound sound
+    record { no_thread = refl; no_module = x.runs.no_module } (untouched-ended s.kernel Faulted) in
     record {
       sound = l.sound;
       confined = confined (comes-from laws s d x);
-      keeps = fault-keeps s (behind s k pick) x.runs record { others = l.others; ended = faulted-then s.kernel pick x.sound.kernel.settled.orderly x.runs sound.settled.orderly };
+      keeps = fault-keeps s (behind s k pick) x.runs
+          record {
+            others = l.others;
+            ended =
+                faulted-then s.kernel pick x.sound.kernel.settled.orderly x.runs sound.settled.orderly;
+          };
       spelled = tt;
     }
 
 -- the running application's fault
-pub faults-safe : {entry : ℕ} → Given → (s : System) (d : Domain) (pick : Option ℕ) (f : FaultKind) (v : ℕ) → IsCalling s d entry → (IsAtEntry s (who_runs s.kernel) entry → IsConfinedFault s (who_runs s.kernel) f v)
+pub faults-safe : {entry : ℕ} → Given → (s : System) (d : Domain) (pick : Option ℕ) (f : FaultKind) (v : ℕ) → IsCalling s d entry
+    → (IsAtEntry s (who_runs s.kernel) entry → IsConfinedFault s (who_runs s.kernel) f v)
     → IsSafe s (by_turn s (faults (work s pick) f v))
 faults-safe laws s d pick f v x confined =
-    subst (λ (k : Kernel). IsSafe s (by_turn s (record { kernel = dispatched k pick; context = dispatched_context k pick; shown = Fault (s.steps + 1) (who_runs s.kernel) f v })))
+    subst (λ (k : Kernel). IsSafe s
+    (by_turn s (record {
+      kernel = dispatched k pick;
+      context = dispatched_context k pick;
+      shown =
+          Fault (s.steps + 1) (who_runs s.kernel) f v;
+    })))
     (sym (fault-kernel s.kernel x.runs)) (faults-by laws s d pick f v x confined)
 
 -- ---- jumps
 
-jumps-on : Given → (s : System) (d : Domain) (to e : ℕ) → IsCalling s d e → to < 65536 → is_mark s.placed (running_domain s.kernel) to ≡ true
+jumps-on : Given → (s : System) (d : Domain) (to e : ℕ) → IsCalling s d e → to < 65536
+    → is_mark s.placed (running_domain s.kernel) to ≡ true
     → IsSafe s (by_turn s (goes_straight s.kernel (set_reg s.context 0 to) (Entry (s.steps + 1) (who_runs s.kernel) e)))
 jumps-on laws s d to e x small is =
-    let mark : IsMark d to = mark-of s.placed (app_of (running s.kernel)) to d x.placed x.facts.is.accepted (subst (λ (n : ℕ). is_mark s.placed n to ≡ true) (domain-runs s.kernel x.runs) is) in
-    let steady : IsSteady (bits d) (low_in s.kernel.apps (running s.kernel)) (top_in s.kernel.apps (running s.kernel)) (set_reg s.context 0 to) = steady-reg (bits d) _ _ s.context 0 to x.good.steady (omega arith) (omega arith) small in
+    let mark : IsMark d to = mark-of s.placed (app_of (running s.kernel)) to d x.placed x.facts.is.accepted
+    (subst (λ (n : ℕ). is_mark s.placed n to ≡ true) (domain-runs s.kernel x.runs) is) in
+    let steady : IsSteady (bits d) (low_in s.kernel.apps (running s.kernel)) (top_in s.kernel.apps (running s.kernel))
+    (set_reg s.context 0 to) = steady-reg (bits d) _ _ s.context 0 to x.good.steady (omega arith) (omega arith) small in
     let there : even to ≡ reg (set_reg s.context 0 to) 0 = sym (pc_same s.context to x.good.steady.context) in
     let here : to ≡ even to = omega (arith, mark.even_at) in
     record {
       sound = record {
         code = x.sound.code;
         kernel = later s.kernel s.placed s.steps x.sound.kernel;
-        running = AThread x.runs record { domain = d; placed = x.placed; good = good-mark d _ _ (set_reg s.context 0 to) steady x.facts.well (subst (IsMark d) (here ∙ there) mark) };
+        running = AThread x.runs record {
+          domain = d;
+          placed = x.placed;
+          good =
+              good-mark d _ _ (set_reg s.context 0 to) steady x.facts.well (subst (IsMark d) (here ∙ there) mark);
+        };
       };
       confined = comes-from laws s d x;
-      keeps = step-keeps s (record s { context = set_reg s.context 0 to; steps = s.steps + 1 }) x.runs record { memory = memory-untouched (own_of s) s; kernel = kernel-same (own_of s) s.kernel (set_reg s.context 0 to); placed = refl };
+      keeps = step-keeps s (record s { context = set_reg s.context 0 to; steps = s.steps + 1 }) x.runs
+          record {
+            memory = memory-untouched (own_of s) s;
+            kernel = kernel-same (own_of s) s.kernel (set_reg s.context 0 to);
+            placed = refl;
+          };
       spelled = tt;
     }
 
@@ -98,26 +131,39 @@ jumps-on laws s d to e x small is =
 abbrev pub IsJump : System → (entry : ℕ) → Type 0
 IsJump s e = IsAtEntry s (who_runs s.kernel) e → IsAtEntry s (who_runs s.kernel) 0xF004 ⊎ IsAtEntry s (who_runs s.kernel) 0xF006
 
-jump-by : Given → (s : System) (d : Domain) (pick : Option ℕ) (e : Call) → IsCalling s d (entry_address e) → IsJump s (entry_address e) → (b : Bool) → is_mark s.placed (running_domain s.kernel) (reg s.context 4) ≡ b
-    → IsSafe s (by_turn s (cond b (goes_straight s.kernel (set_reg s.context 0 (reg s.context 4)) (called (work s pick) (entry_address e))) (faults (work s pick) Jump (reg s.context 4))))
+jump-by : Given → (s : System) (d : Domain) (pick : Option ℕ) (e : Call) → IsCalling s d (entry_address e)
+    → IsJump s (entry_address e) → (b : Bool) → is_mark s.placed (running_domain s.kernel) (reg s.context 4) ≡ b
+    → IsSafe s (by_turn s (cond b (goes_straight s.kernel (set_reg s.context 0 (reg s.context 4))
+    (called (work s pick) (entry_address e))) (faults (work s pick) Jump (reg s.context 4))))
 jump-by laws s d pick e x here true is = jumps-on laws s d (reg s.context 4) (entry_address e) x (x.good.steady.context.small 4) is
-jump-by laws s d pick e x here false is = faults-safe laws s d pick Jump (reg s.context 4) x (λ a. record { entry = here a; value_is = refl; no_mark = is })
+jump-by laws s d pick e x here false is =
+    faults-safe laws s d pick Jump (reg s.context 4) x (λ a. record { entry = here a; value_is = refl; no_mark = is })
 
-pub jump-safe : Given → (s : System) (d : Domain) (pick : Option ℕ) (e : Call) → IsCalling s d (entry_address e) → IsJump s (entry_address e) → IsSafe s (by_turn s (by_jump e (work s pick)))
-jump-safe laws s d pick e x here = jump-by laws s d pick e x here (is_mark s.placed (running_domain s.kernel) (reg s.context 4)) refl
+pub jump-safe : Given → (s : System) (d : Domain) (pick : Option ℕ) (e : Call) → IsCalling s d (entry_address e)
+    → IsJump s (entry_address e) → IsSafe s (by_turn s (by_jump e (work s pick)))
+jump-safe laws s d pick e x here =
+    jump-by laws s d pick e x here (is_mark s.placed (running_domain s.kernel) (reg s.context 4)) refl
 
 -- ---- calls
 
 -- the registers behind the return, or the fault
-call-by : Given → (s : System) (d : Domain) (pick : Option ℕ) (e : Call) → IsCalling s d (entry_address e) → 0xF00A ≤ entry_address e → (is_mark s.placed (running_domain s.kernel) (word_at (seen s) (reg s.context 1)) ≡ true → IsSafe s (by_turn s (row e (returning (work s pick)))))
+call-by : Given → (s : System) (d : Domain) (pick : Option ℕ) (e : Call) → IsCalling s d (entry_address e)
+    → 0xF00A ≤ entry_address e → (is_mark s.placed (running_domain s.kernel) (word_at (seen s) (reg s.context 1)) ≡ true
+    → IsSafe s (by_turn s (row e (returning (work s pick)))))
     → (b : Bool) → is_mark s.placed (running_domain s.kernel) (word_at (seen s) (reg s.context 1)) ≡ b
-    → IsSafe s (by_turn s (cond b (row e (returning (work s pick))) (faults (work s pick) Return (word_at (seen s) (reg s.context 1)))))
+    → IsSafe s (by_turn s (cond b (row e (returning (work s pick)))
+    (faults (work s pick) Return (word_at (seen s) (reg s.context 1)))))
 call-by laws s d pick e x high goes true is = goes is
-call-by laws s d pick e x high goes false is = faults-safe laws s d pick Return (word_at (seen s) (reg s.context 1)) x (λ a. record { entry = (entry_address e, high, a); value_is = refl; no_mark = is })
+call-by laws s d pick e x high goes false is =
+    faults-safe laws s d pick Return (word_at (seen s) (reg s.context 1)) x
+    (λ a. record { entry = (entry_address e, high, a); value_is = refl; no_mark = is })
 
-pub call-safe : Given → (s : System) (d : Domain) (pick : Option ℕ) (e : Call) → IsCalling s d (entry_address e) → 0xF00A ≤ entry_address e → (is_mark s.placed (running_domain s.kernel) (word_at (seen s) (reg s.context 1)) ≡ true → IsSafe s (by_turn s (row e (returning (work s pick)))))
+pub call-safe : Given → (s : System) (d : Domain) (pick : Option ℕ) (e : Call) → IsCalling s d (entry_address e)
+    → 0xF00A ≤ entry_address e → (is_mark s.placed (running_domain s.kernel) (word_at (seen s) (reg s.context 1)) ≡ true
+    → IsSafe s (by_turn s (row e (returning (work s pick)))))
     → IsSafe s (by_turn s (by_call e (work s pick)))
-call-safe laws s d pick e x high goes = call-by laws s d pick e x high goes (is_mark s.placed (running_domain s.kernel) (word_at (seen s) (reg s.context 1))) refl
+call-safe laws s d pick e x high goes =
+    call-by laws s d pick e x high goes (is_mark s.placed (running_domain s.kernel) (word_at (seen s) (reg s.context 1))) refl
 
 -- ---- the caller goes on
 
@@ -134,15 +180,24 @@ pub record IsCarriedOut (s : System) (k : Kernel) : Type 0 where
   pub own : (own_of s).threads (running k) ≡ true
   pub untouched : IsUntouched (own_of s) s.kernel k
 
-pub goes-safe : {entry : ℕ} → Given → (s : System) (d : Domain) (pick : Option ℕ) (k : Kernel) (c : List ℕ) (told : Record) → IsCalling s d entry → IsCarriedOut s k → IsGoodFor k.apps s.placed (running k) c → IsEntered s entry told
-    → IsSafe s (by_turn s (record { kernel = dispatched (moved_to_front (saved k c)) pick; context = dispatched_context (moved_to_front (saved k c)) pick; shown = told }))
+pub goes-safe : {entry : ℕ} → Given → (s : System) (d : Domain) (pick : Option ℕ) (k : Kernel) (c : List ℕ) (told : Record)
+    → IsCalling s d entry → IsCarriedOut s k → IsGoodFor k.apps s.placed (running k) c → IsEntered s entry told
+    → IsSafe s (by_turn s (record {
+      kernel = dispatched (moved_to_front (saved k c)) pick;
+      context =
+          dispatched_context (moved_to_front (saved k c)) pick;
+      shown = told;
+    }))
 goes-safe laws s d pick k c told x done good entered =
-    let rest : IsResting (own_of s) s.kernel (moved_to_front (saved k c)) s.placed s.steps = rests-front (own_of s) s.kernel k s.placed s.steps c done.sound done.runs done.own done.untouched good in
-    let l : Leaves s (moved_to_front (saved k c)) pick told = leaves s (moved_to_front (saved k c)) pick told x.sound rest.sound rest.none_runs rest.untouched in
+    let rest : IsResting (own_of s) s.kernel (moved_to_front (saved k c)) s.placed s.steps =
+    rests-front (own_of s) s.kernel k s.placed s.steps c done.sound done.runs done.own done.untouched good in
+    let l : Leaves s (moved_to_front (saved k c)) pick told =
+    leaves s (moved_to_front (saved k c)) pick told x.sound rest.sound rest.none_runs rest.untouched in
     record {
       sound = l.sound;
       confined = entered.confined (comes-from laws s d x);
-      keeps = entered.keeps (behind s (moved_to_front (saved k c)) pick) (step-keeps s (behind s (moved_to_front (saved k c)) pick) x.runs l.others);
+      keeps = entered.keeps (behind s (moved_to_front (saved k c)) pick)
+          (step-keeps s (behind s (moved_to_front (saved k c)) pick) x.runs l.others);
       spelled = entered.spelled (behind s (moved_to_front (saved k c)) pick);
     }
 
@@ -153,8 +208,11 @@ pub entered-by : (s : System) (e : ℕ) → IsEntered s e (Entry (s.steps + 1) (
 entered-by s e = record { confined = λ a. a; keeps = λ t k. k; spelled = λ t. tt }
 
 -- the registers behind the return of a call
-pub behind-return : {entry : ℕ} → Given → (s : System) (d : Domain) → IsCalling s d entry → 0xF006 ≤ reg s.context 0 → is_mark s.placed (running_domain s.kernel) (word_at (seen s) (reg s.context 1)) ≡ true → IsReturned s d (returned s.context (word_at (seen s) (reg s.context 1)))
-behind-return laws s d x l is = returns-to laws s d (word_at (seen s) (reg s.context 1)) x l (word-small (seen s) (reg s.context 1) x.see.memory) is
+pub behind-return : {entry : ℕ} → Given → (s : System) (d : Domain) → IsCalling s d entry → 0xF006 ≤ reg s.context 0
+    → is_mark s.placed (running_domain s.kernel) (word_at (seen s) (reg s.context 1)) ≡ true
+    → IsReturned s d (returned s.context (word_at (seen s) (reg s.context 1)))
+behind-return laws s d x l is =
+    returns-to laws s d (word_at (seen s) (reg s.context 1)) x l (word-small (seen s) (reg s.context 1) x.see.memory) is
 
 -- a code in R12
 code-small : (c : Code) → code_number c < 65536
@@ -165,49 +223,83 @@ code-small OwnLock = omega arith
 code-small NoFunction = omega arith
 code-small ModuleEnded = omega arith
 
-pub code-safe : Given → (s : System) (d : Domain) (pick : Option ℕ) (e : Call) (c : Code) (r : List ℕ) → IsCalling s d (entry_address e) → IsReturned s d r
-    → IsSafe s (by_turn s (goes_on (work s pick) s.kernel r (code_number c) (Entry (s.steps + 1) (who_runs s.kernel) (entry_address e))))
+pub code-safe : Given → (s : System) (d : Domain) (pick : Option ℕ) (e : Call) (c : Code) (r : List ℕ)
+    → IsCalling s d (entry_address e) → IsReturned s d r
+    → IsSafe s (by_turn s (goes_on (work s pick) s.kernel r (code_number c)
+    (Entry (s.steps + 1) (who_runs s.kernel) (entry_address e))))
 code-safe laws s d pick e c r x is =
-    goes-safe laws s d pick s.kernel (set_reg r 12 (code_number c)) _ x (nothing-done s x.sound x.runs) (good-returned s d _ x (with-register s d r 12 (code_number c) (omega arith) (code-small c) is)) (entered-by s (entry_address e))
+    goes-safe laws s d pick s.kernel (set_reg r 12 (code_number c)) _ x (nothing-done s x.sound x.runs)
+    (good-returned s d _ x (with-register s d r 12 (code_number c) (omega arith) (code-small c) is))
+    (entered-by s (entry_address e))
 
 -- ---- emit, self
 
-pub emits-safe : Given → (s : System) (d : Domain) (pick : Option ℕ) → IsCalling s d 0xF024 → 0xF006 ≤ reg s.context 0 → is_mark s.placed (running_domain s.kernel) (word_at (seen s) (reg s.context 1)) ≡ true
+pub emits-safe : Given → (s : System) (d : Domain) (pick : Option ℕ) → IsCalling s d 0xF024 → 0xF006 ≤ reg s.context 0
+    → is_mark s.placed (running_domain s.kernel) (word_at (seen s) (reg s.context 1)) ≡ true
     → IsSafe s (by_turn s (row Emits (returning (work s pick))))
 emits-safe laws s d pick x l is =
-    goes-safe laws s d pick s.kernel (set_reg (returned s.context (word_at (seen s) (reg s.context 1))) 12 0) _ x (nothing-done s x.sound x.runs)
-    (good-returned s d _ x (with-register s d _ 12 0 (omega arith) (omega arith) (behind-return laws s d x l is))) record { confined = λ a. (a, reg_other (raised s.context) 0 (word_at (seen s) (reg s.context 1)) 12 (omega arith) ∙ reg_other s.context 1 (sum_of (reg s.context 1) 2) 12 (omega arith)); keeps = λ t k. k; spelled = λ t. tt }
+    goes-safe laws s d pick s.kernel (set_reg (returned s.context (word_at (seen s) (reg s.context 1))) 12 0) _ x
+    (nothing-done s x.sound x.runs)
+    (good-returned s d _ x (with-register s d _ 12 0 (omega arith) (omega arith) (behind-return laws s d x l is)))
+    record {
+      confined = λ a. (
+        a,
+        reg_other (raised s.context) 0 (word_at (seen s) (reg s.context 1)) 12 (omega arith)
+            ∙ reg_other s.context 1 (sum_of (reg s.context 1) 2) 12 (omega arith),
+      );
+      keeps = λ t k. k;
+      spelled = λ t. tt;
+    }
 
-pub self-safe : Given → (s : System) (d : Domain) (pick : Option ℕ) → IsCalling s d 0xF012 → 0xF006 ≤ reg s.context 0 → is_mark s.placed (running_domain s.kernel) (word_at (seen s) (reg s.context 1)) ≡ true
+pub self-safe : Given → (s : System) (d : Domain) (pick : Option ℕ) → IsCalling s d 0xF012 → 0xF006 ≤ reg s.context 0
+    → is_mark s.placed (running_domain s.kernel) (word_at (seen s) (reg s.context 1)) ≡ true
     → IsSafe s (by_turn s (row Self (returning (work s pick))))
 self-safe laws s d pick x l is =
-    goes-safe laws s d pick s.kernel (set_reg (set_reg (returned s.context (word_at (seen s) (reg s.context 1))) 13 (256 * app_of (running s.kernel) + number_of (running s.kernel))) 12 0) _ x (nothing-done s x.sound x.runs)
-    (good-returned s d _ x (with-register s d _ 12 0 (omega arith) (omega arith) (with-register s d _ 13 _ (omega arith) (let t = x.runs.thread in omega arith) (behind-return laws s d x l is)))) (entered-by s 0xF012)
+    goes-safe laws s d pick s.kernel
+    (set_reg (set_reg (returned s.context (word_at (seen s) (reg s.context 1))) 13
+    (256 * app_of (running s.kernel) + number_of (running s.kernel))) 12 0) _ x (nothing-done s x.sound x.runs)
+    (good-returned s d _ x (with-register s d _ 12 0 (omega arith) (omega arith)
+    (with-register s d _ 13 _ (omega arith) (let t = x.runs.thread in omega arith) (behind-return laws s d x l is))))
+    (entered-by s 0xF012)
 
 -- ---- priority
 
-sound-priority : (k : Kernel) (ds : List (Option Domain)) (n : ℕ) (r : List ℕ) → IsSoundKernel k ds n → ThreadRuns k → get_or r 12 0 ≤ 7 → IsSoundKernel (with_priority k r) ds n
+sound-priority : (k : Kernel) (ds : List (Option Domain)) (n : ℕ) (r : List ℕ) → IsSoundKernel k ds n → ThreadRuns k
+    → get_or r 12 0 ≤ 7 → IsSoundKernel (with_priority k r) ds n
 sound-priority k ds n r h run p =
     let is : IsRunningRow k (running k) = running_is k h.settled.orderly run in
     let size : length k.threads ≡ 32 = h.settled.orderly.shape.thread_rows in
     record {
       settled = priority_stays_settled k r h.settled run p;
       domains = h.domains;
-      saved = saved-put k.apps ds k.threads (running k) (record (thread_at k (running k)) { priority = get_or r 12 0 }) (omega arith) (λ _ other. absurd (other is.state)) h.saved;
-      populated = populated-put k.apps k.threads (running k) (record (thread_at k (running k)) { priority = get_or r 12 0 }) (omega arith) (λ off. omega (arith, is.state)) h.populated;
+      saved = saved-put k.apps ds k.threads (running k) (record (thread_at k (running k)) { priority = get_or r 12 0 })
+          (omega arith) (λ _ other. absurd (other is.state)) h.saved;
+      populated = populated-put k.apps k.threads (running k) (record (thread_at k (running k)) { priority = get_or r 12 0 })
+          (omega arith) (λ off. omega (arith, is.state)) h.populated;
       functions = h.functions;
       bounded = h.bounded;
     }
 
-priority-by : Given → (s : System) (d : Domain) (pick : Option ℕ) (r : List ℕ) → IsCalling s d 0xF010 → IsReturned s d r → (b : Bool) → nat_lt 7 (get_or r 12 0) ≡ b
-    → IsSafe s (by_turn s (unless Priority (record (work s pick) { context = r }) (cond b (Some BadArgument) None) (after Priority (record (work s pick) { context = r }) (with_priority s.kernel r))))
+priority-by : Given → (s : System) (d : Domain) (pick : Option ℕ) (r : List ℕ) → IsCalling s d 0xF010 → IsReturned s d r
+    → (b : Bool) → nat_lt 7 (get_or r 12 0) ≡ b
+    → IsSafe s (by_turn s (unless Priority (record (work s pick) { context = r }) (cond b (Some BadArgument) None)
+    (after Priority (record (work s pick) { context = r }) (with_priority s.kernel r))))
 priority-by laws s d pick r x is true e = code-safe laws s d pick Priority BadArgument r x is
 priority-by laws s d pick r x is false e =
     goes-safe laws s d pick (with_priority s.kernel r) (set_reg r 12 0) _ x
-    record { sound = sound-priority s.kernel s.placed s.steps r x.sound.kernel x.runs (ltb-false 7 (get_or r 12 0) e); runs = record { thread = x.runs.thread; no_module = x.runs.no_module }; own = own-thread s; untouched = untouched-row (own_of s) s.kernel (running s.kernel) _ (own-thread s) }
+    record {
+      sound = sound-priority s.kernel s.placed s.steps r x.sound.kernel x.runs (ltb-false 7 (get_or r 12 0) e);
+      runs =
+          record { thread = x.runs.thread; no_module = x.runs.no_module };
+      own = own-thread s;
+      untouched =
+          untouched-row (own_of s) s.kernel (running s.kernel) _ (own-thread s);
+    }
     (good-returned s d _ x (with-register s d r 12 0 (omega arith) (omega arith) is)) (entered-by s 0xF010)
 
-pub priority-safe : Given → (s : System) (d : Domain) (pick : Option ℕ) → IsCalling s d 0xF010 → 0xF006 ≤ reg s.context 0 → is_mark s.placed (running_domain s.kernel) (word_at (seen s) (reg s.context 1)) ≡ true
+pub priority-safe : Given → (s : System) (d : Domain) (pick : Option ℕ) → IsCalling s d 0xF010 → 0xF006 ≤ reg s.context 0
+    → is_mark s.placed (running_domain s.kernel) (word_at (seen s) (reg s.context 1)) ≡ true
     → IsSafe s (by_turn s (row Priority (returning (work s pick))))
 priority-safe laws s d pick x l is =
-    priority-by laws s d pick (returned s.context (word_at (seen s) (reg s.context 1))) x (behind-return laws s d x l is) (nat_lt 7 (get_or (returned s.context (word_at (seen s) (reg s.context 1))) 12 0)) refl
+    priority-by laws s d pick (returned s.context (word_at (seen s) (reg s.context 1))) x (behind-return laws s d x l is)
+    (nat_lt 7 (get_or (returned s.context (word_at (seen s) (reg s.context 1))) 12 0)) refl

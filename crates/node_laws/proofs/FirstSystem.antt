@@ -26,7 +26,80 @@ small-list (x ∷ xs) h (suc k) = small-list xs h.1 k
 
 small-vectors : SmallAll vectors
 unfolding SmallAll
-small-vectors = small-list vectors ((omega arith, (omega arith, (omega arith, (omega arith, (omega arith, (omega arith, (omega arith, (omega arith, (omega arith, (omega arith, (omega arith, (omega arith, (omega arith, (omega arith, (omega arith, (omega arith, (omega arith, (omega arith, (omega arith, (omega arith, (omega arith, (omega arith, (omega arith, (omega arith, (omega arith, (omega arith, (omega arith, (omega arith, tt)))))))))))))))))))))))))))))
+small-vectors = small-list vectors
+    ((
+      omega arith,
+      (
+        omega arith,
+        (
+          omega arith,
+          (
+            omega arith,
+            (
+              omega arith,
+              (
+                omega arith,
+                (
+                  omega arith,
+                  (
+                    omega arith,
+                    (
+                      omega arith,
+                      (
+                        omega arith,
+                        (
+                          omega arith,
+                          (
+                            omega arith,
+                            (
+                              omega arith,
+                              (
+                                omega arith,
+                                (
+                                  omega arith,
+                                  (
+                                    omega arith,
+                                    (
+                                      omega arith,
+                                      (
+                                        omega arith,
+                                        (
+                                          omega arith,
+                                          (
+                                            omega arith,
+                                            (
+                                              omega arith,
+                                              (
+                                                omega arith,
+                                                (
+                                                  omega arith,
+                                                  (
+                                                    omega arith,
+                                                    (omega arith, (omega arith, (omega arith, (omega arith, tt)))),
+                                                  ),
+                                                ),
+                                              ),
+                                            ),
+                                          ),
+                                        ),
+                                      ),
+                                    ),
+                                  ),
+                                ),
+                              ),
+                            ),
+                          ),
+                        ),
+                      ),
+                    ),
+                  ),
+                ),
+              ),
+            ),
+          ),
+        ),
+      ),
+    ))
 
 free-row : (n i : ℕ) → (get_or (replicate n empty_row) i free_thread).state ≡ free
 free-row zero i = refl
@@ -39,7 +112,11 @@ nobody-placed n d e = (let clash : None ≡ Some d = sym (same_row 12 n None) �
 in-place : (m : List ℕ) → length m ≡ 65536 → SmallAll m → IsCodeInPlace (patch m 0xFFE0 vectors) (replicate 12 None)
 unfolding SmallAll
 in-place m e small = record {
-  memory = record { bytes = length-patch m vectors 0xFFE0 28 refl (omega arith) ∙ e; small = small-patch m vectors 0xFFE0 small small-vectors };
+  memory = record {
+    bytes = length-patch m vectors 0xFFE0 28 refl (omega arith) ∙ e;
+    small =
+        small-patch m vectors 0xFFE0 small small-vectors;
+  };
   code = λ n d f. absurd (nobody-placed n d f);
   vectors = λ n l. vectors-stand m n e l;
 }

@@ -50,7 +50,8 @@ idle-is = record { words = refl; pc_even = refl; sp_even = refl; zero = refl; sm
     small (suc (suc (suc (suc (suc (suc (suc (suc (suc (suc (suc (suc (suc (suc (suc (suc k)))))))))))))))) = omega arith
 
 -- from a system whose registers are those
-accept-from : (s : System) (n : ℕ) → IsSeen s → IsSound s → NoneRuns s.kernel → (c : List ℕ) → c ≡ s.context → IsContext c → reg c 1 ≡ 0x1100 → reg c 2 / 64 % 2 ≡ 0 → c ≡ idle_context → n < 14 → IsSafe s (acceptance s n)
+accept-from : (s : System) (n : ℕ) → IsSeen s → IsSound s → NoneRuns s.kernel → (c : List ℕ) → c ≡ s.context → IsContext c
+    → reg c 1 ≡ 0x1100 → reg c 2 / 64 % 2 ≡ 0 → c ≡ idle_context → n < 14 → IsSafe s (acceptance s n)
 accept-from s n see h r c is ctx sp bit idle l =
     subst (λ (x : List ℕ). IsSafe (record s { context = x }) (acceptance (record s { context = x }) n)) is here
   where
@@ -77,13 +78,16 @@ accept-from s n see h r c is ctx sp bit idle l =
 
     top : AllByRecursion (Within 0x10FC 0x1100) e.written
     top = subst (AllByRecursion (Within 0x10FC 0x1100)) (sym written)
-        (all-four (Within 0x10FC 0x1100) (reg c 1 - 4) (reg c 2 % 256) (reg c 2 / 256) (reg c 1 - 2) (reg c 0 % 256) (reg c 0 / 256) (omega arith, omega arith) (omega arith, omega arith) (omega arith, omega arith) (omega arith, omega arith))
+        (all-four (Within 0x10FC 0x1100) (reg c 1 - 4) (reg c 2 % 256) (reg c 2 / 256) (reg c 1 - 2) (reg c 0 % 256) (reg c 0 / 256)
+        (omega arith, omega arith) (omega arith, omega arith) (omega arith, omega arith) (omega arith, omega arith))
 
     pools : AllByRecursion IsInPools e.written
     pools = all-map (Within 0x10FC 0x1100) IsInPools (λ w i. inl (omega (arith, i.0), omega (arith, i.1))) e.written top
 
     small : AllByRecursion (λ (w : ℕ × ℕ). w.1 < 256) e.written
-    small = subst (AllByRecursion (λ (w : ℕ × ℕ). w.1 < 256)) (sym written) (all-four (λ (w : ℕ × ℕ). w.1 < 256) (reg c 1 - 4) (reg c 2 % 256) (reg c 2 / 256) (reg c 1 - 2) (reg c 0 % 256) (reg c 0 / 256) (omega arith) (omega arith) (omega arith) (omega arith))
+    small = subst (AllByRecursion (λ (w : ℕ × ℕ). w.1 < 256)) (sym written)
+        (all-four (λ (w : ℕ × ℕ). w.1 < 256) (reg c 1 - 4) (reg c 2 % 256) (reg c 2 / 256) (reg c 1 - 2) (reg c 0 % 256)
+        (reg c 0 / 256) (omega arith) (omega arith) (omega arith) (omega arith))
 
     memory : IsMemory (put_all s.memory e.written)
     memory = memory-after e.written s.memory h.code.memory small
@@ -92,12 +96,21 @@ accept-from s n see h r c is ctx sp bit idle l =
     serves = serving n (seen s) c l ctx room bit at
 
     back : interrupted (put_all s.memory e.written) e.context ≡ c
-    back = subst (λ (x : Effect). interrupted (put_all s.memory x.written) x.context ≡ c) (sym (same-accepted n (seen s) s.memory c vector)) (pushed-accepted n s.memory c h.code.memory.bytes ctx room)
+    back = subst (λ (x : Effect). interrupted (put_all s.memory x.written) x.context ≡ c)
+        (sym (same-accepted n (seen s) s.memory c vector)) (pushed-accepted n s.memory c h.code.memory.bytes ctx room)
 
     even-pc : word_at (put_all s.memory e.written) (reg e.context 1 + 2) % 2 ≡ 0
     even-pc =
-        let word : word_at (put_all s.memory (four (reg c 1 - 4) (reg c 2 % 256) (reg c 2 / 256) (reg c 1 - 2) (reg c 0 % 256) (reg c 0 / 256))) (reg c 1 - 4 + 2) ≡ reg c 0 % 256 + 256 * (reg c 0 / 256) = high_word s.memory (reg c 1 - 4) (reg c 2 % 256) (reg c 2 / 256) (reg c 1 - 2) (reg c 0 % 256) (reg c 0 / 256) (omega (arith, ctx.sp_even)) (omega arith) (omega (arith, h.code.memory.bytes, ctx.small 1)) in
-        let there : word_at (put_all s.memory e.written) (reg e.context 1 + 2) ≡ reg c 0 % 256 + 256 * (reg c 0 / 256) = ap (λ (ws : List (ℕ × ℕ)). word_at (put_all s.memory ws) (reg e.context 1 + 2)) written ∙ ap (λ (x : ℕ). word_at (put_all s.memory (four (reg c 1 - 4) (reg c 2 % 256) (reg c 2 / 256) (reg c 1 - 2) (reg c 0 % 256) (reg c 0 / 256))) (x + 2)) serves.1 ∙ word in
+        let word : word_at (put_all s.memory
+        (four (reg c 1 - 4) (reg c 2 % 256) (reg c 2 / 256) (reg c 1 - 2) (reg c 0 % 256) (reg c 0 / 256)))
+        (reg c 1 - 4 + 2) ≡ reg c 0 % 256 + 256 * (reg c 0 / 256) =
+        high_word s.memory (reg c 1 - 4) (reg c 2 % 256) (reg c 2 / 256) (reg c 1 - 2) (reg c 0 % 256) (reg c 0 / 256)
+        (omega (arith, ctx.sp_even)) (omega arith) (omega (arith, h.code.memory.bytes, ctx.small 1)) in
+        let there : word_at (put_all s.memory e.written) (reg e.context 1 + 2) ≡ reg c 0 % 256 + 256 * (reg c 0 / 256) =
+        ap (λ (ws : List (ℕ × ℕ)). word_at (put_all s.memory ws) (reg e.context 1 + 2)) written
+        ∙ ap (λ (x : ℕ). word_at (put_all s.memory
+        (four (reg c 1 - 4) (reg c 2 % 256) (reg c 2 / 256) (reg c 1 - 2) (reg c 0 % 256) (reg c 0 / 256))) (x + 2)) serves.1
+        ∙ word in
         omega (arith, there, ctx.pc_even)
 
     own : IsConfinedAccept (record s { context = c }) (who_runs s.kernel) n (reg c 0) e.written
@@ -107,22 +120,27 @@ accept-from s n see h r c is ctx sp bit idle l =
     here = record {
       sound = record {
         code = writes s e.written h.code h.kernel pools memory;
-        kernel = later (without_line s.kernel n) s.placed s.steps (sound-pending s.kernel s.placed s.steps (pending s.kernel - 2 ^ n) (omega (arith, h.kernel.bounded.lines)) h.kernel);
-        running = IdleInterrupted record { no_thread = r.no_thread; no_module = r.no_module } serves.0 record { idle = back ∙ idle; even_pc = even-pc };
+        kernel = later (without_line s.kernel n) s.placed s.steps
+            (sound-pending s.kernel s.placed s.steps (pending s.kernel - 2 ^ n) (omega (arith, h.kernel.bounded.lines)) h.kernel);
+        running = IdleInterrupted record { no_thread = r.no_thread; no_module = r.no_module } serves.0
+            record { idle = back ∙ idle; even_pc = even-pc };
       };
       confined = own;
       keeps = tt;
       spelled = tt;
     }
 
-pub accept-idle : (s : System) (n : ℕ) → IsSeen s → IsSound s → NoneRuns s.kernel → s.context ≡ idle_context → n < 14 → IsSafe s (acceptance s n)
+pub accept-idle : (s : System) (n : ℕ) → IsSeen s → IsSound s → NoneRuns s.kernel → s.context ≡ idle_context → n < 14
+    → IsSafe s (acceptance s n)
 accept-idle s n see h r e l = accept-from s n see h r idle_context (sym e) idle-is refl refl refl l
 
 -- ---- the routine
 
-sound-idle : (k : Kernel) (ds : List (Option Domain)) (n l : ℕ) (c : List ℕ) → l < 14 → IsSoundKernel k ds n → NoneRuns k → IsSoundKernel (served l k c) ds (n + 1) × NoneRuns (served l k c)
+sound-idle : (k : Kernel) (ds : List (Option Domain)) (n l : ℕ) (c : List ℕ) → l < 14 → IsSoundKernel k ds n → NoneRuns k
+    → IsSoundKernel (served l k c) ds (n + 1) × NoneRuns (served l k c)
 sound-idle k ds n l c below h r =
-    subst (λ (j : Kernel). IsSoundKernel j ds (n + 1) × NoneRuns j) (sym (cond-true (eqb (running k) none) _ _ (eq-eqb (running k) none r.no_thread)))
+    subst (λ (j : Kernel). IsSoundKernel j ds (n + 1) × NoneRuns j)
+    (sym (cond-true (eqb (running k) none) _ _ (eq-eqb (running k) none r.no_thread)))
     (cond_both (eqb l 0) (ticked k) (woken_line k l) (λ (j : Kernel). IsSoundKernel j ds (n + 1) × NoneRuns j)
     (λ _. (sound-ticked k ds n h, none-still k (ticked k) (ticked-same k) r))
     (λ _. (later (woken_line k l) ds n (sound-woken k ds n l below h), none-still k (woken_line k l) (woken-same k l) r)))
@@ -130,10 +148,20 @@ sound-idle k ds n l c below h r =
     none-still : (k j : Kernel) → SameRuns k j → NoneRuns k → NoneRuns j
     none-still k j s r = record { no_thread = s.running ∙ r.no_thread; no_module = s.in_module ∙ r.no_module }
 
-pub serve-idle : (s : System) (pick : Option ℕ) (l : ℕ) → IsSound s → NoneRuns s.kernel → IsServing s.context → IsIdleInterrupted s.memory s.context → l < 14 → reg s.context 0 ≡ 0xF080 + 2 * l → IsSafe s (by_turn s (vector_turn l (seen s) (work s pick)))
+pub serve-idle : (s : System) (pick : Option ℕ) (l : ℕ) → IsSound s → NoneRuns s.kernel → IsServing s.context
+    → IsIdleInterrupted s.memory s.context → l < 14 → reg s.context 0 ≡ 0xF080 + 2 * l
+    → IsSafe s (by_turn s (vector_turn l (seen s) (work s pick)))
 serve-idle s pick l h r serving i below at =
     let c : List ℕ = interrupted (seen s) s.context in
-    let k : IsSoundKernel (served l s.kernel c) s.placed (s.steps + 1) × NoneRuns (served l s.kernel c) = sound-idle s.kernel s.placed s.steps l c below h.kernel r in
-    let d : IsSoundKernel (dispatched (served l s.kernel c) pick) s.placed (s.steps + 1) × IsRunning s.memory (dispatched_context (served l s.kernel c) pick) (dispatched (served l s.kernel c) pick) s.placed =
+    let k : IsSoundKernel (served l s.kernel c) s.placed (s.steps + 1) × NoneRuns (served l s.kernel c) =
+    sound-idle s.kernel s.placed s.steps l c below h.kernel r in
+    let d : IsSoundKernel (dispatched (served l s.kernel c) pick) s.placed (s.steps + 1)
+    × IsRunning s.memory (dispatched_context (served l s.kernel c) pick) (dispatched (served l s.kernel c) pick) s.placed =
     dispatch s.memory (served l s.kernel c) s.placed (s.steps + 1) pick k.0 k.1 in
-    record { sound = record { code = h.code; kernel = d.0; running = d.1 }; confined = record { number = below; at = at; cleared = serving.cleared; pushed = inr (r, i) }; keeps = tt; spelled = tt }
+    record {
+      sound = record { code = h.code; kernel = d.0; running = d.1 };
+      confined =
+          record { number = below; at = at; cleared = serving.cleared; pushed = inr (r, i) };
+      keeps = tt;
+      spelled = tt;
+    }

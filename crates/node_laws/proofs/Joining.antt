@@ -14,7 +14,8 @@ use Rattle.node_laws.proofs.Modules.{module-step}
 
 pub each-turn : Given → TurnLaws
 each-turn laws =
-    turns laws (exit-turn laws) (sleep-turn laws) (ticks-turn laws) (lock-turn laws) (unlock-turn laws) (wait-turn laws) (signal-turn laws)
+    turns laws (exit-turn laws) (sleep-turn laws) (ticks-turn laws) (lock-turn laws) (unlock-turn laws) (wait-turn laws)
+    (signal-turn laws)
     (broadcast-turn laws) (line-turn laws) (enter-turn laws)
 
 pub each-step : Given → StepLaw

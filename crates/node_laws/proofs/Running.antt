@@ -9,10 +9,12 @@ use Rattle.node_model.specs.Nodes.{most_steps, AreSound, IsSoundNext, NextLaw, R
 abbrev SoundSo : Script → System → Run → Type 0
 SoundSo t s r = AreSound t s r.records r.last
 
-by-quiet : (t : Script) (n : ℕ) (s : System) → IsSound s → IsSoundNext t s → SoundSo t (next t s).system (run n t (next t s).system) → (b : Bool) → is_quiet t s ≡ b
+by-quiet : (t : Script) (n : ℕ) (s : System) → IsSound s → IsSoundNext t s → SoundSo t (next t s).system (run n t (next t s).system)
+    → (b : Bool) → is_quiet t s ≡ b
     → SoundSo t s (cond b (ended_run s) (after (next t s).shown (run n t (next t s).system)))
 by-quiet t n s h x rest true e = (h, refl)
-by-quiet t n s h x rest false e = (record { sound = h; shown = refl; confined = x.confined; keeps = x.keeps; spelled = x.spelled }, rest)
+by-quiet t n s h x rest false e =
+    (record { sound = h; shown = refl; confined = x.confined; keeps = x.keeps; spelled = x.spelled }, rest)
 
 pub run-sound : (t : Script) → NextLaw t → RunLaw t
 unfolding run

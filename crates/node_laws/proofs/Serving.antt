@@ -45,19 +45,29 @@ line-waits k n o u c =
 -- ---- the kernel behind it
 
 -- a kernel in which these threads woke, where all else is that of a sound one
-sound-each : (k k1 : Kernel) (ts : List ℕ) (ds : List (Option Domain)) (n m : ℕ) → IsSoundKernel k ds n → k1.threads ≡ k.threads → k1.apps ≡ k.apps → k1.modules ≡ k.modules → k1.functions ≡ k.functions
-    → AllByRecursion (Waits k.threads) ts → IsSettledKernel (each_to_end k1 ts) → AreBounded (tick_number (each_to_end k1 ts)) (each_to_end k1 ts).budget (each_to_end k1 ts).module_now (each_to_end k1 ts).pending m
+sound-each : (k k1 : Kernel) (ts : List ℕ) (ds : List (Option Domain)) (n m : ℕ) → IsSoundKernel k ds n → k1.threads ≡ k.threads
+    → k1.apps ≡ k.apps → k1.modules ≡ k.modules → k1.functions ≡ k.functions
+    → AllByRecursion (Waits k.threads) ts → IsSettledKernel (each_to_end k1 ts)
+    → AreBounded (tick_number (each_to_end k1 ts)) (each_to_end k1 ts).budget (each_to_end k1 ts).module_now
+    (each_to_end k1 ts).pending m
     → IsSoundKernel (each_to_end k1 ts) ds m
 sound-each k k1 ts ds n m h et ea em ef w settled bounded =
     let j : Kernel = each_to_end k1 ts in
     let left : IsWoken k1 j = each-leaves ts k1 in
     let apps : j.apps ≡ k.apps = left.apps ∙ ea in
     let well : AreWell k.apps ds j.threads = each-well ts k1 k.apps ds
-    record { size = ap length et ∙ h.settled.orderly.shape.thread_rows; saved = subst (λ (x : List ThreadRow). AreSaved k.apps ds x) (sym et) h.saved; populated = subst (λ (x : List ThreadRow). ArePopulated k.apps x) (sym et) h.populated }
+    record {
+      size = ap length et ∙ h.settled.orderly.shape.thread_rows;
+      saved =
+          subst (λ (x : List ThreadRow). AreSaved k.apps ds x) (sym et) h.saved;
+      populated =
+          subst (λ (x : List ThreadRow). ArePopulated k.apps x) (sym et) h.populated;
+    }
     (subst (λ (x : List ThreadRow). AllByRecursion (Waits x) ts) (sym et) w) in
     record {
       settled = settled;
-      domains = subst (λ (x : List AppRow). AreDomains x j.modules ds) (sym apps) (subst (λ (x : List ModuleRow). AreDomains k.apps x ds) (sym (left.modules ∙ em)) h.domains);
+      domains = subst (λ (x : List AppRow). AreDomains x j.modules ds) (sym apps)
+          (subst (λ (x : List ModuleRow). AreDomains k.apps x ds) (sym (left.modules ∙ em)) h.domains);
       saved = subst (λ (x : List AppRow). AreSaved x ds j.threads) (sym apps) well.saved;
       populated = subst (λ (x : List AppRow). ArePopulated x j.threads) (sym apps) well.populated;
       functions = subst (λ (x : List FnRow). AreFunctions x ds) (sym (left.functions ∙ ef)) h.functions;
@@ -70,7 +80,8 @@ with-tick k = with_word (with_word k TickLow ((tick_number k + 1) % 65536)) Tick
 abbrev pub due : Kernel → ℕ
 due k = prefix_len (λ t. nat_le (wake_time k t) (tick_number k + 1)) k.sleepers
 
-pub ticked-is : (k : Kernel) → ticked k ≡ each_to_end (with_sleepers (with-tick k) (drop (due k) k.sleepers)) (take (due k) k.sleepers)
+pub ticked-is : (k : Kernel) → ticked k ≡ each_to_end (with_sleepers (with-tick k) (drop (due k) k.sleepers))
+    (take (due k) k.sleepers)
 unfolding ticked
 ticked-is k = refl
 
@@ -80,7 +91,8 @@ sound-ticked k ds n h =
     let ts : List ℕ = take (due k) k.sleepers in
     let left : IsWoken k1 (each_to_end k1 ts) = each-leaves ts k1 in
     subst (λ (j : Kernel). IsSoundKernel j ds (n + 1)) (sym (ticked-is k))
-    (sound-each k k1 ts ds n (n + 1) h refl refl refl refl (all-take (Waits k.threads) (due k) k.sleepers (all-from (Waits k.threads) k.sleepers (sleeper-waits k h.settled.orderly)))
+    (sound-each k k1 ts ds n (n + 1) h refl refl refl refl
+    (all-take (Waits k.threads) (due k) k.sleepers (all-from (Waits k.threads) k.sleepers (sleeper-waits k h.settled.orderly)))
     (subst (λ (j : Kernel). IsSettledKernel j) (ticked-is k) (ticked_stays_settled k h.settled))
     record {
       ticks = omega (arith, left.low, left.high, h.bounded.ticks);
@@ -93,7 +105,8 @@ pub woken-is : (k : Kernel) (n : ℕ) → woken_line k n ≡ each_to_end (with_l
 unfolding woken_line
 woken-is k n = refl
 
-pub sound-woken : (k : Kernel) (ds : List (Option Domain)) (n l : ℕ) → l < 14 → IsSoundKernel k ds n → IsSoundKernel (woken_line k l) ds n
+pub sound-woken : (k : Kernel) (ds : List (Option Domain)) (n l : ℕ) → l < 14 → IsSoundKernel k ds n
+    → IsSoundKernel (woken_line k l) ds n
 sound-woken k ds n l below h =
     let k1 : Kernel = with_line k l [] in
     let ts : List ℕ = line_at k l in

@@ -36,7 +36,8 @@ record IsStarting (ds : List (Option Domain)) (k : Kernel) (m : ℕ) : Type 0 wh
   none_runs : NoneRuns k
   populated : (a : ℕ) → a < m → a < 8 → (app_at k a).state ≡ live → HasThread k.threads a
   unborn : (a : ℕ) → m ≤ a → a < 8 → (thread_at k (identity a 0)).state ≡ free
-  entries : (a : ℕ) (d : Domain) → m ≤ a → a < 8 → domain_in ds a ≡ Some d → is_mark ds a (reg (thread_at k (identity a 0)).regs 0) ≡ true
+  entries : (a : ℕ) (d : Domain) → m ≤ a → a < 8 → domain_in ds a ≡ Some d
+      → is_mark ds a (reg (thread_at k (identity a 0)).regs 0) ≡ true
   all_live : (a : ℕ) → a < 8 → (app_at k a).state ≢ free → (app_at k a).state ≡ live
 
 -- its first context
@@ -44,7 +45,8 @@ record IsFirst (ds : List (Option Domain)) (k : Kernel) (t pc : ℕ) : Type 0 wh
   may : MayBegin k t
   good : IsGoodFor k.apps ds t (new_context pc (stack_high k t) 0)
 
-first-is : (ds : List (Option Domain)) (k : Kernel) (m : ℕ) (d : Domain) → m < 8 → IsStarting ds k m → domain_in ds m ≡ Some d → IsFirst ds k (identity m 0) (reg (thread_at k (identity m 0)).regs 0)
+first-is : (ds : List (Option Domain)) (k : Kernel) (m : ℕ) (d : Domain) → m < 8 → IsStarting ds k m → domain_in ds m ≡ Some d
+    → IsFirst ds k (identity m 0) (reg (thread_at k (identity m 0)).regs 0)
 first-is ds k m d l h e =
     let t : ℕ = identity m 0 in
     let pc : ℕ = reg (thread_at k t).regs 0 in
@@ -58,7 +60,8 @@ first-is ds k m d l h e =
     let row-t : IsAppRowOf d (app_at k (app_of t)) = subst (λ (a : ℕ). IsAppRowOf d (app_at k a)) (sym app) row in
     let stack : IsStack d (low_in k.apps t) (top_in k.apps t) = stack-in k.apps t d well own.0 is.region row-t (omega arith) in
     let steady : IsSteady (bits d) (low_in k.apps t) (top_in k.apps t) (new_context pc (stack_high k t) 0) = record {
-      context = new-context pc (stack_high k t) 0 mark.even_at stack.top_even (omega (arith, mark.to, well.code_high)) (omega (arith, stack.within_top, well.hi_high)) (omega arith);
+      context = new-context pc (stack_high k t) 0 mark.even_at stack.top_even (omega (arith, mark.to, well.code_high))
+          (omega (arith, stack.within_top, well.hi_high)) (omega arith);
       room = omega (arith, stack.room);
       within = omega arith;
       status = status-new d.object.kind own.0;
@@ -70,14 +73,20 @@ first-is ds k m d l h e =
         within = subst (λ (a : ℕ). t < identity a (app_at k a).threads) (sym app) (omega (arith, row.threads));
         free = h.unborn m (omega arith) l;
       };
-      good = record { domain = d; placed = ap (domain_in ds) app ∙ e; good = good-mark d _ _ (new_context pc (stack_high k t) 0) steady well mark };
+      good = record {
+        domain = d;
+        placed = ap (domain_in ds) app ∙ e;
+        good =
+            good-mark d _ _ (new_context pc (stack_high k t) 0) steady well mark;
+      };
     }
 
 first-row : (k : Kernel) (t pc : ℕ) → ThreadRow
 first-row k t pc = record (thread_at k t) { regs = new_context pc (stack_high k t) 0; priority = 3 }
 
 -- one starts
-one-starts : (ds : List (Option Domain)) (k : Kernel) (m : ℕ) (o : Option Domain) → m < 8 → IsStarting ds k m → domain_in ds m ≡ o → IsStarting ds (started_if o k m) (m + 1)
+one-starts : (ds : List (Option Domain)) (k : Kernel) (m : ℕ) (o : Option Domain) → m < 8 → IsStarting ds k m → domain_in ds m ≡ o
+    → IsStarting ds (started_if o k m) (m + 1)
 unfolding first-row
 one-starts ds k m None l h e = record {
   settled = h.settled;
@@ -87,7 +96,8 @@ one-starts ds k m None l h e = record {
   bounded = h.bounded;
   none_runs = h.none_runs;
   populated = λ a la lb alive. elim (cases_eq a m) [
-    | inl q ↦ let has : HasDomain ds a = h.domains.apps_used a lb (λ z. omega (arith, alive)) in let clash : Some has.0 ≡ None = sym has.1 ∙ ap (domain_in ds) q ∙ e in absurd (cc clash)
+    | inl q ↦ let has : HasDomain ds a = h.domains.apps_used a lb (λ z. omega (arith, alive)) in let clash : Some has.0 ≡ None =
+        sym has.1 ∙ ap (domain_in ds) q ∙ e in absurd (cc clash)
     | inr n ↦ h.populated a (omega arith) lb alive
   ];
   unborn = λ a la lb. h.unborn a (omega arith) lb;
@@ -97,17 +107,29 @@ one-starts ds k m None l h e = record {
 one-starts ds k m (Some d) l h e = record {
   settled = begun_stays_settled k t pc 3 0 h.settled first.may (omega arith);
   domains = h.domains;
-  saved = saved-put k.apps ds k1.threads t (ready_row (thread_at k1 t)) lt1 (λ _ _. record { good = subst (λ (r : ThreadRow). IsGoodFor k.apps ds t r.regs) (sym same) first.good; mark = λ other. absurd (other refl) })
+  saved = saved-put k.apps ds k1.threads t (ready_row (thread_at k1 t)) lt1
+      (λ _ _. record {
+        good = subst (λ (r : ThreadRow). IsGoodFor k.apps ds t r.regs) (sym same) first.good;
+        mark =
+            λ other. absurd (other refl);
+      })
       (saved-put k.apps ds k.threads t (first-row k t pc) lt (λ on. absurd (on first.may.free)) h.saved);
   functions = h.functions;
   bounded = h.bounded;
   none_runs = record { no_thread = h.none_runs.no_thread; no_module = h.none_runs.no_module };
   populated = λ a la lb alive. elim (cases_eq a m) [
-    | inl q ↦ (0, omega arith, (λ z. let here = ap (λ (r : ThreadRow). r.state) (get_or-set_same k1.threads t (ready_row (thread_at k1 t)) free_thread lt1) in let there = ap (λ (b : ℕ). (thread_at k2 (identity b 0)).state) q in omega (arith, here, there, z)))
+    | inl q ↦ (
+      0,
+      omega arith,
+      (λ z. let here =
+          ap (λ (r : ThreadRow). r.state) (get_or-set_same k1.threads t (ready_row (thread_at k1 t)) free_thread lt1) in let there =
+          ap (λ (b : ℕ). (thread_at k2 (identity b 0)).state) q in omega (arith, here, there, z)),
+    )
     | inr n ↦ still a n (h.populated a (omega arith) lb alive)
   ];
   unborn = λ a la lb. ap (λ (r : ThreadRow). r.state) (other (identity a 0) (λ q. omega arith)) ∙ h.unborn a (omega arith) lb;
-  entries = λ a x la lb f. ap (λ (r : ThreadRow). is_mark ds a (reg r.regs 0)) (other (identity a 0) (λ q. omega arith)) ∙ h.entries a x (omega arith) lb f;
+  entries = λ a x la lb f. ap (λ (r : ThreadRow). is_mark ds a (reg r.regs 0)) (other (identity a 0) (λ q. omega arith))
+      ∙ h.entries a x (omega arith) lb f;
   all_live = h.all_live;
 }
   where
@@ -136,7 +158,8 @@ one-starts ds k m (Some d) l h e = record {
     lt1 = omega (arith, lt, length-set k.threads t (first-row k t pc))
 
     other : (u : ℕ) → u ≢ t → thread_at k2 u ≡ thread_at k u
-    other u n = get_or-set_other k1.threads t u (ready_row (thread_at k1 t)) free_thread n ∙ get_or-set_other k.threads t u (first-row k t pc) free_thread n
+    other u n = get_or-set_other k1.threads t u (ready_row (thread_at k1 t)) free_thread n
+        ∙ get_or-set_other k.threads t u (first-row k t pc) free_thread n
 
     still : (a : ℕ) → a ≢ m → HasThread k.threads a → HasThread k2.threads a
     still a n x = (x.0, x.1, subst (λ (r : ThreadRow). r.state ≢ free) (sym (other (identity a x.0) (apart x.0 x.1))) x.2)
@@ -158,7 +181,13 @@ started-sound s h =
       domains = h.domains;
       saved = λ t l on. absurd (on (h.unborn t l));
       functions = h.functions;
-      bounded = record { ticks = omega (arith, h.fresh.0); count = omega (arith, h.fresh.1); no_count = λ _. h.fresh.1; lines = omega (arith, h.fresh.2) };
+      bounded = record {
+        ticks = omega (arith, h.fresh.0);
+        count = omega (arith, h.fresh.1);
+        no_count = λ _. h.fresh.1;
+        lines =
+            omega (arith, h.fresh.2);
+      };
       none_runs = h.none_runs;
       populated = λ a la. absurd (omega arith);
       unborn = λ a la lb. h.unborn (identity a 0) (omega arith);

@@ -71,12 +71,14 @@ places-of k n d h = elim (cases_lt n 8) [ inl l ↦ app l | inr l ↦ of-module 
         let e : kind_of n ≡ Module = cond-false (nat_lt n 8) App Module (le-ltb n 8 l) in
         let row : HasRow Module k.apps k.modules n d = subst (λ (x : Kind). HasRow x k.apps k.modules n d) e h.row in
         let here : n - 8 ≡ row.0 = (let x = row.1 in omega arith) in
-        subst (λ (r : DomainRow). HasPlaces r d) (sym (cond-false (nat_lt n 8) _ (module_domain (module_at k (n - 8))) (le-ltb n 8 l)))
+        subst (λ (r : DomainRow). HasPlaces r d)
+        (sym (cond-false (nat_lt n 8) _ (module_domain (module_at k (n - 8))) (le-ltb n 8 l)))
         (subst (λ (m : ℕ). HasPlaces (module_domain (module_at k m)) d) (sym here)
         record { used = row.2.used; code_from = row.2.code_lo; code_to = row.2.code_hi; from = row.2.lo; to = row.2.hi })
 
 -- code lies in the code pool
-pub code-in-pool : (k : Kernel) (n : ℕ) (d : Domain) → IsSettledKernel k → IsDomain k.apps k.modules n d → (0x6000 ≤ d.code_lo) × (d.code_lo + code_length d.object ≤ 0xE000)
+pub code-in-pool : (k : Kernel) (n : ℕ) (d : Domain) → IsSettledKernel k → IsDomain k.apps k.modules n d → (0x6000 ≤ d.code_lo)
+    × (d.code_lo + code_length d.object ≤ 0xE000)
 code-in-pool k n d h is =
     let p : HasPlaces (domain_at k n) d = places-of k n d is in
     let i : IsInPool (pool_range Code) (domain_at k n).code = h.inside Code n is.below p.used in
@@ -100,7 +102,8 @@ well-placed k n d h is =
     }
 
 -- a module's row
-pub of-module : (k : Kernel) (i : ℕ) (d : Domain) → IsDomain k.apps k.modules (8 + i) d → (d.object.kind ≡ Module) × IsModuleRowOf d (module_at k i)
+pub of-module : (k : Kernel) (i : ℕ) (d : Domain) → IsDomain k.apps k.modules (8 + i) d → (d.object.kind ≡ Module)
+    × IsModuleRowOf d (module_at k i)
 of-module k i d h =
     let e : kind_of (8 + i) ≡ Module = cond-false (nat_lt (8 + i) 8) App Module (le-ltb (8 + i) 8 (omega arith)) in
     let row : HasRow Module k.apps k.modules (8 + i) d = subst (λ (x : Kind). HasRow x k.apps k.modules (8 + i) d) e h.row in
@@ -109,7 +112,8 @@ of-module k i d h =
 
 -- ---- writes
 
-avoids : (from to : ℕ) (ws : List (ℕ × ℕ)) → 0x6000 ≤ from → AllByRecursion IsInPools ws → AllByRecursion (λ w. (w.0 < from) ⊎ (to ≤ w.0)) ws
+avoids : (from to : ℕ) (ws : List (ℕ × ℕ)) → 0x6000 ≤ from → AllByRecursion IsInPools ws
+    → AllByRecursion (λ w. (w.0 < from) ⊎ (to ≤ w.0)) ws
 avoids from to ws l h = all-map IsInPools (λ w. (w.0 < from) ⊎ (to ≤ w.0)) each ws h
   where
     each : (w : ℕ × ℕ) → IsInPools w → (w.0 < from) ⊎ (to ≤ w.0)
@@ -120,18 +124,23 @@ pub writes : WritesLaw
 writes s ws h k inside memory = record {
   memory = memory;
   code = λ n d e j l.
-      let pool : (0x6000 ≤ d.code_lo) × (d.code_lo + code_length d.object ≤ 0xE000) = code-in-pool s.kernel n d k.settled (k.domains.placed n d e) in
-      part-stays d.code_lo (d.code_lo + j + 1) s.memory ws (avoids d.code_lo (d.code_lo + j + 1) ws pool.0 inside) (d.code_lo + j) (omega arith) (omega arith) ∙ h.code n d e j l;
+      let pool : (0x6000 ≤ d.code_lo) × (d.code_lo + code_length d.object ≤ 0xE000) =
+      code-in-pool s.kernel n d k.settled (k.domains.placed n d e) in
+      part-stays d.code_lo (d.code_lo + j + 1) s.memory ws (avoids d.code_lo (d.code_lo + j + 1) ws pool.0 inside) (d.code_lo + j)
+      (omega arith) (omega arith) ∙ h.code n d e j l;
   vectors = λ n l.
-      word-stays 65504 65536 s.memory (put_all s.memory ws) (65504 + 2 * n) (part-stays 65504 65536 s.memory ws (avoids 65504 65536 ws (omega arith) inside)) (omega arith) (omega arith)
+      word-stays 65504 65536 s.memory (put_all s.memory ws) (65504 + 2 * n)
+      (part-stays 65504 65536 s.memory ws (avoids 65504 65536 ws (omega arith) inside)) (omega arith) (omega arith)
       ∙ h.vectors n l;
 }
 
 -- ---- what is seen of a domain's code
 
-pub code-seen : (s : System) (n : ℕ) (d : Domain) → IsSeen s → IsCodeInPlace s.memory s.placed → IsSoundKernel s.kernel s.placed s.steps → domain_in s.placed n ≡ Some d → HasBytes (seen s) d.code_lo (code_image d)
+pub code-seen : (s : System) (n : ℕ) (d : Domain) → IsSeen s → IsCodeInPlace s.memory s.placed
+    → IsSoundKernel s.kernel s.placed s.steps → domain_in s.placed n ≡ Some d → HasBytes (seen s) d.code_lo (code_image d)
 code-seen s n d see h k e j l =
-    let pool : (0x6000 ≤ d.code_lo) × (d.code_lo + code_length d.object ≤ 0xE000) = code-in-pool s.kernel n d k.settled (k.domains.placed n d e) in
+    let pool : (0x6000 ≤ d.code_lo) × (d.code_lo + code_length d.object ≤ 0xE000) =
+    code-in-pool s.kernel n d k.settled (k.domains.placed n d e) in
     see.above (d.code_lo + j) (omega (arith, pool.0)) ∙ h.code n d e j l
 
 pub stands-so : Given → (d : Domain) (m : List ℕ) → d.code_lo % 2 ≡ 0 → HasBytes m d.code_lo (code_image d) → CodeStands d m
@@ -151,21 +160,30 @@ pub record IsThread (s : System) (d : Domain) : Type 0 where
   pub stack : IsStack d (low_in s.kernel.apps (running s.kernel)) (top_in s.kernel.apps (running s.kernel))
   pub limits : Limits (seen s) (low_in s.kernel.apps (running s.kernel)) (top_in s.kernel.apps (running s.kernel))
 
-pub thread-facts : Given → (s : System) (d : Domain) → IsSeen s → IsSound s → ThreadRuns s.kernel → domain_in s.placed (app_of (running s.kernel)) ≡ Some d → IsThread s d
+pub thread-facts : Given → (s : System) (d : Domain) → IsSeen s → IsSound s → ThreadRuns s.kernel
+    → domain_in s.placed (app_of (running s.kernel)) ≡ Some d → IsThread s d
 thread-facts laws s d see h r e =
     let t : ℕ = running s.kernel in
     let l : app_of t < 8 = (let x = r.thread in omega arith) in
     let row : IsRunningRow s.kernel t = running_is s.kernel h.kernel.settled.orderly r in
     let is : IsDomain s.kernel.apps s.kernel.modules (app_of t) d = h.kernel.domains.placed (app_of t) d e in
-    let app : (d.object.kind ≡ App) × IsAppRowOf d (app_at s.kernel (app_of t)) = of-app s.kernel.apps s.kernel.modules (app_of t) d l is in
+    let app : (d.object.kind ≡ App) × IsAppRowOf d (app_at s.kernel (app_of t)) =
+    of-app s.kernel.apps s.kernel.modules (app_of t) d l is in
     let well : IsWellPlaced d = app-placed s.kernel s.placed s.steps (app_of t) d h.kernel l e in
-    let stack : IsStack d (low_in s.kernel.apps t) (top_in s.kernel.apps t) = stack-in s.kernel.apps t d well app.0 is.region app.1 (omega (arith, row.within, app.1.threads)) in
+    let stack : IsStack d (low_in s.kernel.apps t) (top_in s.kernel.apps t) =
+    stack-in s.kernel.apps t d well app.0 is.region app.1 (omega (arith, row.within, app.1.threads)) in
     record {
       app = l;
       kind = app.0;
       is = is;
       well = well;
-      stands = record { memory = see.memory; placed = well; accepted = is.accepted; code = stands-so laws d (seen s) well.code_even (code-seen s (app_of t) d see h.code h.kernel e) };
+      stands = record {
+        memory = see.memory;
+        placed = well;
+        accepted = is.accepted;
+        code =
+            stands-so laws d (seen s) well.code_even (code-seen s (app_of t) d see h.code h.kernel e);
+      };
       stack = stack;
       limits = limits-seen s d see h.kernel.settled.orderly r well stack;
     }
@@ -195,7 +213,13 @@ later k ds n h = record {
   saved = h.saved;
   populated = h.populated;
   functions = h.functions;
-  bounded = record { ticks = omega (arith, h.bounded.ticks); count = h.bounded.count; no_count = h.bounded.no_count; lines = h.bounded.lines };
+  bounded = record {
+    ticks = omega (arith, h.bounded.ticks);
+    count = h.bounded.count;
+    no_count = h.bounded.no_count;
+    lines =
+        h.bounded.lines;
+  };
 }
 
 -- ---- what stays
@@ -216,8 +240,10 @@ kernel-same own k c = record {
 }
 
 -- an address of one domain's region isn't one of another's
-beside : (k : Kernel) (a n : ℕ) (d e : Domain) (w : ℕ) → IsSettledKernel k → IsDomain k.apps k.modules a d → IsDomain k.apps k.modules n e → a ≢ n → d.lo ≤ w → w < d.hi → (w < e.lo) ⊎ (e.hi ≤ w)
-beside k a n d e w h da en ne l u = elim (cases_lt w e.lo) [ inl x ↦ inl x | inr x ↦ elim (cases_lt w e.hi) [ inl y ↦ absurd (both x y) | inr y ↦ inr y ] ]
+beside : (k : Kernel) (a n : ℕ) (d e : Domain) (w : ℕ) → IsSettledKernel k → IsDomain k.apps k.modules a d
+    → IsDomain k.apps k.modules n e → a ≢ n → d.lo ≤ w → w < d.hi → (w < e.lo) ⊎ (e.hi ≤ w)
+beside k a n d e w h da en ne l u =
+    elim (cases_lt w e.lo) [ inl x ↦ inl x | inr x ↦ elim (cases_lt w e.hi) [ inl y ↦ absurd (both x y) | inr y ↦ inr y ] ]
   where
     p : HasPlaces (domain_at k a) d
     p = places-of k a d da
@@ -226,7 +252,9 @@ beside k a n d e w h da en ne l u = elim (cases_lt w e.lo) [ inl x ↦ inl x | i
     q = places-of k n e en
 
     both : e.lo ≤ w → w < e.hi → ⊥
-    both x y = h.apart Data a n da.below en.below ne p.used q.used w (within (domain_at k a).region (omega (arith, p.from)) (omega (arith, p.to))) (within (domain_at k n).region (omega (arith, q.from)) (omega (arith, q.to)))
+    both x y = h.apart Data a n da.below en.below ne p.used q.used w
+        (within (domain_at k a).region (omega (arith, p.from)) (omega (arith, p.to)))
+        (within (domain_at k n).region (omega (arith, q.from)) (omega (arith, q.to)))
       where
         within : (r : Range) → r.from ≤ w → w < r.to → IsTrue (holds w r)
         within r f t = grind (arith, f, t)
@@ -241,12 +269,15 @@ memory-after [] m h s = h
 memory-after (w ∷ ws) m h s = memory-after ws (set m w.0 w.1) record { bytes = length-set m w.0 w.1 ∙ h.bytes; small = small } s.1
   where
     small : (k : ℕ) → get_or (set m w.0 w.1) k 0 < 256
-    small k = elim (cases_eq k w.0) [ inl e ↦ there e | inr d ↦ subst (λ (x : ℕ). x < 256) (sym (get_or-set_other m w.0 k w.1 0 d)) (h.small k) ]
+    small k = elim (cases_eq k w.0)
+        [ inl e ↦ there e | inr d ↦ subst (λ (x : ℕ). x < 256) (sym (get_or-set_other m w.0 k w.1 0 d)) (h.small k) ]
       where
         there : k ≡ w.0 → get_or (set m w.0 w.1) k 0 < 256
         there e = elim (cases_lt w.0 (length m)) [
-          | inl i ↦ subst (λ (x : ℕ). x < 256) (sym (ap (λ (j : ℕ). get_or (set m w.0 w.1) j 0) e ∙ get_or-set_same m w.0 w.1 0 i)) s.0
-          | inr i ↦ subst (λ (x : ℕ). x < 256) (sym (get_or_past (set m w.0 w.1) k 0 (omega (arith, length-set m w.0 w.1)))) (omega arith)
+          | inl i ↦ subst (λ (x : ℕ). x < 256) (sym (ap (λ (j : ℕ). get_or (set m w.0 w.1) j 0) e ∙ get_or-set_same m w.0 w.1 0 i))
+              s.0
+          | inr i ↦ subst (λ (x : ℕ). x < 256) (sym (get_or_past (set m w.0 w.1) k 0 (omega (arith, length-set m w.0 w.1))))
+              (omega arith)
         ]
 
 -- what a thread writes lies in its region
@@ -254,38 +285,56 @@ in-region : (d : Domain) (low top : ℕ) (w : ℕ × ℕ) → IsStack d low top 
 in-region d low top w s (inl i) = i
 in-region d low top w s (inr i) = (omega (arith, i.0, s.within_low), omega (arith, i.1, s.within_top))
 
-memory-kept : (s : System) (a : ℕ) (d : Domain) (ws : List (ℕ × ℕ)) → IsSound s → IsDomain s.kernel.apps s.kernel.modules a d → AllByRecursion (Within d.lo d.hi) ws → AllByRecursion IsInPools ws
+memory-kept : (s : System) (a : ℕ) (d : Domain) (ws : List (ℕ × ℕ)) → IsSound s → IsDomain s.kernel.apps s.kernel.modules a d
+    → AllByRecursion (Within d.lo d.hi) ws → AllByRecursion IsInPools ws
     → MemoryKept (of_app a) s.placed s.memory (put_all s.memory ws)
 memory-kept s a d ws h da inside pools = record {
   code = λ n e other here k l u.
-      let pool : (0x6000 ≤ e.code_lo) × (e.code_lo + code_length e.object ≤ 0xE000) = code-in-pool s.kernel n e h.kernel.settled (h.kernel.domains.placed n e here) in
-      part-stays e.code_lo (e.code_lo + code_length e.object) s.memory ws (avoids e.code_lo (e.code_lo + code_length e.object) ws pool.0 pools) k l u;
+      let pool : (0x6000 ≤ e.code_lo) × (e.code_lo + code_length e.object ≤ 0xE000) =
+      code-in-pool s.kernel n e h.kernel.settled (h.kernel.domains.placed n e here) in
+      part-stays e.code_lo (e.code_lo + code_length e.object) s.memory ws
+      (avoids e.code_lo (e.code_lo + code_length e.object) ws pool.0 pools) k l u;
   region = λ n e other here.
       part-stays e.lo e.hi s.memory ws (all-map (Within d.lo d.hi) (λ w. (w.0 < e.lo) ⊎ (e.hi ≤ w.0))
-      (λ w i. beside s.kernel a n d e w.0 h.kernel.settled da (h.kernel.domains.placed n e here) (λ same. eqb-false n a other (sym same)) i.0 i.1) ws inside);
+      (λ w i. beside s.kernel a n d e w.0 h.kernel.settled da (h.kernel.domains.placed n e here)
+      (λ same. eqb-false n a other (sym same)) i.0 i.1) ws inside);
 }
 
-pub step-keeps : (s after : System) → ThreadRuns s.kernel → OthersKept (app_of (running s.kernel)) s after → StepKeeps (who_runs s.kernel) s after
+pub step-keeps : (s after : System) → ThreadRuns s.kernel → OthersKept (app_of (running s.kernel)) s after
+    → StepKeeps (who_runs s.kernel) s after
 step-keeps s after r h = subst (λ (w : Who). StepKeeps w s after) (sym (who-runs s.kernel r)) h
 
 -- the stack of a running thread
-pub own-stack : (k : Kernel) (c : List ℕ) (i : Instr) (e : Effect) → ThreadRuns k → StaysInStack (low_in k.apps (running k)) (top_in k.apps (running k)) c i e → StaysInStack (stack_low_in k) (stack_top_in k) c i e
+pub own-stack : (k : Kernel) (c : List ℕ) (i : Instr) (e : Effect) → ThreadRuns k
+    → StaysInStack (low_in k.apps (running k)) (top_in k.apps (running k)) c i e
+    → StaysInStack (stack_low_in k) (stack_top_in k) c i e
 own-stack k c i e r h =
-    subst (λ (l : ℕ). StaysInStack l (stack_top_in k) c i e) (sym (cond-false (module_runs k) 0x1000 (low_in k.apps (running k)) (no-module k r)))
-    (subst (λ (u : ℕ). StaysInStack (low_in k.apps (running k)) u c i e) (sym (cond-false (module_runs k) 0x1100 (top_in k.apps (running k)) (no-module k r))) h)
+    subst (λ (l : ℕ). StaysInStack l (stack_top_in k) c i e)
+    (sym (cond-false (module_runs k) 0x1000 (low_in k.apps (running k)) (no-module k r)))
+    (subst (λ (u : ℕ). StaysInStack (low_in k.apps (running k)) u c i e)
+    (sym (cond-false (module_runs k) 0x1100 (top_in k.apps (running k)) (no-module k r))) h)
 
 -- by the kernel that is as it was, and by who runs
-by-thread : (s : System) (d : Domain) → IsSeen s → IsSound s → (r : ThreadRuns s.kernel) → domain_in s.placed (app_of (running s.kernel)) ≡ Some d → IsThread s d
+by-thread : (s : System) (d : Domain) → IsSeen s → IsSound s → (r : ThreadRuns s.kernel)
+    → domain_in s.placed (app_of (running s.kernel)) ≡ Some d → IsThread s d
     → (place : StepsAt d (seen s) s.context) → IsMemory (put_all s.memory (does (seen s) s.context place.instr place.words).written)
-    → Leads d (low_in s.kernel.apps (running s.kernel)) (top_in s.kernel.apps (running s.kernel)) (does (seen s) s.context place.instr place.words)
-    → StaysInStack (low_in s.kernel.apps (running s.kernel)) (top_in s.kernel.apps (running s.kernel)) s.context place.instr (does (seen s) s.context place.instr place.words)
-    → IsSafe s (by_effect s s.kernel (does (seen s) s.context place.instr place.words) (record_of.Instr (s.steps + 1) (who_runs s.kernel) (reg s.context 0) (word_at (seen s) (reg s.context 0)) (does (seen s) s.context place.instr place.words).written))
+    → Leads d (low_in s.kernel.apps (running s.kernel)) (top_in s.kernel.apps (running s.kernel))
+    (does (seen s) s.context place.instr place.words)
+    → StaysInStack (low_in s.kernel.apps (running s.kernel)) (top_in s.kernel.apps (running s.kernel)) s.context place.instr
+    (does (seen s) s.context place.instr place.words)
+    → IsSafe s (by_effect s s.kernel (does (seen s) s.context place.instr place.words)
+    (record_of.Instr (s.steps + 1) (who_runs s.kernel) (reg s.context 0) (word_at (seen s) (reg s.context 0))
+    (does (seen s) s.context place.instr place.words).written))
 by-thread s d see h r e f place memory leads stays =
     let t : ℕ = running s.kernel in
     let does-so : Effect = does (seen s) s.context place.instr place.words in
     let ws : List (ℕ × ℕ) = does-so.written in
-    let own : AllByRecursion (Within d.lo d.hi) ws = all-map (Inside d (low_in s.kernel.apps t) (top_in s.kernel.apps t)) (Within d.lo d.hi) (λ w i. in-region d (low_in s.kernel.apps t) (top_in s.kernel.apps t) w f.stack i) ws leads.inside in
-    let pools : AllByRecursion IsInPools ws = all-map (Within d.lo d.hi) IsInPools (λ w i. inr (omega (arith, i.0, f.well.lo_low), omega (arith, i.1, f.well.hi_high))) ws own in
+    let own : AllByRecursion (Within d.lo d.hi) ws =
+    all-map (Inside d (low_in s.kernel.apps t) (top_in s.kernel.apps t)) (Within d.lo d.hi)
+    (λ w i. in-region d (low_in s.kernel.apps t) (top_in s.kernel.apps t) w f.stack i) ws leads.inside in
+    let pools : AllByRecursion IsInPools ws =
+    all-map (Within d.lo d.hi) IsInPools (λ w i. inr (omega (arith, i.0, f.well.lo_low), omega (arith, i.1, f.well.hi_high))) ws
+    own in
     record {
       sound = record {
         code = writes s ws h.code h.kernel pools memory;
@@ -315,11 +364,13 @@ pub word-small : (m : List ℕ) (a : ℕ) → IsMemory m → word_at m a < 65536
 unfolding word_at
 word-small m a h = omega (arith, h.small (even a), h.small (even a + 1))
 
-same-counted : (s : System) (e : Effect) (told : Record) → ThreadRuns s.kernel → IsSafe s (by_effect s s.kernel e told) → IsSafe s (by_effect s (counted s.kernel) e told)
+same-counted : (s : System) (e : Effect) (told : Record) → ThreadRuns s.kernel → IsSafe s (by_effect s s.kernel e told)
+    → IsSafe s (by_effect s (counted s.kernel) e told)
 same-counted s e told r h = subst (λ (k : Kernel). IsSafe s (by_effect s k e told)) (sym (not-counted s.kernel r)) h
 
 -- the instruction that a thread stands at
-pub thread-steps : Given → (s : System) → IsSeen s → IsSound s → (r : ThreadRuns s.kernel) → IsGoodFor s.kernel.apps s.placed (running s.kernel) s.context → reg s.context 0 < 0xF000
+pub thread-steps : Given → (s : System) → IsSeen s → IsSound s → (r : ThreadRuns s.kernel)
+    → IsGoodFor s.kernel.apps s.placed (running s.kernel) s.context → reg s.context 0 < 0xF000
     → IsSafe s (instruction s (fetched (seen s) (reg s.context 0)))
 thread-steps laws s see h r good l =
     let d : Domain = good.domain in
@@ -327,10 +378,12 @@ thread-steps laws s see h r good l =
     let top : ℕ = top_in s.kernel.apps (running s.kernel) in
     let f : IsThread s d = thread-facts laws s d see h r good.placed in
     let place : StepsAt d (seen s) s.context = laws.fetches d low top (seen s) s.context f.stands good.good l in
-    let is : fetched (seen s) (reg s.context 0) ≡ Some (place.instr, place.words) = (laws.fetched (seen s) (reg s.context 0) place.instr place.words see.memory).1 place.fetched in
+    let is : fetched (seen s) (reg s.context 0) ≡ Some (place.instr, place.words) =
+    (laws.fetched (seen s) (reg s.context 0) place.instr place.words see.memory).1 place.fetched in
     subst (λ (o : Option (Instr × ℕ)). IsSafe s (instruction s o)) (sym is)
     (same-counted s (does (seen s) s.context place.instr place.words) _ r
     (by-thread s d see h r good.placed f place
-    (memory-after (does (seen s) s.context place.instr place.words).written s.memory h.code.memory (laws.written (seen s) s.context place.instr place.words see.memory good.good.steady.context))
+    (memory-after (does (seen s) s.context place.instr place.words).written s.memory h.code.memory
+    (laws.written (seen s) s.context place.instr place.words see.memory good.good.steady.context))
     (laws.instruction d low top (seen s) s.context place.instr place.words f.stands f.limits good.good l place.fetched)
     (laws.stack d low top (seen s) s.context place.instr place.words f.stands f.limits good.good l place.fetched)))

@@ -66,7 +66,8 @@ untouched-twice own k j i a b = record {
 ne-own : (own : ℕ → Bool) (t u : ℕ) → own t ≡ true → own u ≡ false → u ≢ t
 ne-own own t u a b e = absurd (cc (ap own e))
 
-pub untouched-row : (own : Own) (k : Kernel) (t : ℕ) (row : ThreadRow) → own.threads t ≡ true → IsUntouched own k (with_thread k t row)
+pub untouched-row : (own : Own) (k : Kernel) (t : ℕ) (row : ThreadRow) → own.threads t ≡ true
+    → IsUntouched own k (with_thread k t row)
 untouched-row own k t row e = record {
   rows = λ b l f. refl;
   threads = λ u l f. get_or-set_other k.threads t u row free_thread (ne-own own.threads t u e f);
@@ -87,7 +88,8 @@ without-insert own xs zero t e = cond-false (not (own t)) _ _ (ap not e)
 without-insert own [] (suc i) t e = cond-false (not (own t)) (t ∷ []) [] (ap not e)
 without-insert own (x ∷ xs) (suc i) t e = ap (λ (ys : List ℕ). cond (not (own x)) (x ∷ ys) ys) (without-insert own xs i t e)
 
-pub untouched-ready : (own : Own) (k : Kernel) (i t : ℕ) → own.threads t ≡ true → IsUntouched own k (with_ready k (insert k.ready i t))
+pub untouched-ready : (own : Own) (k : Kernel) (i t : ℕ) → own.threads t ≡ true
+    → IsUntouched own k (with_ready k (insert k.ready i t))
 untouched-ready own k i t e = record {
   rows = λ b l f. refl;
   threads = λ u l f. refl;
@@ -104,23 +106,32 @@ untouched-ready own k i t e = record {
 
 -- ---- a member is removed
 
-without-remove : (own : ℕ → Bool) (xs : List ℕ) (i : ℕ) → i < length xs → own (get_or xs i 0) ≡ true → without_own own (remove xs i) ≡ without_own own xs
+without-remove : (own : ℕ → Bool) (xs : List ℕ) (i : ℕ) → i < length xs → own (get_or xs i 0) ≡ true
+    → without_own own (remove xs i) ≡ without_own own xs
 without-remove own [] i l e = absurd (omega arith)
 without-remove own (x ∷ xs) zero l e = sym (cond-false (not (own x)) _ _ (ap not e))
-without-remove own (x ∷ xs) (suc i) l e = ap (λ (ys : List ℕ). cond (not (own x)) (x ∷ ys) ys) (without-remove own xs i (omega arith) e)
+without-remove own (x ∷ xs) (suc i) l e =
+    ap (λ (ys : List ℕ). cond (not (own x)) (x ∷ ys) ys) (without-remove own xs i (omega arith) e)
 
-omit-none : (own : ℕ → Bool) (xs : List ℕ) (t : ℕ) → ((u : ℕ) → Contains xs u → u ≢ t) → omit t (without_own own xs) ≡ without_own own xs
-omit-none own xs t h = filter_whole (λ x. not (eqb x t)) (without_own own xs) (λ u c. ap not (ne_eqb u t (h u (filter_had (λ x. not (own x)) xs u c).0)))
+omit-none : (own : ℕ → Bool) (xs : List ℕ) (t : ℕ) → ((u : ℕ) → Contains xs u → u ≢ t)
+    → omit t (without_own own xs) ≡ without_own own xs
+omit-none own xs t h = filter_whole (λ x. not (eqb x t)) (without_own own xs)
+    (λ u c. ap not (ne_eqb u t (h u (filter_had (λ x. not (own x)) xs u c).0)))
 
-omit-step : (own : ℕ → Bool) (x t : ℕ) (ys xs : List ℕ) → x ≢ t → (b : Bool) → own x ≡ b → without_own own ys ≡ omit t (without_own own xs)
-    → cond (not (own x)) (x ∷ without_own own ys) (without_own own ys) ≡ omit t (cond (not (own x)) (x ∷ without_own own xs) (without_own own xs))
-omit-step own x t ys xs n true f there = cond-false (not (own x)) _ _ (ap not f) ∙ there ∙ sym (ap (omit t) (cond-false (not (own x)) (x ∷ without_own own xs) (without_own own xs) (ap not f)))
+omit-step : (own : ℕ → Bool) (x t : ℕ) (ys xs : List ℕ) → x ≢ t → (b : Bool) → own x ≡ b
+    → without_own own ys ≡ omit t (without_own own xs)
+    → cond (not (own x)) (x ∷ without_own own ys) (without_own own ys) ≡ omit t
+    (cond (not (own x)) (x ∷ without_own own xs) (without_own own xs))
+omit-step own x t ys xs n true f there = cond-false (not (own x)) _ _ (ap not f) ∙ there
+    ∙ sym (ap (omit t) (cond-false (not (own x)) (x ∷ without_own own xs) (without_own own xs) (ap not f)))
 omit-step own x t ys xs n false f there =
     cond-true (not (own x)) _ _ (ap not f)
     ∙ ap (λ (zs : List ℕ). x ∷ zs) there
-    ∙ sym (ap (omit t) (cond-true (not (own x)) (x ∷ without_own own xs) (without_own own xs) (ap not f)) ∙ cond-true (not (eqb x t)) _ _ (ap not (ne_eqb x t n)))
+    ∙ sym (ap (omit t) (cond-true (not (own x)) (x ∷ without_own own xs) (without_own own xs) (ap not f))
+    ∙ cond-true (not (eqb x t)) _ _ (ap not (ne_eqb x t n)))
 
-omit-remove : (own : ℕ → Bool) (xs : List ℕ) (i : ℕ) → i < length xs → own (get_or xs i 0) ≡ false → ((u : ℕ) → Contains (remove xs i) u → u ≢ get_or xs i 0)
+omit-remove : (own : ℕ → Bool) (xs : List ℕ) (i : ℕ) → i < length xs → own (get_or xs i 0) ≡ false
+    → ((u : ℕ) → Contains (remove xs i) u → u ≢ get_or xs i 0)
     → without_own own (remove xs i) ≡ omit (get_or xs i 0) (without_own own xs)
 omit-remove own [] i l e h = absurd (omega arith)
 omit-remove own (x ∷ xs) zero l e h =
@@ -128,7 +139,8 @@ omit-remove own (x ∷ xs) zero l e h =
     ∙ cond-false (not (eqb x x)) _ _ (ap not (eq-eqb x x refl))
     ∙ omit-none own xs x h)
 omit-remove own (x ∷ xs) (suc i) l e h =
-    omit-step own x (get_or xs i 0) (remove xs i) xs (h x (0, omega arith, refl)) (own x) refl (omit-remove own xs i (omega arith) e (λ u c. h u (suc c.0, omega (arith, c.1), c.2)))
+    omit-step own x (get_or xs i 0) (remove xs i) xs (h x (0, omega arith, refl)) (own x) refl
+    (omit-remove own xs i (omega arith) e (λ u c. h u (suc c.0, omega (arith, c.1), c.2)))
 
 -- ---- a dispatch
 
@@ -149,7 +161,10 @@ by-ready own k j pick h o true e = record {
 }
 by-ready own k j pick h o false e = record {
   rows = h.rows;
-  threads = λ u l f. elim (cases_eq u t) [ inl s ↦ inr (subst (λ (v : ℕ). IsDispatched k next c v) (sym s) (chosen (subst (λ (v : ℕ). own.threads v ≡ false) s f))) | inr n ↦ inl (get_or-set_other j.threads t u row free_thread n ∙ h.threads u l f) ];
+  threads = λ u l f. elim (cases_eq u t) [
+    | inl s ↦ inr (subst (λ (v : ℕ). IsDispatched k next c v) (sym s) (chosen (subst (λ (v : ℕ). own.threads v ≡ false) s f)))
+    | inr n ↦ inl (get_or-set_other j.threads t u row free_thread n ∙ h.threads u l f)
+  ];
   mutexes = h.mutexes;
   conditions = h.conditions;
   ready = by-own (own.threads t) refl;
@@ -188,13 +203,20 @@ by-ready own k j pick h o false e = record {
         record {
           was_ready = ap (λ (r : ThreadRow). r.state) (sym same) ∙ is.state;
           runs = refl;
-          row = get_or-set_same j.threads t row free_thread (let x = is.number in let y = o.shape.thread_rows in omega arith) ∙ ap (λ (r : ThreadRow). record r { state = running_state }) same;
+          row = get_or-set_same j.threads t row free_thread (let x = is.number in let y = o.shape.thread_rows in omega arith)
+              ∙ ap (λ (r : ThreadRow). record r { state = running_state }) same;
           context_is = ap (λ (r : ThreadRow). r.regs) same;
         }
 
     by-own : (b : Bool) → own.threads t ≡ b → ReadyKept own.threads k next c
     by-own true f = inl (without-remove own.threads j.ready i within f ∙ h.ready)
-    by-own false f = inr (t, chosen f, omit-remove own.threads j.ready i within f (λ u m. (remove_from j.ready i u within (o.placed.once Ready) m).1) ∙ ap (omit t) h.ready)
+    by-own false f = inr (
+      t,
+      chosen f,
+      omit-remove own.threads j.ready i within f (λ u m. (remove_from j.ready i u within (o.placed.once Ready) m).1)
+          ∙ ap (omit t) h.ready,
+    )
 
-pub kept-dispatch : (own : Own) (k j : Kernel) (pick : Option ℕ) → IsUntouched own k j → IsOrderly j → KernelKept own k (dispatched j pick) (dispatched_context j pick)
+pub kept-dispatch : (own : Own) (k j : Kernel) (pick : Option ℕ) → IsUntouched own k j → IsOrderly j
+    → KernelKept own k (dispatched j pick) (dispatched_context j pick)
 kept-dispatch own k j pick h o = by-ready own k j pick h o (nothing_ready j) refl

@@ -30,13 +30,18 @@ of-vectors (suc (suc (suc (suc (suc (suc (suc (suc (suc (suc (suc (suc zero)))))
 of-vectors (suc (suc (suc (suc (suc (suc (suc (suc (suc (suc (suc (suc (suc zero))))))))))))) h = refl
 of-vectors (suc (suc (suc (suc (suc (suc (suc (suc (suc (suc (suc (suc (suc (suc n)))))))))))))) h = absurd (omega arith)
 
-pub vectors-stand : (m : List ℕ) (n : ℕ) → length m ≡ 65536 → n < 14 → word_at (patch m 0xFFE0 vectors) (0xFFE0 + 2 * n) ≡ 0xF080 + 2 * n
+pub vectors-stand : (m : List ℕ) (n : ℕ) → length m ≡ 65536 → n < 14
+    → word_at (patch m 0xFFE0 vectors) (0xFFE0 + 2 * n) ≡ 0xF080 + 2 * n
 unfolding word_at
 vectors-stand m n e l =
     let at : even (0xFFE0 + 2 * n) ≡ 0xFFE0 + 2 * n = omega arith in
-    let low : get_or (patch m 0xFFE0 vectors) (0xFFE0 + 2 * n) 0 ≡ get_or vectors (2 * n) 0 = in-vectors m (2 * n) e (omega arith) in
-    let high : get_or (patch m 0xFFE0 vectors) (0xFFE0 + (2 * n + 1)) 0 ≡ get_or vectors (2 * n + 1) 0 = in-vectors m (2 * n + 1) e (omega arith) in
-    let there : get_or (patch m 0xFFE0 vectors) (0xFFE0 + 2 * n + 1) 0 ≡ get_or vectors (2 * n + 1) 0 = (let same : 0xFFE0 + 2 * n + 1 ≡ 0xFFE0 + (2 * n + 1) = omega arith in ap (λ (a : ℕ). get_or (patch m 0xFFE0 vectors) a 0) same ∙ high) in
+    let low : get_or (patch m 0xFFE0 vectors) (0xFFE0 + 2 * n) 0 ≡ get_or vectors (2 * n) 0 =
+    in-vectors m (2 * n) e (omega arith) in
+    let high : get_or (patch m 0xFFE0 vectors) (0xFFE0 + (2 * n + 1)) 0 ≡ get_or vectors (2 * n + 1) 0 =
+    in-vectors m (2 * n + 1) e (omega arith) in
+    let there : get_or (patch m 0xFFE0 vectors) (0xFFE0 + 2 * n + 1) 0 ≡ get_or vectors (2 * n + 1) 0 =
+    (let same : 0xFFE0 + 2 * n + 1 ≡ 0xFFE0 + (2 * n + 1) = omega arith in
+    ap (λ (a : ℕ). get_or (patch m 0xFFE0 vectors) a 0) same ∙ high) in
     ap (λ (a : ℕ). get_or (patch m 0xFFE0 vectors) a 0 + 256 * get_or (patch m 0xFFE0 vectors) (a + 1) 0) at
     ∙ ap (λ (b : ℕ). b + 256 * get_or (patch m 0xFFE0 vectors) (0xFFE0 + 2 * n + 1) 0) low
     ∙ ap (λ (b : ℕ). get_or vectors (2 * n) 0 + 256 * b) there

@@ -26,10 +26,32 @@ pub record IsWoken (k j : Kernel) : Type 0 where
   pub high : j.tick_high ≡ k.tick_high
 
 pub each-leaves : (ts : List ℕ) (k : Kernel) → IsWoken k (each_to_end k ts)
-each-leaves [] k = record { apps = refl; modules = refl; functions = refl; running = refl; in_module = refl; counted = refl; mask = refl; low = refl; high = refl }
+each-leaves [] k = record {
+  apps = refl;
+  modules = refl;
+  functions = refl;
+  running = refl;
+  in_module = refl;
+  counted = refl;
+  mask =
+      refl;
+  low = refl;
+  high = refl;
+}
 each-leaves (t ∷ ts) k =
     let h : IsWoken (to_ready_end k t) (each_to_end (to_ready_end k t) ts) = each-leaves ts (to_ready_end k t) in
-    record { apps = h.apps; modules = h.modules; functions = h.functions; running = h.running; in_module = h.in_module; counted = h.counted; mask = h.mask; low = h.low; high = h.high }
+    record {
+      apps = h.apps;
+      modules = h.modules;
+      functions = h.functions;
+      running = h.running;
+      in_module = h.in_module;
+      counted =
+          h.counted;
+      mask = h.mask;
+      low = h.low;
+      high = h.high;
+    }
 
 -- a thread that waits
 pub record Waits (threads : List ThreadRow) (t : ℕ) : Type 0 where
@@ -43,20 +65,33 @@ pub record AreWell (apps : List AppRow) (ds : List (Option Domain)) (threads : L
   pub saved : AreSaved apps ds threads
   pub populated : ArePopulated apps threads
 
-still-waits : (threads : List ThreadRow) (t u : ℕ) → length threads ≡ 32 → t < 32 → Waits threads u → Waits (set threads t (ready_row (get_or threads t free_thread))) u
+still-waits : (threads : List ThreadRow) (t u : ℕ) → length threads ≡ 32 → t < 32 → Waits threads u
+    → Waits (set threads t (ready_row (get_or threads t free_thread))) u
 still-waits threads t u size l w = elim (cases_eq u t) [
   | inl e ↦ record { below = w.below; live = here e free (omega arith); rests = here e running_state (omega arith) }
-  | inr n ↦ record { below = w.below; live = subst (λ (r : ThreadRow). r.state ≢ free) (sym (get_or-set_other threads t u (ready_row (get_or threads t free_thread)) free_thread n)) w.live; rests = subst (λ (r : ThreadRow). r.state ≢ running_state) (sym (get_or-set_other threads t u (ready_row (get_or threads t free_thread)) free_thread n)) w.rests }
+  | inr n ↦ record {
+    below = w.below;
+    live =
+        subst (λ (r : ThreadRow). r.state ≢ free)
+        (sym (get_or-set_other threads t u (ready_row (get_or threads t free_thread)) free_thread n)) w.live;
+    rests =
+        subst (λ (r : ThreadRow). r.state ≢ running_state)
+        (sym (get_or-set_other threads t u (ready_row (get_or threads t free_thread)) free_thread n)) w.rests;
+  }
 ]
   where
     here : u ≡ t → (s : ℕ) → ready ≢ s → (get_or (set threads t (ready_row (get_or threads t free_thread))) u free_thread).state ≢ s
-    here e s n f = n (ap (λ (r : ThreadRow). r.state) (sym (get_or-set_same threads t (ready_row (get_or threads t free_thread)) free_thread (omega arith))) ∙ ap (λ (v : ℕ). (get_or (set threads t (ready_row (get_or threads t free_thread))) v free_thread).state) (sym e) ∙ f)
+    here e s n f = n (ap (λ (r : ThreadRow). r.state)
+        (sym (get_or-set_same threads t (ready_row (get_or threads t free_thread)) free_thread (omega arith)))
+        ∙ ap (λ (v : ℕ). (get_or (set threads t (ready_row (get_or threads t free_thread))) v free_thread).state) (sym e) ∙ f)
 
-all-wait : (threads : List ThreadRow) (t : ℕ) (ts : List ℕ) → length threads ≡ 32 → t < 32 → AllByRecursion (Waits threads) ts → AllByRecursion (Waits (set threads t (ready_row (get_or threads t free_thread)))) ts
+all-wait : (threads : List ThreadRow) (t : ℕ) (ts : List ℕ) → length threads ≡ 32 → t < 32 → AllByRecursion (Waits threads) ts
+    → AllByRecursion (Waits (set threads t (ready_row (get_or threads t free_thread)))) ts
 all-wait threads t [] size l h = tt
 all-wait threads t (u ∷ ts) size l h = (still-waits threads t u size l h.0, all-wait threads t ts size l h.1)
 
-pub each-well : (ts : List ℕ) (k : Kernel) (apps : List AppRow) (ds : List (Option Domain)) → AreWell apps ds k.threads → AllByRecursion (Waits k.threads) ts → AreWell apps ds (each_to_end k ts).threads
+pub each-well : (ts : List ℕ) (k : Kernel) (apps : List AppRow) (ds : List (Option Domain)) → AreWell apps ds k.threads
+    → AllByRecursion (Waits k.threads) ts → AreWell apps ds (each_to_end k ts).threads
 each-well [] k apps ds h w = h
 each-well (t ∷ ts) k apps ds h w =
     let row : ThreadRow = ready_row (thread_at k t) in

@@ -55,12 +55,14 @@ pub who-module : (k : Kernel) → running_module k < 4 → who_runs k ≡ who.Mo
 who-module k l = cond-true (module_runs k) (who.Module (running_module k)) _ (runs-module k l)
 
 pub domain-module : (k : Kernel) → running_module k < 4 → running_domain k ≡ 8 + running_module k
-domain-module k l = cond-false (eqb (running_module k) none) (app_of (running k)) (8 + running_module k) (ne_eqb (running_module k) none (λ e. omega arith))
+domain-module k l = cond-false (eqb (running_module k) none) (app_of (running k)) (8 + running_module k)
+    (ne_eqb (running_module k) none (λ e. omega arith))
 
 no-thread : (k : Kernel) → running_module k < 4 → thread_runs k ≡ false
 no-thread k l = and_left (eqb (running_module k) none) _ (ne_eqb (running_module k) none (λ e. omega arith))
 
-pub in-module : Given → (s : System) → IsSeen s → IsSound s → running_module s.kernel < 4 → (g : IsGoodIn s.placed (8 + running_module s.kernel) 0x1000 0x1100 s.context) → IsInModule s g.domain
+pub in-module : Given → (s : System) → IsSeen s → IsSound s → running_module s.kernel < 4
+    → (g : IsGoodIn s.placed (8 + running_module s.kernel) 0x1000 0x1100 s.context) → IsInModule s g.domain
 in-module laws s see h l g =
     let n : ℕ = 8 + running_module s.kernel in
     let d : Domain = g.domain in
@@ -74,7 +76,13 @@ in-module laws s see h l g =
       is = is;
       kind = (of-module s.kernel (running_module s.kernel) d is).0;
       well = well;
-      stands = record { memory = see.memory; placed = well; accepted = is.accepted; code = stands-so laws d (seen s) well.code_even (code-seen s n d see h.code h.kernel g.placed) };
+      stands = record {
+        memory = see.memory;
+        placed = well;
+        accepted = is.accepted;
+        code =
+            stands-so laws d (seen s) well.code_even (code-seen s n d see h.code h.kernel g.placed);
+      };
       limits = record {
         limit = see.limit ∙ h.kernel.settled.orderly.limit ∙ cond-false (thread_runs s.kernel) _ 0x1006 (no-thread s.kernel l);
         last = see.top ∙ h.kernel.settled.orderly.top ∙ cond-false (thread_runs s.kernel) _ 0x1100 (no-thread s.kernel l);
@@ -108,7 +116,16 @@ placed-counted k v h = record {
 settled-counted : (k : Kernel) (v : ℕ) → IsSettledKernel k → IsSettledKernel (with_word k Budget v)
 settled-counted k v h = record {
   orderly = record {
-    shape = record { app_rows = h.orderly.shape.app_rows; module_rows = h.orderly.shape.module_rows; function_rows = h.orderly.shape.function_rows; thread_rows = h.orderly.shape.thread_rows; mutex_rows = h.orderly.shape.mutex_rows; condition_lists = h.orderly.shape.condition_lists; line_lists = h.orderly.shape.line_lists };
+    shape = record {
+      app_rows = h.orderly.shape.app_rows;
+      module_rows = h.orderly.shape.module_rows;
+      function_rows =
+          h.orderly.shape.function_rows;
+      thread_rows = h.orderly.shape.thread_rows;
+      mutex_rows = h.orderly.shape.mutex_rows;
+      condition_lists = h.orderly.shape.condition_lists;
+      line_lists = h.orderly.shape.line_lists;
+    };
     limit = h.orderly.limit;
     top = h.orderly.top;
     rows = h.orderly.rows;
@@ -129,33 +146,53 @@ settled-counted k v h = record {
   functions = h.functions;
 }
 
-sound-counted : (k : Kernel) (ds : List (Option Domain)) (n : ℕ) → running_module k < 4 → word_of k Budget < most_instructions → IsSoundKernel k ds n → IsSoundKernel (with_word k Budget (word_of k Budget + 1)) ds (n + 1)
+sound-counted : (k : Kernel) (ds : List (Option Domain)) (n : ℕ) → running_module k < 4 → word_of k Budget < most_instructions
+    → IsSoundKernel k ds n → IsSoundKernel (with_word k Budget (word_of k Budget + 1)) ds (n + 1)
 sound-counted k ds n l few h = record {
   settled = settled-counted k (word_of k Budget + 1) h.settled;
   domains = h.domains;
   saved = h.saved;
   populated = h.populated;
   functions = h.functions;
-  bounded = record { ticks = omega (arith, h.bounded.ticks); count = omega arith; no_count = λ e. absurd (omega arith); lines = h.bounded.lines };
+  bounded = record {
+    ticks = omega (arith, h.bounded.ticks);
+    count = omega arith;
+    no_count = λ e. absurd (omega arith);
+    lines =
+        h.bounded.lines;
+  };
 }
 
 -- ---- its instruction
 
 -- the kernel's stack is the running module's
-module-stack : (k : Kernel) (c : List ℕ) (i : Instr) (e : Effect) → running_module k < 4 → StaysInStack 0x1000 0x1100 c i e → StaysInStack (stack_low_in k) (stack_top_in k) c i e
+module-stack : (k : Kernel) (c : List ℕ) (i : Instr) (e : Effect) → running_module k < 4 → StaysInStack 0x1000 0x1100 c i e
+    → StaysInStack (stack_low_in k) (stack_top_in k) c i e
 module-stack k c i e l h =
-    subst (λ (low : ℕ). StaysInStack low (stack_top_in k) c i e) (sym (cond-true (module_runs k) 0x1000 (low_in k.apps (running k)) (runs-module k l)))
-    (subst (λ (top : ℕ). StaysInStack 0x1000 top c i e) (sym (cond-true (module_runs k) 0x1100 (top_in k.apps (running k)) (runs-module k l))) h)
+    subst (λ (low : ℕ). StaysInStack low (stack_top_in k) c i e)
+    (sym (cond-true (module_runs k) 0x1000 (low_in k.apps (running k)) (runs-module k l)))
+    (subst (λ (top : ℕ). StaysInStack 0x1000 top c i e)
+    (sym (cond-true (module_runs k) 0x1100 (top_in k.apps (running k)) (runs-module k l))) h)
 
-by-module : (s : System) (d : Domain) → IsInModule s d → word_of s.kernel Budget < most_instructions → (place : StepsAt d (seen s) s.context)
+by-module : (s : System) (d : Domain) → IsInModule s d → word_of s.kernel Budget < most_instructions
+    → (place : StepsAt d (seen s) s.context)
     → IsMemory (put_all s.memory (does (seen s) s.context place.instr place.words).written)
     → Leads d 0x1000 0x1100 (does (seen s) s.context place.instr place.words)
     → StaysInStack 0x1000 0x1100 s.context place.instr (does (seen s) s.context place.instr place.words)
-    → IsSafe s (by_effect s (with_word s.kernel Budget (word_of s.kernel Budget + 1)) (does (seen s) s.context place.instr place.words) (record_of.Instr (s.steps + 1) (who_runs s.kernel) (reg s.context 0) (word_at (seen s) (reg s.context 0)) (does (seen s) s.context place.instr place.words).written))
+    → IsSafe s (by_effect s (with_word s.kernel Budget (word_of s.kernel Budget + 1))
+    (does (seen s) s.context place.instr place.words)
+    (record_of.Instr (s.steps + 1) (who_runs s.kernel) (reg s.context 0) (word_at (seen s) (reg s.context 0))
+    (does (seen s) s.context place.instr place.words).written))
 by-module s d m few place memory leads stays =
     let effect : Effect = does (seen s) s.context place.instr place.words in
     let ws : List (ℕ × ℕ) = effect.written in
-    let pools : AllByRecursion IsInPools ws = all-map (Inside d 0x1000 0x1100) IsInPools (λ w i. elim i [ inl a ↦ inr (omega (arith, a.0, m.well.lo_low), omega (arith, a.1, m.well.hi_high)) | inr a ↦ inl (a.0, a.1) ]) ws leads.inside in
+    let pools : AllByRecursion IsInPools ws =
+    all-map (Inside d 0x1000 0x1100) IsInPools
+    (λ w i. elim i [
+      | inl a ↦ inr (omega (arith, a.0, m.well.lo_low), omega (arith, a.1, m.well.hi_high))
+      | inr a ↦
+          inl (a.0, a.1)
+    ]) ws leads.inside in
     record {
       sound = record {
         code = writes s ws m.sound.code m.sound.kernel pools memory;
@@ -173,19 +210,27 @@ by-module s d m few place memory leads stays =
         inside = subst (λ (k : Kind). AllByRecursion (MayWrite k d) ws) (sym m.kind) leads.inside;
         stack = module-stack s.kernel s.context place.instr effect m.below stays;
       };
-      keeps = subst (λ (w : Who). StepKeeps w s (by_effect s (with_word s.kernel Budget (word_of s.kernel Budget + 1)) effect (record_of.IdleTurn 0)).system) (sym (who-module s.kernel m.below)) tt;
+      keeps = subst (λ (w : Who). StepKeeps w s
+          (by_effect s (with_word s.kernel Budget (word_of s.kernel Budget + 1)) effect (record_of.IdleTurn 0)).system)
+          (sym (who-module s.kernel m.below)) tt;
       spelled = record { instr = place.instr; words = place.words; fetched = place.fetched; context = refl; memory = refl };
     }
 
-pub module-steps : Given → (s : System) (d : Domain) → IsInModule s d → reg s.context 0 < 0xF000 → word_of s.kernel Budget < most_instructions → IsSafe s (instruction s (fetched (seen s) (reg s.context 0)))
+pub module-steps : Given → (s : System) (d : Domain) → IsInModule s d → reg s.context 0 < 0xF000
+    → word_of s.kernel Budget < most_instructions → IsSafe s (instruction s (fetched (seen s) (reg s.context 0)))
 module-steps laws s d m l few =
     let place : StepsAt d (seen s) s.context = laws.fetches d 0x1000 0x1100 (seen s) s.context m.stands m.good l in
     let effect : Effect = does (seen s) s.context place.instr place.words in
-    let is : fetched (seen s) (reg s.context 0) ≡ Some (place.instr, place.words) = (laws.fetched (seen s) (reg s.context 0) place.instr place.words m.see.memory).1 place.fetched in
+    let is : fetched (seen s) (reg s.context 0) ≡ Some (place.instr, place.words) =
+    (laws.fetched (seen s) (reg s.context 0) place.instr place.words m.see.memory).1 place.fetched in
     subst (λ (o : Option (Instr × ℕ)). IsSafe s (instruction s o)) (sym is)
-    (subst (λ (k : Kernel). IsSafe s (by_effect s k effect (record_of.Instr (s.steps + 1) (who_runs s.kernel) (reg s.context 0) (word_at (seen s) (reg s.context 0)) effect.written)))
-    (sym (cond-true (module_runs s.kernel) (with_word s.kernel Budget (word_of s.kernel Budget + 1)) s.kernel (runs-module s.kernel m.below)))
+    (subst (λ (k : Kernel). IsSafe s
+    (by_effect s k effect (record_of.Instr (s.steps + 1) (who_runs s.kernel) (reg s.context 0)
+    (word_at (seen s) (reg s.context 0)) effect.written)))
+    (sym (cond-true (module_runs s.kernel) (with_word s.kernel Budget (word_of s.kernel Budget + 1)) s.kernel
+    (runs-module s.kernel m.below)))
     (by-module s d m few place
-    (memory-after effect.written s.memory m.sound.code.memory (laws.written (seen s) s.context place.instr place.words m.see.memory m.good.steady.context))
+    (memory-after effect.written s.memory m.sound.code.memory
+    (laws.written (seen s) s.context place.instr place.words m.see.memory m.good.steady.context))
     (laws.instruction d 0x1000 0x1100 (seen s) s.context place.instr place.words m.stands m.limits m.good l place.fetched)
     (laws.stack d 0x1000 0x1100 (seen s) s.context place.instr place.words m.stands m.limits m.good l place.fetched)))

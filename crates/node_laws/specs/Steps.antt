@@ -12,7 +12,8 @@ use Rattle.node_model.specs.Nodes.{most_steps}
 
 -- a running thread's turn at an entry
 abbrev pub TurnLaw : Call → Type 0
-TurnLaw e = (s : System) (pick : Option ℕ) → IsSeen s → IsSound s → s.steps < most_steps → ThreadRuns s.kernel → IsGoodFor s.kernel.apps s.placed (running s.kernel) s.context
+TurnLaw e = (s : System) (pick : Option ℕ) → IsSeen s → IsSound s → s.steps < most_steps → ThreadRuns s.kernel
+    → IsGoodFor s.kernel.apps s.placed (running s.kernel) s.context
     → reg s.context 0 ≡ entry_address e → IsSafe s (by_turn s (turn_at e (work s pick)))
 
 -- each turn of a thread
@@ -21,5 +22,6 @@ TurnLaws = (e : Call) → is_for_app e ≡ true → TurnLaw e
 
 -- the instruction that a thread stands at
 abbrev pub ThreadStepLaw : Type 0
-ThreadStepLaw = (s : System) → IsSeen s → IsSound s → ThreadRuns s.kernel → IsGoodFor s.kernel.apps s.placed (running s.kernel) s.context → reg s.context 0 < 0xF000
+ThreadStepLaw = (s : System) → IsSeen s → IsSound s → ThreadRuns s.kernel
+    → IsGoodFor s.kernel.apps s.placed (running s.kernel) s.context → reg s.context 0 < 0xF000
     → IsSafe s (instruction s (fetched (seen s) (reg s.context 0)))
