@@ -89,12 +89,13 @@ IsBootRefusal (Err e) i why = (e.object ≡ i) × (e.cause ≡ why)
 
 -- ---- step
 
--- the node stands for the system behind the step, whose record is told
+-- the node stands for the system behind the step, whose record is told. It is confined by the system whose lines were raised, since an
+-- instruction may read the mask of pending lines
 pub record Stepped (new : Parts) (os : List Loadable) (s : System) (raised : ℕ) (pick : Option ℕ) (told : Record) : Type 0 where
   pub represents : Represents new os (step s raised pick).system
   pub shown : told ≡ (step s raised pick).shown
   pub sound : IsSound (step s raised pick).system
-  pub confined : IsConfined s told
+  pub confined : IsConfined (with_raised s raised) told
   pub keeps : Keeps told (with_raised s raised) (step s raised pick).system
   pub spelled : IsSpelled told (with_raised s raised) (step s raised pick).system
 
@@ -136,12 +137,12 @@ trace_text all tail count t s r = placement_text s count ++ (shown_texts all tai
 pub record IsSoundStep (t : Script) (s : System) (r : Record) : Type 0 where
   pub sound : IsSound s
   pub shown : r ≡ (next t s).shown
-  pub confined : IsConfined s r
+  pub confined : IsConfined (with_raised s (raised_at t (s.steps + 1))) r
   pub keeps : Keeps r (with_raised s (raised_at t (s.steps + 1))) (next t s).system
   pub spelled : IsSpelled r (with_raised s (raised_at t (s.steps + 1))) (next t s).system
 
 -- from a system on these are the records up to the last system. Each system is sound, and each record is confined by the system
--- before it and keeps the others
+-- before it, with its lines raised, and keeps the others
 abbrev pub AreSound : Script → System → List Record → (last : System) → Type 0
 AreSound t s [] last = IsSound s × (last ≡ s)
 AreSound t s (r ∷ rs) last = IsSoundStep t s r × AreSound t (next t s).system rs last
@@ -173,7 +174,7 @@ pub record RanUpTo (new : Parts) (os : List Loadable) (limit : ℕ) (t : Script)
 -- the next step under a script
 pub record IsSoundNext (t : Script) (s : System) : Type 0 where
   pub sound : IsSound (next t s).system
-  pub confined : IsConfined s (next t s).shown
+  pub confined : IsConfined (with_raised s (raised_at t (s.steps + 1))) (next t s).shown
   pub keeps : Keeps (next t s).shown (with_raised s (raised_at t (s.steps + 1))) (next t s).system
   pub spelled : IsSpelled (next t s).shown (with_raised s (raised_at t (s.steps + 1))) (next t s).system
   pub made : (next t s).system.steps ≡ s.steps + 1

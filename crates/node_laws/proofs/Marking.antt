@@ -1,0 +1,309 @@
+-- The bitmap that is seen has the marks of each domain.
+use Rattle.std.proofs.Common.{◌≡◌, ◌≢◌, ℕ, zero, suc, ◌+◌, ◌-◌, ◌*◌, ◌/◌, ◌%◌, ◌^◌, ◌<◌, ◌≤◌, Bool, true, false, cond, List, [], ◌∷◌, length, get_or, map, sum, refl, sym, ap, ◌∙◌, subst, inl, inr, arith, Option, Some, None}
+use Rattle.std.specs.Prelude.{◌||◌, IsTrue}
+use Rattle.std.specs.List.{list_any, range_with_len}
+use Rattle.std.specs.Int.{bit_at}
+use Rattle.std.proofs.lemmas.Bool.{cases_eq}
+use Rattle.std.proofs.lemmas.List.Folds.{list_any_at}
+use Rattle.std.proofs.lemmas.List.FromFn.{get_or-map-range_with_len}
+use Rattle.kernel_model.specs.Kernel.{Kernel}
+use Rattle.place_model.specs.declared.places.Pool.TheVariants.{Code}
+use Rattle.place_model.specs.declared.places.Range.{Range}
+use Rattle.place_model.specs.Gaps.{holds}
+use Rattle.place_model.specs.Placing.{domain_at}
+use Rattle.place_model.specs.Marking.{IsCodeWord, IsMarkOf}
+use Rattle.load_model.specs.Domains.{Domain, code_length}
+use Rattle.node_model.specs.Systems.{System, seen, seen_in, bytes_in, domain_in, is_mark, is_mark_in, mark_byte, mark_bytes}
+use Rattle.kernel_model.specs.Layout.{layout}
+use Rattle.flat_mem.specs.Bytes.{patch}
+use Rattle.node_model.specs.Sound.{IsSound, IsDomain}
+use Rattle.node_model.specs.Laws.{MarkSeenLaw}
+use Rattle.node_laws.proofs.Seeing.{in-patch, over-length, marks-length}
+use Rattle.node_laws.proofs.Stepping.{HasPlaces, places-of, code-in-pool}
+use Rattle.node_laws.proofs.Contexts.{IsMark, mark-is, mark-of}
+
+-- ---- bits
+
+weight : Bool → ℕ
+weight b = cond b 1 0
+
+weight-small : (b : Bool) → weight b ≤ 1
+unfolding weight
+weight-small true = omega arith
+weight-small false = omega arith
+
+weighs : (b : Bool) (x : ℕ) → cond b x 0 ≡ x * weight b
+unfolding weight
+weighs true x = omega arith
+weighs false x = omega arith
+
+heavy : (b : Bool) → weight b ≡ 1 → b ≡ true
+unfolding weight
+heavy true e = refl
+heavy false e = absurd (omega arith)
+
+light : (b : Bool) → b ≡ true → weight b ≡ 1
+unfolding weight
+light true e = refl
+light false e = absurd (cc)
+
+abbrev eight : (ℕ → Bool) → ℕ
+eight f = sum (map (λ j. cond (f j) (2 ^ j) 0) (range_with_len 0 8))
+
+bit-of : (f : ℕ → Bool) (j : ℕ) → j < 8 → bit_at (eight f) j ≡ weight (f j)
+bit-of f zero l = omega (
+  arith,
+  weighs (f 0) 1,
+  weight-small (f 0),
+  weighs (f 1) 2,
+  weight-small (f 1),
+  weighs (f 2) 4,
+  weight-small (f 2),
+  weighs (f 3) 8,
+  weight-small (f 3),
+  weighs (f 4) 16,
+  weight-small (f 4),
+  weighs (f 5) 32,
+  weight-small (f 5),
+  weighs (f 6) 64,
+  weight-small (f 6),
+  weighs (f 7) 128,
+  weight-small (f 7),
+)
+bit-of f (suc zero) l = omega (
+  arith,
+  weighs (f 0) 1,
+  weight-small (f 0),
+  weighs (f 1) 2,
+  weight-small (f 1),
+  weighs (f 2) 4,
+  weight-small (f 2),
+  weighs (f 3) 8,
+  weight-small (f 3),
+  weighs (f 4) 16,
+  weight-small (f 4),
+  weighs (f 5) 32,
+  weight-small (f 5),
+  weighs (f 6) 64,
+  weight-small (f 6),
+  weighs (f 7) 128,
+  weight-small (f 7),
+)
+bit-of f (suc (suc zero)) l = omega (
+  arith,
+  weighs (f 0) 1,
+  weight-small (f 0),
+  weighs (f 1) 2,
+  weight-small (f 1),
+  weighs (f 2) 4,
+  weight-small (f 2),
+  weighs (f 3) 8,
+  weight-small (f 3),
+  weighs (f 4) 16,
+  weight-small (f 4),
+  weighs (f 5) 32,
+  weight-small (f 5),
+  weighs (f 6) 64,
+  weight-small (f 6),
+  weighs (f 7) 128,
+  weight-small (f 7),
+)
+bit-of f (suc (suc (suc zero))) l =
+    omega (
+      arith,
+      weighs (f 0) 1,
+      weight-small (f 0),
+      weighs (f 1) 2,
+      weight-small (f 1),
+      weighs (f 2) 4,
+      weight-small (f 2),
+      weighs (f 3) 8,
+      weight-small (f 3),
+      weighs (f 4) 16,
+      weight-small (f 4),
+      weighs (f 5) 32,
+      weight-small (f 5),
+      weighs (f 6) 64,
+      weight-small (f 6),
+      weighs (f 7) 128,
+      weight-small (f 7),
+    )
+bit-of f (suc (suc (suc (suc zero)))) l =
+    omega (
+      arith,
+      weighs (f 0) 1,
+      weight-small (f 0),
+      weighs (f 1) 2,
+      weight-small (f 1),
+      weighs (f 2) 4,
+      weight-small (f 2),
+      weighs (f 3) 8,
+      weight-small (f 3),
+      weighs (f 4) 16,
+      weight-small (f 4),
+      weighs (f 5) 32,
+      weight-small (f 5),
+      weighs (f 6) 64,
+      weight-small (f 6),
+      weighs (f 7) 128,
+      weight-small (f 7),
+    )
+bit-of f (suc (suc (suc (suc (suc zero))))) l =
+    omega (
+      arith,
+      weighs (f 0) 1,
+      weight-small (f 0),
+      weighs (f 1) 2,
+      weight-small (f 1),
+      weighs (f 2) 4,
+      weight-small (f 2),
+      weighs (f 3) 8,
+      weight-small (f 3),
+      weighs (f 4) 16,
+      weight-small (f 4),
+      weighs (f 5) 32,
+      weight-small (f 5),
+      weighs (f 6) 64,
+      weight-small (f 6),
+      weighs (f 7) 128,
+      weight-small (f 7),
+    )
+bit-of f (suc (suc (suc (suc (suc (suc zero)))))) l =
+    omega (
+      arith,
+      weighs (f 0) 1,
+      weight-small (f 0),
+      weighs (f 1) 2,
+      weight-small (f 1),
+      weighs (f 2) 4,
+      weight-small (f 2),
+      weighs (f 3) 8,
+      weight-small (f 3),
+      weighs (f 4) 16,
+      weight-small (f 4),
+      weighs (f 5) 32,
+      weight-small (f 5),
+      weighs (f 6) 64,
+      weight-small (f 6),
+      weighs (f 7) 128,
+      weight-small (f 7),
+    )
+bit-of f (suc (suc (suc (suc (suc (suc (suc zero))))))) l =
+    omega (
+      arith,
+      weighs (f 0) 1,
+      weight-small (f 0),
+      weighs (f 1) 2,
+      weight-small (f 1),
+      weighs (f 2) 4,
+      weight-small (f 2),
+      weighs (f 3) 8,
+      weight-small (f 3),
+      weighs (f 4) 16,
+      weight-small (f 4),
+      weighs (f 5) 32,
+      weight-small (f 5),
+      weighs (f 6) 64,
+      weight-small (f 6),
+      weighs (f 7) 128,
+      weight-small (f 7),
+    )
+bit-of f (suc (suc (suc (suc (suc (suc (suc (suc j)))))))) l = absurd (omega arith)
+
+-- ---- whose mark it is
+
+any-at : (p : Option Domain → Bool) (ds : List (Option Domain)) → p None ≡ false → list_any p ds ≡ true → (n : ℕ) × (d : Domain)
+    × (domain_in ds n ≡ Some d) × (p (Some d) ≡ true)
+any-at p [] off e = absurd (cc)
+any-at p (x ∷ ds) off e = any-by p x ds off (p x) refl e (λ f. any-at p ds off f)
+  where
+    some-of : (p : Option Domain → Bool) (x : Option Domain) → p None ≡ false → p x ≡ true → (d : Domain) × (x ≡ Some d)
+        × (p (Some d) ≡ true)
+    some-of p None off e = absurd (cc)
+    some-of p (Some d) off e = (d, refl, e)
+
+    any-by : (p : Option Domain → Bool) (x : Option Domain) (ds : List (Option Domain)) → p None ≡ false → (b : Bool) → p x ≡ b
+        → list_any p (x ∷ ds) ≡ true
+        → (list_any p ds ≡ true → (n : ℕ) × (d : Domain) × (domain_in ds n ≡ Some d) × (p (Some d) ≡ true))
+        → (n : ℕ) × (d : Domain) × (domain_in (x ∷ ds) n ≡ Some d) × (p (Some d) ≡ true)
+    any-by p x ds off true f e next = let h = some-of p x off f in (0, h.0, h.1, h.2)
+    any-by p x ds off false f e next = let h = next (sym (ap (λ (b : Bool). b || list_any p ds) f) ∙ e) in (suc h.0, h.1, h.2, h.3)
+
+-- ---- what is seen
+
+byte-seen : (m : List ℕ) (k : Kernel) (ds : List (Option Domain)) (q : ℕ) → length m ≡ 65536 → q < 2048
+    → get_or (seen_in m k ds) (0x1100 + q) 0 ≡ mark_byte ds (0x6000 + 16 * q)
+unfolding seen_in mark_bytes
+byte-seen m k ds q e l =
+    in-patch (patch m 0x0200 (bytes_in 3584 (layout k))) (mark_bytes ds) 0x1100 q (omega (arith, over-length m k e))
+    (omega (arith, marks-length ds))
+    ∙ get_or-map-range_with_len {X = ℕ} (λ b. mark_byte ds (0x6000 + 16 * b)) 0 2048 q q 0 l (omega arith)
+
+some-unit : List (Option Domain) → (at : ℕ) → Bool
+some-unit ds at = list_any (λ d. is_mark_in d at) ds
+
+bit-seen : (m : List ℕ) (k : Kernel) (ds : List (Option Domain)) (at : ℕ) → length m ≡ 65536 → IsCodeWord at
+    → bit_at (get_or (seen_in m k ds) (0x1100 + (at - 0x6000) / 16) 0) ((at - 0x6000) / 2 % 8) ≡ weight (some-unit ds at)
+unfolding some-unit
+bit-seen m k ds at e w =
+    let q : ℕ = (at - 0x6000) / 16 in
+    let j : ℕ = (at - 0x6000) / 2 % 8 in
+    let here : 0x6000 + 16 * q + 2 * j ≡ at = omega (arith, w.even, w.above) in
+    ap (λ (x : ℕ). bit_at x j) (byte-seen m k ds q e (omega (arith, w.above, w.below)))
+    ∙ bit-of (λ i. list_any (λ d. is_mark_in d (0x6000 + 16 * q + 2 * i)) ds) j (omega arith)
+    ∙ ap (λ (x : ℕ). weight (list_any (λ d. is_mark_in d x) ds)) here
+
+-- a unit at an address of a domain's code is its own
+own-unit : (s : System) (n : ℕ) (d : Domain) (at : ℕ) → IsSound s → domain_in s.placed n ≡ Some d → d.code_lo ≤ at
+    → at < d.code_lo + code_length d.object → some-unit s.placed at ≡ true → is_mark s.placed n at ≡ true
+unfolding some-unit
+own-unit s n d at h e from to some =
+    let a : (i : ℕ) × (x : Domain) × (domain_in s.placed i ≡ Some x) × (is_mark_in (Some x) at ≡ true) =
+    any-at (λ x. is_mark_in x at) s.placed refl some in
+    elim (cases_eq a.0 n) [
+      | inl q ↦ subst (λ (i : ℕ). is_mark s.placed i at ≡ true) q
+          (subst (λ (o : Option Domain). is_mark_in o at ≡ true) (sym a.2) a.3)
+      | inr x ↦ absurd (both a.0 a.1 x a.2 a.3)
+    ]
+  where
+    both : (i : ℕ) (x : Domain) → i ≢ n → domain_in s.placed i ≡ Some x → is_mark_in (Some x) at ≡ true → ⊥
+    both i x ne there unit =
+        let p : HasPlaces (domain_at s.kernel i) x = places-of s.kernel i x (h.kernel.domains.placed i x there) in
+        let q : HasPlaces (domain_at s.kernel n) d = places-of s.kernel n d (h.kernel.domains.placed n d e) in
+        let mark : IsMark x at = mark-is x at (h.kernel.domains.placed i x there).accepted unit in
+        h.kernel.settled.apart Code i n (h.kernel.domains.placed i x there).below (h.kernel.domains.placed n d e).below ne p.used
+        q.used at
+        (within (domain_at s.kernel i).code (omega (arith, p.code_from, mark.from)) (omega (arith, p.code_to, mark.to)))
+        (within (domain_at s.kernel n).code (omega (arith, q.code_from)) (omega (arith, q.code_to)))
+      where
+        within : (r : Range) → r.from ≤ at → at < r.to → IsTrue (holds at r)
+        within r f t = grind (arith, f, t)
+
+pub mark-seen : MarkSeenLaw
+unfolding some-unit
+mark-seen s n d at h e = (to, fro)
+  where
+    to : IsMarkOf (seen s) d.code_lo (d.code_lo + code_length d.object) at → is_mark s.placed n at ≡ true
+    to m = own-unit s n d at h e m.from m.to
+        (heavy (some-unit s.placed at) (sym (bit-seen s.memory s.kernel s.placed at h.code.memory.bytes m.word) ∙ m.set))
+
+    fro : is_mark s.placed n at ≡ true → IsMarkOf (seen s) d.code_lo (d.code_lo + code_length d.object) at
+    fro is =
+        let domain : IsDomain s.kernel.apps s.kernel.modules n d = h.kernel.domains.placed n d e in
+        let mark : IsMark d at = mark-of s.placed n at d e domain.accepted is in
+        let pool : (0x6000 ≤ d.code_lo) × (d.code_lo + code_length d.object ≤ 0xE000) =
+        code-in-pool s.kernel n d h.kernel.settled domain in
+        let word : IsCodeWord at = record {
+          even = mark.even_at;
+          above = omega (arith, mark.from, pool.0);
+          below =
+              omega (arith, mark.to, pool.1);
+        } in
+        record {
+          word = word;
+          from = mark.from;
+          to = mark.to;
+          set = bit-seen s.memory s.kernel s.placed at h.code.memory.bytes word
+              ∙ light (some-unit s.placed at)
+              (list_any_at (λ x. is_mark_in x at) s.placed n None (omega (arith, domain.below, h.kernel.domains.twelve)) is);
+        }
