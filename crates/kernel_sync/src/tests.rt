@@ -206,3 +206,16 @@ fn an_owner_hands_its_mutexes_over_in_rising_number(rt: HostRuntime) -> Result<(
     }
     Ok(())
 }
+
+#[test]
+fn an_owner_that_exits_hands_its_mutexes_over(rt: HostRuntime) -> Result<(), Fail> {
+    let mut m = one_app(rt.alloc())?;
+    let mut r = Regs::new();
+    assert_eq!(rt; first_wrong(&mut m, &mut r, &FOUR_THREADS), None);
+    assert_eq!(rt; first_wrong(&mut m, &mut r, &OF_TWO_MUTEXES), None);
+    let exits: [Step; 1] = [(Call::Exit, Answer::Made, NONE, [3, 2, 1, NO])];
+    assert_eq!(rt; first_wrong(&mut m, &mut r, &exits), None);
+    assert_eq!(rt; (mutex(&m, 0, 0).owner, mutex(&m, 0, 2).owner), (2, 1));
+    assert_eq!(rt; thread(&m, 0).state, 0);
+    Ok(())
+}

@@ -12,7 +12,7 @@ use flat_mem::FlatMem;
 use kernel_model::laws::empty_is_orderly;
 use kernel_tables::laws::orderly_queues_hold;
 use kernel_tables::{AppRow, SysWord, app, clear, get, ready, set_app, set_register, thread};
-use kernel_threads::{NONE, dispatch, spawn, start, to_end};
+use kernel_threads::{NONE, dispatch, exit, spawn, start, to_end};
 use msp_machine::Regs;
 use region_table::{Regions, set_marks};
 use std::alloc::{AllocError, Global};
@@ -108,6 +108,8 @@ pub enum Call {
     Signal(u16),
     Broadcast(u16),
     HandOverAll,
+    /// The running thread hands over all that it owns, and ends.
+    Exit,
 }
 
 /// What a call answers.
@@ -116,6 +118,8 @@ pub enum Answer {
     /// It may not be made.
     NotMade,
     Made,
+    /// The last thread ended.
+    Last,
     Owns,
     Waits,
     Refused(Code),
@@ -173,11 +177,21 @@ fn make_running(m: &mut FlatMem, r: &mut Regs, call: Call) -> Answer
             hand_over_all(m);
             Answer::Made
         }
+        Call::Exit => make_exit(m),
         _ => {
             to_end(m);
             Answer::Made
         }
     }
+}
+
+fn make_exit(m: &mut FlatMem) -> Answer
+    requires settled { IsSettled m.old }
+    requires runs { ThreadRuns (kernel_of m.old) }
+    ensures { IsSettled m.new }
+{
+    hand_over_all(m);
+    if exit(m) { Answer::Last } else { Answer::Made }
 }
 
 fn make_spawn(m: &mut FlatMem, r: &mut Regs) -> Answer
