@@ -1,0 +1,5 @@
+mod Images
+mod Kernels
+mod Rows
+mod Filling
+mod Loading
