@@ -149,6 +149,7 @@ pub enum Answer {
     Refused(Code),
 }
 
+/// The running thread enters a module, if it may.
 pub fn make_enter(m: &mut FlatMem, r: &mut Regs) -> Answer
     requires { IsSettled m.old }
     ensures { IsSettled m.new }
@@ -162,6 +163,7 @@ pub fn make_enter(m: &mut FlatMem, r: &mut Regs) -> Answer
     }
 }
 
+/// The running module leaves, if one runs.
 pub fn make_leave(m: &mut FlatMem, r: &Regs) -> Answer
     requires { IsSettled m.old }
     ensures { IsSettled m.new }
@@ -173,6 +175,7 @@ pub fn make_leave(m: &mut FlatMem, r: &Regs) -> Answer
     Answer::Made
 }
 
+/// The running module ends, if one runs.
 pub fn make_end(m: &mut FlatMem) -> Answer
     requires { IsSettled m.old }
     ensures { IsSettled m.new }
