@@ -32,7 +32,7 @@ use Rattle.place_model.proofs.SettledLemmas.{placing_even, placing_settled}
 use Rattle.load_model.specs.Domains.{Domain, code_length, region_length}
 use Rattle.node_model.specs.Systems.{domain_in, is_mark, is_mark_in, is_unit_address}
 use Rattle.node_model.specs.Steps.{pending}
-use Rattle.node_model.specs.Booting.{Loadable, domain_of, loaded_app, loaded_module, loaded_kernel, with_export, unless_taken, taken_number, places_of}
+use Rattle.load_model.specs.Loading.{Loadable, domain_of, loaded_app, loaded_module, loaded_kernel, with_export, unless_taken, taken_number, places_of}
 use Rattle.node_model.specs.Sound.{AreDomains, AreFunctions}
 use Rattle.boot_laws.proofs.Kernels.{app_row, settled-app, settled-register, settled-export}
 use Rattle.boot_laws.proofs.Rows.{free-row, free-app, domain-old, HasLengths, domains-with, new-app, new-module, functions-stay, is-unit, is-mark}

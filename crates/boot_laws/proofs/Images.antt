@@ -5,7 +5,7 @@ use Rattle.machine_model.specs.Memory.{IsMemory, word_at}
 use Rattle.load_model.specs.Domains.{Domain, code_length}
 use Rattle.load_model.specs.Images.{code_image, region_image}
 use Rattle.load_model.specs.Standing.{HasBytes}
-use Rattle.node_model.specs.Booting.{with_images}
+use Rattle.load_model.specs.Loading.{with_images}
 use Rattle.node_laws.proofs.Seeing.{SmallAll, length-patch, small-patch, above-patch, below-patch, in-patch}
 
 -- a placed object's images, as long as its places, which lie in the pools

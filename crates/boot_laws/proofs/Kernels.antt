@@ -23,7 +23,7 @@ use Rattle.thread_laws.proofs.Moving.{IsOrderlyBut, order_of, orderly_from}
 use Rattle.thread_laws.proofs.MovingRows.{MayHave, moving_with_row}
 use Rattle.thread_laws.proofs.Spots.{spot_nowhere}
 use Rattle.load_model.specs.Domains.{region_length}
-use Rattle.node_model.specs.Booting.{with_export}
+use Rattle.load_model.specs.Loading.{with_export}
 
 -- ---- an application's row
 

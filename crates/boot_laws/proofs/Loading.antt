@@ -15,7 +15,7 @@ use Rattle.load_model.specs.Domains.{Domain, code_length}
 use Rattle.load_model.specs.Images.{code_image, region_image}
 use Rattle.load_model.specs.Standing.{HasBytes}
 use Rattle.node_model.specs.Systems.{System, domain_in}
-use Rattle.node_model.specs.Booting.{Loadable, domain_of, loaded_kernel, with_images}
+use Rattle.load_model.specs.Loading.{Loadable, domain_of, loaded_kernel, with_images}
 use Rattle.node_model.specs.Sound.{IsDomain, AreDomains, IsCodeInPlace}
 use Rattle.node_model.specs.Laws.{IsLoading, LoadedLaw}
 use Rattle.node_laws.proofs.Stepping.{HasPlaces, places-of, code-in-pool}

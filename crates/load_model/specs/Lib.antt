@@ -1,3 +1,4 @@
 pub mod Domains
 pub mod Images
 pub mod Standing
+pub mod Loading

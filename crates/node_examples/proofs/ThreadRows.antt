@@ -16,7 +16,8 @@ use Rattle.machine_model.specs.Operands.{source_value, after_source, place_to, v
 use Rattle.machine_model.specs.Status.{with_flags}
 use Rattle.msp_decode.specs.Function.{read_two, read_one, read_jump, read_instr, reading}
 use Rattle.machine_model.specs.Accepting.{accepted}
-use Rattle.node_model.specs.Booting.{first_memory, empty_system, places_of, loaded, booted}
+use Rattle.load_model.specs.Loading.{places_of}
+use Rattle.node_model.specs.Booting.{first_memory, empty_system, loaded, booted}
 use Rattle.node_model.specs.Nodes.{all_owned, system_of, trace_text}
 use Rattle.node_model.specs.Runs.{is_quiet, run}
 use Rattle.trace_model.specs.Draws.{raised_at, pick_at}

@@ -6,7 +6,7 @@ use Rattle.code_model.specs.declared.parts.RelKind.TheVariants.{Code, Data, Lo, 
 use Rattle.code_model.specs.declared.parts.Reloc.{Reloc}
 use Rattle.code_model.specs.declared.parts.Export.{Export}
 use Rattle.code_model.specs.Form.{MeetsForm}
-use Rattle.node_model.specs.Booting.{Loadable}
+use Rattle.load_model.specs.Loading.{Loadable}
 
 -- ---- MOV #5,R12; emit; exit
 

@@ -6,7 +6,8 @@ use Rattle.trace_model.specs.declared.scripts.AtKind.TheVariants.{Raise, Pick}
 use Rattle.trace_model.specs.declared.scripts.Script.{Script}
 use Rattle.trace_model.specs.Texts.{shown_texts}
 use Rattle.node_model.specs.Systems.{System}
-use Rattle.node_model.specs.Booting.{Loadable, booted, Refusal}
+use Rattle.load_model.specs.Loading.{Loadable}
+use Rattle.node_model.specs.Booting.{booted, Refusal}
 use Rattle.node_model.specs.Runs.{run}
 use Rattle.node_model.specs.Nodes.{trace_text}
 

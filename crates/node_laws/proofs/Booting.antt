@@ -7,7 +7,8 @@ use Rattle.kernel_model.specs.Running.{NoneRuns}
 use Rattle.kernel_model.specs.Dispatching.{dispatched, dispatched_context}
 use Rattle.node_model.specs.Systems.{System}
 use Rattle.node_model.specs.Sound.{IsSound, IsSoundKernel, IsRunning}
-use Rattle.node_model.specs.Booting.{Loadable, Refusal, empty_system, places_of, by_places, loaded, loaded_all, all_started, begun_system, begun_if, booted}
+use Rattle.load_model.specs.Loading.{Loadable, places_of}
+use Rattle.node_model.specs.Booting.{Refusal, empty_system, by_places, loaded, loaded_all, all_started, begun_system, begun_if, booted}
 use Rattle.node_model.specs.Laws.{IsLoading, EmptyLaw, LoadedLaw, StartedLaw, DispatchLaw}
 use Rattle.node_model.specs.Nodes.{BootLaw, IsFitting}
 

@@ -11,7 +11,8 @@ use Rattle.kernel_model.specs.declared.rows.SysWord.TheVariants.{Budget}
 use Rattle.code_model.specs.Verdicts.{IsAccepted}
 use Rattle.place_model.specs.declared.places.Regions.{Regions}
 use Rattle.place_model.specs.Settled.{IsSettledKernel}
-use Rattle.node_model.specs.Booting.{Loadable, empty_system, places_of, loaded_at, all_started}
+use Rattle.load_model.specs.Loading.{Loadable, places_of}
+use Rattle.node_model.specs.Booting.{empty_system, loaded_at, all_started}
 use Rattle.kernel_model.specs.Words.{free, live, identity, running_module, tick_number}
 use Rattle.kernel_model.specs.Running.{NoneRuns}
 use Rattle.kernel_model.specs.Dispatching.{dispatched, dispatched_context}

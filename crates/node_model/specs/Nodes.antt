@@ -20,7 +20,8 @@ use Rattle.node_model.specs.Sound.{IsSound}
 use Rattle.node_model.specs.Confined.{IsConfined}
 use Rattle.node_model.specs.Kept.{Keeps}
 use Rattle.node_model.specs.Spelled.{IsSpelled}
-use Rattle.node_model.specs.Booting.{Loadable, booted, Refusal}
+use Rattle.load_model.specs.Loading.{Loadable}
+use Rattle.node_model.specs.Booting.{booted, Refusal}
 
 abbrev pub most_steps : ℕ
 most_steps = 10000000

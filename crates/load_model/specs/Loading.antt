@@ -1,0 +1,79 @@
+-- Where an object is placed, and the kernel and the memory that have it then.
+use Rattle.std.specs.Prelude.{ℕ, ◌+◌, ◌-◌, ◌==◌, if◌then◌else◌, List, map, true, false, Option, None, Some, Result, Ok, Err}
+use Rattle.std.specs.List.{fold, find}
+use Rattle.flat_mem.specs.Bytes.{patch}
+use Rattle.code_model.specs.declared.object.Object.{Object}
+use Rattle.code_model.specs.declared.parts.Export.{Export}
+use Rattle.code_model.specs.Rules.{static_size}
+use Rattle.kernel_model.specs.declared.kinds.Kind.{Kind}
+use Rattle.kernel_model.specs.declared.kinds.Kind.TheVariants.{App, Module}
+use Rattle.kernel_model.specs.Kernel.{Kernel, with_app, with_module, with_function, function_at}
+use Rattle.kernel_model.specs.Words.{live, none, identity, saved_register}
+use Rattle.place_model.specs.declared.places.Regions.{Regions}
+use Rattle.place_model.specs.declared.places.NoRoom.{NoRoom}
+use Rattle.place_model.specs.declared.places.NoRoom.TheVariants.{Slots, Taken}
+use Rattle.place_model.specs.Placing.{placing}
+use Rattle.load_model.specs.Domains.{Domain, code_length, region_length}
+use Rattle.load_model.specs.Images.{code_image, region_image}
+
+-- an accepted object with the marks of its unit starts
+pub record Loadable : Type 0 where
+  pub object : Object
+  pub units : List ℕ
+
+-- the object at its places
+abbrev pub domain_of : Loadable → Regions → Domain
+domain_of o r = record { object = o.object; units = o.units; code_lo = r.code_lo; lo = r.lo; hi = r.hi }
+
+-- ---- the kernel
+
+-- the application's row, with the entry's address kept for thread 0
+abbrev pub loaded_app : Kernel → Object → Regions → Kernel
+loaded_app k o r =
+    let k1 = with_app k r.dom (record {
+      state = live;
+      code_lo = r.code_lo;
+      code_hi = r.code_hi;
+      lo = r.lo;
+      hi = r.hi;
+      z = static_size o;
+      stack = o.stack;
+      threads = o.threads;
+    }) in
+    saved_register k1 (identity r.dom 0) 0 (r.code_lo + o.entry)
+
+-- the module's row
+abbrev pub placed_row : Kernel → Regions → Kernel
+placed_row k r = with_module k (r.dom - 8) (record { state = live; code_lo = r.code_lo; code_hi = r.code_hi; lo = r.lo; hi = r.hi })
+
+abbrev pub with_export : (in_module code_lo : ℕ) → Kernel → Export → Kernel
+with_export i at k e = with_function k e.number (record { «module» = i; address = at + e.offset })
+
+-- its row, and its functions
+abbrev pub loaded_module : Kernel → Object → Regions → Kernel
+loaded_module k o r = fold (with_export (r.dom - 8) r.code_lo) (placed_row k r) o.exports
+
+abbrev pub loaded_kernel : Kind → Kernel → Object → Regions → Kernel
+loaded_kernel App k o r = loaded_app k o r
+loaded_kernel Module k o r = loaded_module k o r
+
+-- ---- its places
+
+-- the least number of its functions that a module has exported
+abbrev pub taken_number : Kernel → Object → Option ℕ
+taken_number k o = find (λ f. if (function_at k f).module == none then false else true) (map (λ (e : Export). e.number) o.exports)
+
+-- taken comes behind slots, and before code and region
+abbrev pub unless_taken : Option ℕ → Result Regions NoRoom → Result Regions NoRoom
+unless_taken None r = r
+unless_taken (Some f) (Err Slots) = Err Slots
+unless_taken (Some f) _ = Err (Taken f)
+
+-- the object's number and its places, or the first cause that there are none
+unfoldable pub places_of : Kernel → Object → Result Regions NoRoom
+places_of k o = unless_taken (taken_number k o) (placing k o.kind (code_length o) (region_length o))
+
+-- ---- memory
+
+abbrev pub with_images : (memory : List ℕ) → Domain → List ℕ
+with_images m d = patch (patch m d.code_lo (code_image d)) d.lo (region_image d)
