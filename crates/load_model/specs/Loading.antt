@@ -1,5 +1,5 @@
 -- Where an object is placed, and the kernel and the memory that have it then.
-use Rattle.std.specs.Prelude.{ℕ, ◌+◌, ◌-◌, ◌==◌, if◌then◌else◌, List, map, true, false, Option, None, Some, Result, Ok, Err}
+use Rattle.std.specs.Prelude.{◌≡◌, ◌↔◌, ℕ, ◌+◌, ◌-◌, ◌/◌, ◌%◌, ◌<◌, ◌≤◌, ◌⊎◌, ◌==◌, if◌then◌else◌, List, map, slice_index, true, false, Option, None, Some, Result, Ok, Err}
 use Rattle.std.specs.List.{fold, find}
 use Rattle.flat_mem.specs.Bytes.{patch}
 use Rattle.code_model.specs.declared.object.Object.{Object}
@@ -7,14 +7,19 @@ use Rattle.code_model.specs.declared.parts.Export.{Export}
 use Rattle.code_model.specs.Rules.{static_size}
 use Rattle.kernel_model.specs.declared.kinds.Kind.{Kind}
 use Rattle.kernel_model.specs.declared.kinds.Kind.TheVariants.{App, Module}
+use Rattle.kernel_model.specs.Bitmap.{Has}
+use Rattle.kernel_model.specs.Layout.{kernel_of, IsLaidOut}
+use Rattle.kernel_model.specs.Queues.{QueuesHold}
 use Rattle.kernel_model.specs.Kernel.{Kernel, with_app, with_module, with_function, function_at}
 use Rattle.kernel_model.specs.Words.{live, none, identity, saved_register}
 use Rattle.place_model.specs.declared.places.Regions.{Regions}
 use Rattle.place_model.specs.declared.places.NoRoom.{NoRoom}
 use Rattle.place_model.specs.declared.places.NoRoom.TheVariants.{Slots, Taken}
-use Rattle.place_model.specs.Placing.{placing}
+use Rattle.place_model.specs.Placing.{placing, first_number, number_count}
+use Rattle.place_model.specs.Marking.{IsCodeWord, IsMarkBit}
 use Rattle.load_model.specs.Domains.{Domain, code_length, region_length}
 use Rattle.load_model.specs.Images.{code_image, region_image}
+use Rattle.load_model.specs.Standing.{HasBytes}
 
 -- an accepted object with the marks of its unit starts
 pub record Loadable : Type 0 where
@@ -77,3 +82,36 @@ places_of k o = unless_taken (taken_number k o) (placing k o.kind (code_length o
 
 abbrev pub with_images : (memory : List ℕ) → Domain → List ℕ
 with_images m d = patch (patch m d.code_lo (code_image d)) d.lo (region_image d)
+
+-- a number of its kind, and even places in the pools, as long as the object's code and region
+pub record ArePlaces (o : Object) (r : Regions) : Type 0 where
+  pub number_from : first_number o.kind ≤ r.dom
+  pub number_to : r.dom < first_number o.kind + number_count o.kind
+  pub code_even : r.code_lo % 2 ≡ 0
+  pub code_low : 0x6000 ≤ r.code_lo
+  pub code_length : r.code_hi ≡ r.code_lo + code_length o
+  pub code_high : r.code_hi ≤ 0xE000
+  pub region_even : r.lo % 2 ≡ 0
+  pub end_even : r.hi % 2 ≡ 0
+  pub region_low : 0x2000 ≤ r.lo
+  pub region_length : r.hi ≡ r.lo + region_length o
+  pub region_high : r.hi ≤ 0x6000
+
+-- an address neither of the code nor of the region
+pub record IsBeside (r : Regions) (a : ℕ) : Type 0 where
+  pub code : (a < r.code_lo) ⊎ (r.code_hi ≤ a)
+  pub region : (a < r.lo) ⊎ (r.hi ≤ a)
+
+-- the object is loaded at its places, with this kernel, and all else is as before
+pub record Loaded (before after : List ℕ) (k : Kernel) (o : Loadable) (r : Regions) : Type 0 where
+  pub places : ArePlaces o.object r
+  pub kernel : kernel_of after ≡ k
+  pub laid_out : IsLaidOut before → IsLaidOut after
+  pub queues : QueuesHold before → QueuesHold after
+  pub code : HasBytes after r.code_lo (code_image (domain_of o r))
+  pub region : HasBytes after r.lo (region_image (domain_of o r))
+  -- the bits of the code are the marks
+  pub marks : (at : ℕ) → IsCodeWord at → r.code_lo ≤ at → at < r.code_hi → IsMarkBit after at ↔ Has o.units ((at - r.code_lo) / 2)
+  pub other_marks : (at : ℕ) → IsCodeWord at → (at < r.code_lo) ⊎ (r.code_hi ≤ at) → IsMarkBit after at ↔ IsMarkBit before at
+  -- bytes outside of the tables, of the bitmap and of the places
+  pub others : (a : ℕ) → (a < 0x0200) ⊎ (0x1000 ≤ a) → (a < 0x1100) ⊎ (0x1900 ≤ a) → IsBeside r a → slice_index after a ≡ slice_index before a
