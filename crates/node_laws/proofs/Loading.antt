@@ -19,9 +19,9 @@ use Rattle.load_model.specs.Loading.{Loadable, domain_of, loaded_kernel, with_im
 use Rattle.node_model.specs.Sound.{IsDomain, AreDomains, IsCodeInPlace}
 use Rattle.node_model.specs.Laws.{IsLoading, LoadedLaw}
 use Rattle.node_laws.proofs.Stepping.{HasPlaces, places-of, code-in-pool}
-use Rattle.boot_laws.proofs.Images.{IsImaged, is-memory, code-stands, beside-images, high-words}
-use Rattle.boot_laws.proofs.Rows.{domain-new, domain-put, domain-old}
-use Rattle.boot_laws.proofs.Filling.{IsFilling, IsPlacedAt, placed-at, filling-with}
+use Rattle.node_laws.proofs.Images.{IsImaged, is-memory, code-stands, beside-images, high-words}
+use Rattle.node_laws.proofs.FillingRows.{domain-new, domain-put, domain-old}
+use Rattle.node_laws.proofs.Filling.{IsFilling, IsPlacedAt, placed-at, filling-with}
 
 -- the laws of other crates that are used
 pub record Given : Type 0 where

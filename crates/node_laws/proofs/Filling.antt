@@ -34,8 +34,8 @@ use Rattle.node_model.specs.Systems.{domain_in, is_mark, is_mark_in, is_unit_add
 use Rattle.node_model.specs.Steps.{pending}
 use Rattle.load_model.specs.Loading.{Loadable, domain_of, loaded_app, loaded_module, loaded_kernel, with_export, unless_taken, taken_number, places_of}
 use Rattle.node_model.specs.Sound.{AreDomains, AreFunctions}
-use Rattle.boot_laws.proofs.Kernels.{app_row, settled-app, settled-register, settled-export}
-use Rattle.boot_laws.proofs.Rows.{free-row, free-app, domain-old, HasLengths, domains-with, new-app, new-module, functions-stay, is-unit, is-mark}
+use Rattle.node_laws.proofs.FillingKernels.{app_row, settled-app, settled-register, settled-export}
+use Rattle.node_laws.proofs.FillingRows.{free-row, free-app, domain-old, HasLengths, domains-with, new-app, new-module, functions-stay, is-unit, is-mark}
 
 -- what holds of a kernel while objects are placed
 pub record IsFilling (k : Kernel) (ds : List (Option Domain)) : Type 0 where
