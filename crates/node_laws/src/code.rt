@@ -8,10 +8,14 @@ ghost use Rattle.node_model.specs.Code.{
   DoneWritesLaw,
   InstructionStandsLaw,
   KnownLaw,
+  LocksLaw,
   NoneRaisedLaw,
+  OwnMarkLaw,
+  OwnedLaw,
   RaiseLaw,
   SettledLaw,
   ShownLaw,
+  StandsLaw,
   TurnStandsLaw,
 };
 
@@ -25,6 +29,21 @@ pub fn memory_is_shown()
 /// The state of each module's row is known.
 pub fn modules_are_known()
     ensures { KnownLaw }
+{}
+
+/// The marks of the domain that runs are those of the bitmap.
+pub fn own_marks_are_seen()
+    ensures { OwnMarkLaw }
+{}
+
+/// What is promised of owners and waiters holds at each sound system.
+pub fn locks_are_held()
+    ensures { LocksLaw }
+{}
+
+/// The objects at the places of the rows stay, as long as the domains do.
+pub fn owned_stay()
+    ensures { OwnedLaw }
 {}
 
 /// Behind raised lines memory is that of the system with its lines raised; where none is raised nothing changes.
@@ -48,4 +67,9 @@ pub fn instruction_stands()
 pub fn acceptance_stands()
     ensures stands { Given → AcceptanceStandsLaw }
     ensures writes { Given → AcceptedWritesLaw }
+{}
+
+/// So a node whose parts are those of the next system stands for it, and all that a step promises holds.
+pub fn step_stands()
+    ensures { Given → StandsLaw }
 {}
