@@ -231,7 +231,7 @@ any-at p (x ∷ ds) off e = any-by p x ds off (p x) refl e (λ f. any-at p ds of
 
 -- ---- what is seen
 
-byte-seen : (m : List ℕ) (k : Kernel) (ds : List (Option Domain)) (q : ℕ) → length m ≡ 65536 → q < 2048
+pub byte-seen : (m : List ℕ) (k : Kernel) (ds : List (Option Domain)) (q : ℕ) → length m ≡ 65536 → q < 2048
     → get_or (seen_in m k ds) (0x1100 + q) 0 ≡ mark_byte ds (0x6000 + 16 * q)
 unfolding seen_in mark_bytes
 byte-seen m k ds q e l =

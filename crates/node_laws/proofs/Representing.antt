@@ -110,7 +110,7 @@ seen-leaves m before after k j ds hm hb ha laid is left =
 -- ---- writes
 
 -- what is seen where bytes may be written
-seen-free : (m : List ℕ) (k : Kernel) (ds : List (Option Domain)) (a : ℕ) → length m ≡ 65536 → (a < 512)
+pub seen-free : (m : List ℕ) (k : Kernel) (ds : List (Option Domain)) (a : ℕ) → length m ≡ 65536 → (a < 512)
     ⊎ (((4096 ≤ a) × (a < 0x1100)) ⊎ (0x1900 ≤ a)) → get_or (seen_in m k ds) a 0 ≡ get_or m a 0
 unfolding seen_in
 seen-free m k ds a e (inl l) =
