@@ -1,5 +1,5 @@
-use Rattle.boot_laws.proofs.Loading.{loaded-loading}
-use Rattle.boot_laws.proofs.loaded_is_loading.Goals as goal
+use Rattle.node_laws.proofs.Loading.{loaded-loading}
+use Rattle.node_laws.proofs.loaded_is_loading.Goals as goal
 
 pub returns : goal.returns
 returns c = loaded-loading record {

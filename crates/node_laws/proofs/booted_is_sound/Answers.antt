@@ -1,4 +1,4 @@
-use Rattle.boot_laws.proofs.booted_is_sound.Goals as goal
+use Rattle.node_laws.proofs.booted_is_sound.Goals as goal
 
 pub returns : goal.returns
 returns c =

@@ -19,12 +19,12 @@ use Rattle.load_model.specs.Loading.{Loadable, domain_of, loaded_kernel, with_im
 use Rattle.node_model.specs.Sound.{IsDomain, AreDomains, IsCodeInPlace}
 use Rattle.node_model.specs.Laws.{IsLoading, LoadedLaw}
 use Rattle.node_laws.proofs.Stepping.{HasPlaces, places-of, code-in-pool}
-use Rattle.boot_laws.proofs.Images.{IsImaged, is-memory, code-stands, beside-images, high-words}
-use Rattle.boot_laws.proofs.Rows.{domain-new, domain-put, domain-old}
-use Rattle.boot_laws.proofs.Filling.{IsFilling, IsPlacedAt, placed-at, filling-with}
+use Rattle.node_laws.proofs.Images.{IsImaged, is-memory, code-stands, beside-images, high-words}
+use Rattle.node_laws.proofs.FillingRows.{domain-new, domain-put, domain-old}
+use Rattle.node_laws.proofs.Filling.{IsFilling, IsPlacedAt, placed-at, filling-with}
 
 -- the laws of other crates that are used
-pub record Given : Type 0 where
+pub record ImageLaws : Type 0 where
   pub code_size : (d : Domain) → length (code_image d) ≡ code_length d.object
   pub region_size : (d : Domain) → length d.object.init ≤ d.hi - d.lo → length (region_image d) ≡ d.hi - d.lo
   pub code_small : (d : Domain) (k : ℕ) → slice_index (code_image d) k < 256
@@ -33,7 +33,7 @@ pub record Given : Type 0 where
 
 -- ---- memory
 
-imaged : Given → (k : Kernel) (o : Loadable) (r : Regions) → IsPlacedAt k o.object.kind o r → IsImaged (domain_of o r)
+pub imaged : ImageLaws → (k : Kernel) (o : Loadable) (r : Regions) → IsPlacedAt k o.object.kind o r → IsImaged (domain_of o r)
 imaged laws k o r p = record {
   code_size = laws.code_size (domain_of o r);
   region_size = laws.region_size (domain_of o r) (omega (arith, p.lengths.region));
@@ -73,7 +73,7 @@ code-apart j ds n i x d h domains en ei ne a from to = elim (cases_lt a d.code_l
         (holds_from a (domain_at j i).code (omega (arith, g, q.code_from)) (omega (arith, l, q.code_to)))
 
 -- the placed object's code stands, that of each other domain is left, and so are the vectors
-code-in-place : Given → (m : List ℕ) (j : Kernel) (ds : List (Option Domain)) (dom : ℕ) (d : Domain) → dom < length ds
+code-in-place : ImageLaws → (m : List ℕ) (j : Kernel) (ds : List (Option Domain)) (dom : ℕ) (d : Domain) → dom < length ds
     → IsSettledKernel j → AreDomains j.apps j.modules (set ds dom (Some d)) → IsImaged d → IsCodeInPlace m ds
     → IsCodeInPlace (with_images m d) (set ds dom (Some d))
 code-in-place laws m j ds dom d size h domains i c = record {
@@ -98,7 +98,7 @@ code-in-place laws m j ds dom d size h domains i c = record {
 
 -- ---- the system
 
-below-twelve : (kind : Kind) (r : Regions) → IsInPools kind r → r.dom < 12
+pub below-twelve : (kind : Kind) (r : Regions) → IsInPools kind r → r.dom < 12
 below-twelve App r i = omega (arith, i.number_to)
 below-twelve Module r i = omega (arith, i.number_to)
 
@@ -114,7 +114,7 @@ filling-of s h = record {
   fresh = h.fresh;
 }
 
-pub loaded-loading : Given → LoadedLaw
+pub loaded-loading : ImageLaws → LoadedLaw
 loaded-loading laws s n o r h a e =
     let p : IsPlacedAt s.kernel o.object.kind o r = placed-at s.kernel o r h.settled e in
     let j : Kernel = loaded_kernel o.object.kind s.kernel o.object r in
