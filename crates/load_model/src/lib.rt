@@ -11,7 +11,10 @@ ghost use Rattle.std.specs.List.{flat_map};
 ghost use Rattle.flat_mem.specs.Bytes.{word_bytes};
 ghost use Rattle.load_model.specs.Domains.{Domain, code_length};
 ghost use Rattle.load_model.specs.Images.{code_image, region_image, placed_words};
+ghost use Rattle.load_model.specs.Settling.{PlacedLaw, LoadedLaw};
 ghost use Rattle.load_model.specs.Standing.{CodeImageLaw, RegionImageLaw};
+
+use place_model::laws::{placings_are_lowest, placings_keep_settled};
 
 /// The code's image is as long as the code, and the region's as the region, where the initialised bytes fit.
 pub fn image_lengths()
@@ -41,3 +44,12 @@ pub fn region_is_words()
     ensures { (d : Domain) → length d.object.init ≤ d.hi - d.lo → (d.hi - d.lo) % 2 ≡ 0
         → region_image d ≡ flat_map word_bytes (placed_words d false ((d.hi - d.lo) / 2)) }
 {}
+
+/// A settled kernel stays settled where an object is loaded at the places that it gets; so it does with a module's row alone.
+pub fn loaded_is_settled()
+    ensures row { PlacedLaw }
+    ensures whole { LoadedLaw }
+{
+    placings_are_lowest();
+    placings_keep_settled();
+}
