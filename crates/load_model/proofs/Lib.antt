@@ -1,3 +1,7 @@
 mod Finding
 mod WordLists
 mod Imaging
+mod AppRows
+mod Registers
+mod ExportRows
+pub mod Settling

@@ -14,8 +14,6 @@ ghost use Rattle.load_model.specs.Images.{code_image, region_image, placed_words
 ghost use Rattle.load_model.specs.Settling.{PlacedLaw, LoadedLaw};
 ghost use Rattle.load_model.specs.Standing.{CodeImageLaw, RegionImageLaw};
 
-use place_model::laws::{placings_are_lowest, placings_keep_settled};
-
 /// The code's image is as long as the code, and the region's as the region, where the initialised bytes fit.
 pub fn image_lengths()
     ensures code { (d : Domain) → length (code_image d) ≡ code_length d.object }
@@ -49,7 +47,4 @@ pub fn region_is_words()
 pub fn loaded_is_settled()
     ensures row { PlacedLaw }
     ensures whole { LoadedLaw }
-{
-    placings_are_lowest();
-    placings_keep_settled();
-}
+{}
