@@ -14,6 +14,7 @@ use code_model::object::Object;
 use code_model::parts::Kind;
 use flat_mem::FlatMem;
 use kernel_tables::{AppRow, set_app, set_register};
+use load_model::regions_are_even;
 use region_table::Regions;
 
 /// The state of an application that hasn't ended.
@@ -37,6 +38,7 @@ pub fn region_bytes(o: &Object) -> u32
     ensures size { result ≡ region_length o.now }
     ensures even { result % 2 ≡ 0 }
 {
+    regions_are_even();
     u32::from(o.static_bytes()) + u32::from(o.threads) * u32::from(o.stack)
 }
 
