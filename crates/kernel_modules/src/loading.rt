@@ -10,7 +10,7 @@ ghost use Rattle.kernel_model.specs.Queues.{Leaves};
 ghost use Rattle.place_model.specs.declared.places.Regions.{Regions};
 ghost use Rattle.place_model.specs.Placing.{placing};
 ghost use Rattle.place_model.specs.Settled.{IsSettled};
-ghost use Rattle.load_model.specs.Domains.{code_length};
+ghost use Rattle.load_model.specs.Domains.{code_length, region_length};
 ghost use Rattle.load_model.specs.Loading.{places_of, loaded_kernel, with_export, taken_number, unless_taken, Loaded};
 ghost use Rattle.kernel_modules.specs.Calls.{HasKnownModules};
 
@@ -18,10 +18,9 @@ use code_model::marks::Marks;
 use code_model::object::Object;
 use code_model::parts::Kind;
 use flat_mem::FlatMem;
-use kernel_model::laws::outside_bytes;
 use kernel_tables::{FnRow, function, module, set_function};
 use kernel_threads::NONE;
-use load_model::loaded_is_settled;
+use load_model::{loaded_is_settled, tables_stand_apart};
 use region_table::{NoRoom, free_row};
 use reloc_loader::put_module;
 
@@ -43,12 +42,26 @@ pub fn load_module(m: &mut FlatMem, o: &Object, marks: &Marks) -> Result<u8, NoR
     ensures known { HasKnownModules (kernel_of m.old) → HasKnownModules (kernel_of m.new) }
     ensures settled { IsSettled m.new }
 {
-    outside_bytes();
-    loaded_is_settled();
-    m.is_flat();
-    if let Some(number) = taken_number(m, o) {
-        return Err(cause_where_taken(m, number));
+    match taken_number(m, o) {
+        Some(number) => Err(cause_where_taken(m, number)),
+        None => put_with_functions(m, o, marks),
     }
+}
+
+/// Loads a module with its functions, of which none is taken.
+fn put_with_functions(m: &mut FlatMem, o: &Object, marks: &Marks) -> Result<u8, NoRoom>
+    requires of_module { (o.now).kind ≡ Module }
+    requires accepted { IsAccepted o.now marks.now }
+    requires settled { IsSettled m.old }
+    ensures answer { MatchResult result
+        (λ n. (r : Regions) × (placing (kernel_of m.old) Module (code_length o.now) (region_length o.now) ≡ Ok r) × (r.dom ≡ n)
+            × Loaded m.old m.new (loaded_kernel Module (kernel_of m.old) o.now r) (record { object = o.now; units = marks.now }) r)
+        (λ e. (placing (kernel_of m.old) Module (code_length o.now) (region_length o.now) ≡ Err e) × (m.new ≡ m.old)) }
+    ensures known { HasKnownModules (kernel_of m.old) → HasKnownModules (kernel_of m.new) }
+    ensures settled { IsSettled m.new }
+{
+    loaded_is_settled();
+    tables_stand_apart();
     match put_module(m, o, marks) {
         Err(cause) => Err(cause),
         Ok(n) => {

@@ -5,3 +5,4 @@ mod AppRows
 mod Registers
 mod ExportRows
 pub mod Settling
+pub mod Apart

@@ -18,7 +18,7 @@ use Rattle.place_model.proofs.PlacingLemmas.{chosen, placing_is, placing_inside}
 use Rattle.place_model.proofs.SettledLemmas.{placing_even, placing_settled}
 use Rattle.load_model.specs.Domains.{code_length, region_length}
 use Rattle.load_model.specs.Loading.{loaded_kernel, loaded_module, placed_row}
-use Rattle.load_model.specs.Settling.{PlacedLaw, LoadedLaw}
+use Rattle.load_model.specs.Laws.{PlacedLaw, LoadedLaw}
 use Rattle.load_model.proofs.AppRows.{app_row, settled_app}
 use Rattle.load_model.proofs.Registers.{settled_register}
 use Rattle.load_model.proofs.ExportRows.{settled_exports}

@@ -12,8 +12,10 @@ ghost use Rattle.flat_mem.specs.Bytes.{word_bytes};
 ghost use Rattle.code_model.specs.declared.object.Object.{Object};
 ghost use Rattle.load_model.specs.Domains.{Domain, code_length, region_length};
 ghost use Rattle.load_model.specs.Images.{code_image, region_image, placed_words};
-ghost use Rattle.load_model.specs.Settling.{PlacedLaw, LoadedLaw};
+ghost use Rattle.load_model.specs.Laws.{PlacedLaw, LoadedLaw, TablesFirstLaw, TablesLastLaw};
 ghost use Rattle.load_model.specs.Standing.{CodeImageLaw, RegionImageLaw};
+
+use kernel_model::laws::outside_bytes;
 
 /// The code's image is as long as the code, and the region's as the region, where the initialised bytes fit.
 pub fn image_lengths()
@@ -54,3 +56,11 @@ pub fn loaded_is_settled()
     ensures row { PlacedLaw }
     ensures whole { LoadedLaw }
 {}
+
+/// Marks, code and region are written beside the tables: an object is loaded with a kernel that is written before them, or behind.
+pub fn tables_stand_apart()
+    ensures first { TablesFirstLaw }
+    ensures last { TablesLastLaw }
+{
+    outside_bytes();
+}

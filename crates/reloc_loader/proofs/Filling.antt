@@ -18,28 +18,11 @@ use Rattle.place_model.specs.Settled.{IsSettledKernel, IsSettled}
 use Rattle.load_model.specs.Domains.{code_length, region_length}
 use Rattle.load_model.specs.Images.{code_image, region_image, placed_words, placed_word, placed_byte, added}
 use Rattle.load_model.specs.Loading.{Loadable, domain_of, loaded_kernel, ArePlaces, IsBeside, Loaded, taken_number, unless_taken, places_of}
-use Rattle.load_model.specs.Settling.{PlacedLaw, LoadedLaw}
+use Rattle.load_model.specs.Laws.{PlacedLaw, LoadedLaw, TablesFirstLaw}
 use Rattle.load_model.specs.Standing.{HasBytes}
+use Rattle.load_model.proofs.Apart.{mark_byte, bit_same, mark_low}
 use Rattle.reloc_loader.specs.Loading.{unmarked, with_row, HasImages}
 use Rattle.reloc_loader.proofs.Tables.{kernel_same, laid_same, queues_same}
-
-abbrev OutsideLaw : Type 0
-OutsideLaw = (m n : List ℕ) → length m ≡ 65536 → length n ≡ 65536 → outside m ≡ outside n → (a : ℕ) → (a < 512) ⊎ (4096 ≤ a) → get_or m a 0 ≡ get_or n a 0
-
--- the byte of a mark
-mark_byte : ℕ → ℕ
-mark_byte at = 0x1100 + (at - 0x6000) / 16
-
-bit_same : (m n : List ℕ) (at : ℕ) → get_or n (mark_byte at) 0 ≡ get_or m (mark_byte at) 0 → IsMarkBit m at → IsMarkBit n at
-unfolding mark_byte
-bit_same m n at e h = ap (λ b. bit_at b ((at - 0x6000) / 2 % 8)) e ∙ h
-
-mark_low : (at : ℕ) → IsCodeWord at → (4352 ≤ mark_byte at) × (mark_byte at < 6400)
-unfolding mark_byte
-mark_low at w =
-    let above : 24576 ≤ at = w.above in
-    let below : at < 57344 = w.below in
-    (omega arith, omega arith)
 
 beside_low : (o : Object) (r : Regions) (a : ℕ) → ArePlaces o r → a < 6400 → IsBeside r a
 beside_low o r a p h =
@@ -82,38 +65,15 @@ filled m m1 m2 o r p k i =
       others = λ a t b s. i.others a s ∙ k.outside a b;
     }
 
--- ---- behind the rows
-
-loaded_from : (m m1 m2 : List ℕ) (k : Kernel) (o : Loadable) (r : Regions) → length m ≡ 65536 → length m1 ≡ 65536 → OutsideLaw
-    → Leaves m m1 k → Loaded m1 m2 (kernel_of m1) o r → Loaded m m2 k o r
-loaded_from m m1 m2 k o r e e1 law h l =
-    let elsewhere : (a : ℕ) → (a < 512) ⊎ (4096 ≤ a) → get_or m1 a 0 ≡ get_or m a 0 = λ a s. law m1 m e1 e h.others a s in
-    let old_mark : (at : ℕ) → IsCodeWord at → get_or m1 (mark_byte at) 0 ≡ get_or m (mark_byte at) 0 =
-    λ at w. elsewhere (mark_byte at) (inr (let low : 4352 ≤ mark_byte at = (mark_low at w).0 in omega arith)) in
-    record {
-      places = l.places;
-      kernel = l.kernel ∙ h.kernel;
-      laid_out = λ x. l.laid_out (h.laid_out x);
-      queues = λ x. l.queues (h.queues x);
-      code = l.code;
-      region = l.region;
-      marks = l.marks;
-      other_marks = λ at w b. (
-        λ x. bit_same m1 m at (sym (old_mark at w)) ((l.other_marks at w b).0 x),
-        λ x. (l.other_marks at w b).1 (bit_same m m1 at (old_mark at w) x),
-      );
-      others = λ a t b s. l.others a t b s ∙ elsewhere a t;
-    }
-
 -- ---- a placed object, and its row
 
-pub loaded_placed : (m m1 m2 m3 : List ℕ) (o : Loadable) (r : Regions) → length m ≡ 65536 → length m2 ≡ 65536 → OutsideLaw
+pub loaded_placed : (m m1 m2 m3 : List ℕ) (o : Loadable) (r : Regions) → length m ≡ 65536 → length m2 ≡ 65536 → TablesFirstLaw
     → Leaves m m1 (with_places (kernel_of m) r)
     → ((k : Kernel) → kernel_of m1 ≡ with_places k r → Leaves m1 m2 (with_row o.object.kind k o.object r))
     → Loaded m2 m3 (kernel_of m2) o r → Loaded m m3 (with_row o.object.kind (kernel_of m) o.object r) o r
 loaded_placed m m1 m2 m3 o r e e2 law h put l =
     let row : Leaves m1 m2 (with_row o.object.kind (kernel_of m) o.object r) = put (kernel_of m) h.kernel in
-    loaded_from m m2 m3 (with_row o.object.kind (kernel_of m) o.object r) o r e e2 law
+    law m m2 m3 (with_row o.object.kind (kernel_of m) o.object r) o r e e2
     record {
       kernel = row.kernel;
       others = row.others ∙ h.others;

@@ -17,8 +17,7 @@ use crate::sections::{Section, put_section};
 use code_model::marks::Marks;
 use code_model::object::Object;
 use flat_mem::FlatMem;
-use kernel_model::laws::outside_bytes;
-use load_model::{image_lengths, loaded_is_settled, region_is_words};
+use load_model::{image_lengths, loaded_is_settled, region_is_words, tables_stand_apart};
 use place_model::laws::{placings_are_lowest, placings_keep_settled};
 use region_table::{NoRoom, Regions, place, set_marks};
 
@@ -72,7 +71,7 @@ pub fn loaded(m: &mut FlatMem, o: &Object, marks: &Marks) -> Result<Regions, NoR
     ensures keeps { IsSettled m.new }
 {
     m.is_flat();
-    outside_bytes();
+    tables_stand_apart();
     loaded_is_settled();
     match place_object(m, o) {
         Err(cause) => Err(cause),

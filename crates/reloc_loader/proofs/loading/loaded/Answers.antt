@@ -7,7 +7,7 @@ pub returns-in-Ok-clause-loaded : goal.returns-in-Ok-clause-loaded
 returns-in-Ok-clause-loaded c =
     let o : Loadable = record { object = c.args.o.now; units = c.args.marks.now } in
     loaded_placed c.args.m.now c.place_object.new.m c.put_rows.new.m c.fill.new.m o c.in-Ok.r c.is_flat.ensures.size c.is_flat-in-Ok.ensures.size
-    c.outside_bytes.ensures c.in-Ok.ensures.row c.put_rows.ensures c.fill.ensures
+    c.tables_stand_apart.ensures.first c.in-Ok.ensures.row c.put_rows.ensures c.fill.ensures
 
 pub returns-in-Ok-clause-keeps : goal.returns-in-Ok-clause-keeps
 returns-in-Ok-clause-keeps c =
