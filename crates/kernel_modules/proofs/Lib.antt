@@ -1,3 +1,4 @@
 pub mod CallLemmas
 pub mod LeavingLemmas
 pub mod FixtureLemmas
+mod FunctionLemmas
