@@ -1,15 +1,13 @@
 -- The parts of boot: what holds while objects are placed, and at the end.
-use Rattle.std.proofs.Common.{◌≡◌, ℕ, zero, suc, ◌+◌, ◌<◌, ◌≤◌, List, [], ◌∷◌, length, drop, set, replicate, refl, sym, ap, ◌∙◌, subst, arith, length-set, Option, None, Some, Result, Ok, Err}
+use Rattle.std.proofs.Common.{◌≡◌, ℕ, zero, suc, ◌+◌, List, [], ◌∷◌, length, drop, set, replicate, refl, sym, ap, ◌∙◌, subst, arith, length-set, Some, Result, Ok, Err}
 use Rattle.std.specs.Prelude.{slice_get}
 use Rattle.std.proofs.lemmas.List.{drop_all}
 use Rattle.kernel_model.specs.Kernel.{Kernel}
-use Rattle.kernel_model.specs.Layout.{kernel_of}
 use Rattle.place_model.specs.declared.places.Regions.{Regions}
 use Rattle.place_model.specs.declared.places.NoRoom.{NoRoom}
-use Rattle.load_model.specs.Domains.{Domain}
 use Rattle.load_model.specs.Loading.{Loadable, Loaded, loaded_kernel, places_of}
 use Rattle.node_model.specs.Systems.{System}
-use Rattle.node_model.specs.Booting.{Refusal, empty_system, by_places, loaded, loaded_at, loaded_all, booted, begun_if, begun_system, all_started}
+use Rattle.node_model.specs.Booting.{Refusal, empty_system, by_places, loaded, loaded_all, booted, begun_if, begun_system}
 use Rattle.node_model.specs.Sound.{IsSound}
 use Rattle.node_model.specs.Nodes.{Parts, Boots, IsBootRefusal, Represents, all_owned, nobody}
 use Rattle.node_model.specs.Code.{Shows}

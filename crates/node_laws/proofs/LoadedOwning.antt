@@ -1,25 +1,22 @@
 -- The domains are those of the objects, with one placed more.
-use Rattle.std.proofs.Common.{◌≡◌, ◌≢◌, ℕ, ◌+◌, ◌<◌, ◌≤◌, eqb, List, length, set, refl, sym, ap, ◌∙◌, subst, inl, inr, arith, Option, None, Some, Ok}
+use Rattle.std.proofs.Common.{◌≡◌, ◌≢◌, ℕ, ◌<◌, eqb, List, set, refl, sym, ap, ◌∙◌, subst, inl, inr, arith, Option, None, Some}
 use Rattle.std.specs.Prelude.{if◌then◌else◌, ◌==◌, slice_index_or, slice_get}
 use Rattle.std.specs.Option.{option_map}
 use Rattle.std.proofs.lemmas.Bool.{cases_eq, cond-false, ne_eqb}
 use Rattle.std.proofs.lemmas.List.{get_or-set_same, get_or-set_other}
 use Rattle.kernel_model.specs.Kernel.{Kernel}
-use Rattle.place_model.specs.declared.places.Regions.{Regions}
-use Rattle.place_model.specs.Placing.{domain_at}
-use Rattle.code_model.specs.Verdicts.{IsAccepted}
 use Rattle.load_model.specs.Domains.{Domain}
-use Rattle.load_model.specs.Loading.{Loadable, domain_of, loaded_kernel, places_of}
-use Rattle.node_model.specs.Systems.{System, domain_in}
+use Rattle.load_model.specs.Loading.{Loadable, domain_of, loaded_kernel}
+use Rattle.node_model.specs.Systems.{domain_in}
 use Rattle.node_model.specs.Booting.{loaded_at}
 use Rattle.node_model.specs.Laws.{IsLoading}
-use Rattle.node_model.specs.Nodes.{all_owned, owned, at_row, nobody}
+use Rattle.node_model.specs.Nodes.{owned, at_row, nobody}
 use Rattle.node_model.specs.BootCode.{LoadedOwnedLaw}
-use Rattle.node_laws.proofs.Filling.{IsPlacedAt, placed-at}
+use Rattle.node_laws.proofs.Filling.{placed-at}
 use Rattle.node_laws.proofs.FillingRows.{domain-put, domain-old}
 use Rattle.node_laws.proofs.Loading.{ImageLaws, below-twelve, loaded-loading}
 use Rattle.node_laws.proofs.Owning.{owned-at, all-from, at-row, same-owned}
-use Rattle.node_laws.proofs.Stepping.{HasPlaces, places-of}
+use Rattle.node_laws.proofs.Stepping.{places-of}
 
 -- by the number of the object
 abbrev by-number : Kernel → List Loadable → (number dom : ℕ) → Option Domain
