@@ -1,11 +1,10 @@
 -- Threads start one after another.
-use Rattle.std.proofs.Common.{◌≡◌, ◌≢◌, ℕ, ◌+◌, ◌<◌, ◌≤◌, List, refl, sym, ap, ◌∙◌, subst, arith, Option, None, Some}
-use Rattle.std.specs.Prelude.{◌↔◌}
+use Rattle.std.proofs.Common.{◌≡◌, ◌≢◌, ℕ, ◌<◌, List, refl, ap, ◌∙◌, Option, None, Some}
 use Rattle.kernel_model.specs.Kernel.{Kernel, app_at}
-use Rattle.kernel_model.specs.Words.{free, identity}
+use Rattle.kernel_model.specs.Words.{free}
 use Rattle.kernel_model.specs.Starting.{started}
 use Rattle.load_model.specs.Domains.{Domain}
-use Rattle.node_model.specs.Systems.{System, domain_in}
+use Rattle.node_model.specs.Systems.{domain_in}
 use Rattle.node_model.specs.Booting.{started_if, started_below}
 use Rattle.node_model.specs.Sound.{HasDomain}
 use Rattle.node_model.specs.BootCode.{BeginningLaw}

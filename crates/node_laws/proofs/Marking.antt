@@ -1,26 +1,22 @@
 -- The bitmap that is seen has the marks of each domain.
 use Rattle.std.proofs.Common.{◌≡◌, ◌≢◌, ℕ, zero, suc, ◌+◌, ◌-◌, ◌*◌, ◌/◌, ◌%◌, ◌^◌, ◌<◌, ◌≤◌, Bool, true, false, cond, List, [], ◌∷◌, length, get_or, map, sum, refl, sym, ap, ◌∙◌, subst, inl, inr, arith, Option, Some, None}
-use Rattle.std.specs.Prelude.{◌||◌, IsTrue}
+use Rattle.std.specs.Prelude.{◌||◌}
 use Rattle.std.specs.List.{list_any, range_with_len}
 use Rattle.std.specs.Int.{bit_at}
 use Rattle.std.proofs.lemmas.Bool.{cases_eq}
 use Rattle.std.proofs.lemmas.List.Folds.{list_any_at}
 use Rattle.std.proofs.lemmas.List.FromFn.{get_or-map-range_with_len}
 use Rattle.kernel_model.specs.Kernel.{Kernel}
-use Rattle.place_model.specs.declared.places.Pool.TheVariants.{Code}
-use Rattle.place_model.specs.declared.places.Range.{Range}
-use Rattle.place_model.specs.Gaps.{holds}
-use Rattle.place_model.specs.Placing.{domain_at}
 use Rattle.place_model.specs.Marking.{IsCodeWord, IsMarkOf}
 use Rattle.place_model.specs.Settled.{IsSettledKernel}
 use Rattle.load_model.specs.Domains.{Domain, code_length}
-use Rattle.node_model.specs.Systems.{System, seen, seen_in, bytes_in, domain_in, is_mark, is_mark_in, mark_byte, mark_bytes}
+use Rattle.node_model.specs.Systems.{seen, seen_in, bytes_in, domain_in, is_mark, is_mark_in, mark_byte, mark_bytes}
 use Rattle.kernel_model.specs.Layout.{layout}
 use Rattle.flat_mem.specs.Bytes.{patch}
-use Rattle.node_model.specs.Sound.{IsSound, IsDomain, AreDomains}
+use Rattle.node_model.specs.Sound.{IsDomain, AreDomains}
 use Rattle.node_model.specs.Laws.{MarkSeenLaw}
 use Rattle.node_laws.proofs.Seeing.{in-patch, over-length, marks-length}
-use Rattle.node_laws.proofs.Stepping.{HasPlaces, places-of, code-in-pool}
+use Rattle.node_laws.proofs.Stepping.{code-in-pool, code-apart}
 use Rattle.node_laws.proofs.Contexts.{IsMark, mark-is, mark-of}
 
 -- ---- bits
@@ -270,15 +266,9 @@ own-unit k ds n d at h domains e from to some =
   where
     both : (i : ℕ) (x : Domain) → i ≢ n → domain_in ds i ≡ Some x → is_mark_in (Some x) at ≡ true → ⊥
     both i x ne there unit =
-        let p : HasPlaces (domain_at k i) x = places-of k i x (domains.placed i x there) in
-        let q : HasPlaces (domain_at k n) d = places-of k n d (domains.placed n d e) in
         let mark : IsMark x at = mark-is x at (domains.placed i x there).accepted unit in
-        h.apart Code i n (domains.placed i x there).below (domains.placed n d e).below ne p.used q.used at
-        (within (domain_at k i).code (omega (arith, p.code_from, mark.from)) (omega (arith, p.code_to, mark.to)))
-        (within (domain_at k n).code (omega (arith, q.code_from)) (omega (arith, q.code_to)))
-      where
-        within : (r : Range) → r.from ≤ at → at < r.to → IsTrue (holds at r)
-        within r f t = grind (arith, f, t)
+        elim (code-apart k ds i n x d h domains there e ne at mark.from mark.to)
+        [ inl l ↦ omega (arith, l, from) | inr u ↦ omega (arith, u, to) ]
 
 pub mark-seen : MarkSeenLaw
 unfolding some-unit

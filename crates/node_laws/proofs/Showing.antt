@@ -1,5 +1,5 @@
 -- What a node's memory shows, and that the kernel's calls find it as they want it.
-use Rattle.std.proofs.Common.{◌≡◌, ◌≢◌, ℕ, ◌+◌, ◌-◌, ◌*◌, ◌<◌, ◌≤◌, ◌⊎◌, true, false, List, length, get_or, inl, inr, refl, sym, ap, ◌∙◌, subst, arith, All, Option, Some}
+use Rattle.std.proofs.Common.{◌≡◌, ◌≢◌, ℕ, ◌+◌, ◌<◌, ◌≤◌, List, length, get_or, inl, inr, refl, sym, ap, ◌∙◌, subst, arith, All, Option}
 use Rattle.std.proofs.lemmas.Bool.{cases_lt, cases_eq}
 use Rattle.std.proofs.lemmas.Grind.{same_number_lists}
 use Rattle.std.proofs.lemmas.List.{get_or_past}
@@ -7,7 +7,6 @@ use Rattle.std.proofs.lemmas.List.Elements.{All-from_get_or}
 use Rattle.machine_model.specs.Memory.{IsMemory}
 use Rattle.kernel_model.specs.Kernel.{Kernel, module_at}
 use Rattle.kernel_model.specs.Layout.{kernel_of, layout, table_bytes, Fits, IsLaidOut}
-use Rattle.kernel_model.specs.Modules.{HasKnownModules}
 use Rattle.kernel_model.specs.Queues.{Leaves}
 use Rattle.kernel_model.specs.Words.{free}
 use Rattle.kernel_model.proofs.FitLemmas.{memory_fits_lem}
@@ -15,10 +14,8 @@ use Rattle.kernel_model.proofs.LayoutLemmas.{kernel_of-layout, laid_out_from_lay
 use Rattle.kernel_model.proofs.SmallLemmas.{layout_size, layout_small}
 use Rattle.place_model.specs.Settled.{IsSettled, IsSettledKernel}
 use Rattle.load_model.specs.Domains.{Domain}
-use Rattle.node_model.specs.Systems.{System, seen, seen_in, bytes_in}
-use Rattle.node_model.specs.Sound.{IsSound, HasDomain, IsDomain, IsModuleRowOf}
-use Rattle.node_model.specs.Nodes.{Represents}
-use Rattle.node_model.specs.Laws.{IsLoading}
+use Rattle.node_model.specs.Systems.{System, seen, seen_in}
+use Rattle.node_model.specs.Sound.{IsSound, HasDomain, IsDomain}
 use Rattle.node_model.specs.Code.{Shows, ShownLaw, SettledLaw, KnownLaw}
 use Rattle.node_model.specs.BootCode.{LoadingSettledLaw}
 use Rattle.node_laws.proofs.Seeing.{sees, seen-memory, seen-tables}

@@ -1,5 +1,5 @@
 -- A cleared memory shows the system with nothing in it.
-use Rattle.std.proofs.Common.{◌≡◌, ℕ, ◌+◌, ◌-◌, ◌*◌, ◌/◌, ◌%◌, ◌<◌, ◌≤◌, ◌⊎◌, List, length, get_or, replicate, inl, inr, refl, sym, ap, ◌∙◌, subst, arith, Option, None}
+use Rattle.std.proofs.Common.{◌≡◌, ℕ, ◌+◌, ◌-◌, ◌*◌, ◌/◌, ◌<◌, ◌≤◌, ◌⊎◌, List, length, get_or, replicate, inl, inr, refl, sym, ap, ◌∙◌, subst, arith, Option, None}
 use Rattle.std.proofs.lemmas.Bool.{cases_lt}
 use Rattle.std.proofs.lemmas.Grind.{same_number_lists}
 use Rattle.std.proofs.lemmas.List.{length-replicate, get_or-replicate, get_or_past}
@@ -7,9 +7,9 @@ use Rattle.flat_mem.specs.Bytes.{patch}
 use Rattle.machine_model.specs.Memory.{word_at, IsMemory}
 use Rattle.kernel_model.specs.Layout.{empty}
 use Rattle.load_model.specs.Domains.{Domain}
-use Rattle.node_model.specs.Systems.{System, seen, seen_in, mark_byte}
+use Rattle.node_model.specs.Systems.{seen_in, mark_byte}
 use Rattle.node_model.specs.Booting.{vectors, first_memory, empty_system}
-use Rattle.node_model.specs.BootCode.{IsElsewhere, IsCleared, FirstSeenLaw}
+use Rattle.node_model.specs.BootCode.{IsCleared, FirstSeenLaw}
 use Rattle.node_laws.proofs.FirstSystem.{first-loading}
 use Rattle.node_laws.proofs.Marking.{byte-seen}
 use Rattle.node_laws.proofs.Representing.{seen-length, seen-free}
@@ -86,6 +86,10 @@ vector-byte m after a f h g l words =
     ]
 
 -- ---- all bytes
+
+-- outside of the tables and of the vectors
+abbrev IsElsewhere : ℕ → Type 0
+IsElsewhere a = (a < 512) ⊎ (((4096 ≤ a) × (a < 0xFFE0)) ⊎ (0xFFFC ≤ a))
 
 first-bytes : (before after : List ℕ) → IsCleared before after → after ≡ seen_in first_memory empty (replicate 12 None)
 first-bytes before after h =

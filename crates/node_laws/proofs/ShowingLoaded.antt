@@ -1,5 +1,5 @@
 -- Behind loading an object memory shows the system that has it.
-use Rattle.std.proofs.Common.{◌≡◌, ◌≢◌, ℕ, ◌+◌, ◌-◌, ◌*◌, ◌/◌, ◌%◌, ◌^◌, ◌<◌, ◌≤◌, ◌⊎◌, Bool, true, false, List, length, get_or, set, inl, inr, refl, sym, ap, ◌∙◌, subst, arith, Option, None, Some, Ok}
+use Rattle.std.proofs.Common.{◌≡◌, ℕ, ◌+◌, ◌-◌, ◌*◌, ◌/◌, ◌%◌, ◌<◌, ◌≤◌, ◌⊎◌, Bool, true, false, List, length, get_or, set, inl, inr, refl, sym, ap, ◌∙◌, subst, arith, Option, None, Some, Ok}
 use Rattle.std.specs.Prelude.{◌↔◌, ◌&&◌, nat_le, nat_lt, ◌==◌}
 use Rattle.std.specs.Int.{bit_at}
 use Rattle.std.proofs.lemmas.Bool.{cases_lt, cases_eq, and_from, and_parts, le-leb, lt-ltb, eq-eqb, eqb-true}
@@ -10,7 +10,6 @@ use Rattle.machine_model.specs.Memory.{IsMemory}
 use Rattle.kernel_model.specs.Bitmap.{Has}
 use Rattle.kernel_model.specs.Kernel.{Kernel}
 use Rattle.kernel_model.specs.Words.{free}
-use Rattle.place_model.specs.declared.places.DomainRow.{DomainRow}
 use Rattle.place_model.specs.declared.places.Regions.{Regions}
 use Rattle.place_model.specs.Marking.{IsCodeWord, IsMarkBit}
 use Rattle.place_model.specs.Placing.{domain_at}
@@ -18,7 +17,7 @@ use Rattle.code_model.specs.Verdicts.{IsAccepted}
 use Rattle.load_model.specs.Domains.{Domain, code_length}
 use Rattle.load_model.specs.Images.{code_image, region_image}
 use Rattle.load_model.specs.Loading.{Loadable, Loaded, domain_of, loaded_kernel, places_of, with_images, IsBeside}
-use Rattle.node_model.specs.Systems.{System, seen, seen_in, domain_in, is_mark, is_mark_in, is_unit_address, has_bit}
+use Rattle.node_model.specs.Systems.{System, seen, seen_in, domain_in, is_mark_in, is_unit_address, has_bit}
 use Rattle.node_model.specs.Booting.{loaded_at}
 use Rattle.node_model.specs.Sound.{AreDomains}
 use Rattle.node_model.specs.Laws.{IsLoading}
@@ -33,7 +32,7 @@ use Rattle.node_laws.proofs.Marking.{weight, heavy, light, any-at, some-unit, bi
 use Rattle.node_laws.proofs.Representing.{seen-length, seen-free}
 use Rattle.node_laws.proofs.Seeing.{seen-memory}
 use Rattle.node_laws.proofs.Showing.{laid-shown, tables-shown}
-use Rattle.node_laws.proofs.Stepping.{HasPlaces, places-of}
+use Rattle.node_laws.proofs.Stepping.{places-of}
 
 -- ---- bits
 

@@ -23,10 +23,6 @@ use Rattle.node_model.specs.Code.{Shows}
 
 -- ---- the first memory
 
--- outside of the tables and of the vectors
-abbrev pub IsElsewhere : ℕ → Type 0
-IsElsewhere a = (a < 0x0200) ⊎ (((0x1000 ≤ a) × (a < 0xFFE0)) ⊎ (0xFFFC ≤ a))
-
 -- a memory of zeros got the empty kernel and the vectors
 pub record IsCleared (before after : List ℕ) : Type 0 where
   pub zeros : before ≡ replicate 65536 0
@@ -34,7 +30,8 @@ pub record IsCleared (before after : List ℕ) : Type 0 where
   pub kernel : kernel_of after ≡ empty
   pub laid_out : IsLaidOut after
   pub vectors : (n : ℕ) → n < 14 → word_at after (0xFFE0 + 2 * n) ≡ 0xF080 + 2 * n
-  pub others : (a : ℕ) → IsElsewhere a → slice_index after a ≡ slice_index before a
+  -- outside of the tables and of the vectors
+  pub others : (a : ℕ) → (a < 0x0200) ⊎ (((0x1000 ≤ a) × (a < 0xFFE0)) ⊎ (0xFFFC ≤ a)) → slice_index after a ≡ slice_index before a
 
 -- it is that of the system with nothing in it
 abbrev pub FirstSeenLaw : Type 0
