@@ -10,13 +10,12 @@ use crate::loading::loaded;
 use crate::{NoRoom, Regions};
 use code_model::marks::Marks;
 use code_model::object::Object;
-use code_model::parts::Kind;
 use flat_mem::FlatMem;
-use kernel_tables::{AppRow, app, clear};
+use kernel_tables::{AppRow, FnRow, ModuleRow, app, clear, function, module};
 use object_form::reading::read_object;
 use std::alloc::{AllocError, Global};
 use std::test::Fail;
-use texts::{Head, text};
+use texts::{APP, Head, MODULE, text};
 
 /// What stands in memory where nothing is written.
 const OLD: u8 = 0xAA;
@@ -45,6 +44,7 @@ const EMITS: [u16; 21] = [
 ];
 
 const SMALL: Head = Head {
+    kind: APP,
     zeroed: 0,
     stack: 16,
     threads: 1,
@@ -106,12 +106,9 @@ fn put_object(m: &mut FlatMem, o: &Object, marks: &Marks) -> Answer
     requires { IsSettled m.old }
     ensures { IsSettled m.new }
 {
-    match o.kind {
-        Kind::Module => Answer::NoObject,
-        Kind::App => match loaded(m, o, marks) {
-            Err(cause) => Answer::Refused(cause),
-            Ok(r) => Answer::At(r),
-        },
+    match loaded(m, o, marks) {
+        Err(cause) => Answer::Refused(cause),
+        Ok(r) => Answer::At(r),
     }
 }
 
@@ -151,6 +148,7 @@ const WORDS: [(u16, u16); 8] = [
 
 /// Ten bytes of static data and two stacks of 16: the region is 2000 to 2029.
 const TWO_THREADS: Head = Head {
+    kind: APP,
     zeroed: 4,
     stack: 16,
     threads: 2,
@@ -220,6 +218,7 @@ fn relocations_of_both_sections_stand_together(rt: HostRuntime) -> Result<(), Fa
 fn the_rest_of_the_region_is_zero(rt: HostRuntime) -> Result<(), Fail> {
     let alloc = rt.alloc();
     let head = Head {
+        kind: APP,
         zeroed: 2,
         stack: 18,
         threads: 3,
@@ -301,6 +300,80 @@ fn the_marks_are_those_of_the_unit_starts(rt: HostRuntime) -> Result<(), Fail> {
     Ok(())
 }
 
+/// A module without static data.
+const BARE: Head = Head {
+    kind: MODULE,
+    zeroed: 0,
+    stack: 0,
+    threads: 0,
+    entry: 0,
+};
+
+/// Gives back its argument plus one.
+const ADDS: [u16; 3] = [0x531C, 0x4030, 0xF026];
+
+#[test]
+fn a_modules_row_has_its_places_alone(rt: HostRuntime) -> Result<(), Fail> {
+    let alloc = rt.alloc();
+    let mut m = start(alloc)?;
+    let app_text = text(alloc, &SMALL, &JUMPS, &[], &[])?;
+    let head = Head { zeroed: 3, ..BARE };
+    let relocs = [(IN_CODE, CODE, 4), (IN_CODE, HI, 8), (IN_INIT, DATA, 2)];
+    let module_text = text(alloc, &head, &MIXED_CODE, &MIXED_INIT, &relocs)?;
+    let bare_text = text(alloc, &BARE, &ADDS, &[], &[])?;
+    let _app = put(&mut m, alloc, &app_text);
+    let at = Regions {
+        dom: 8,
+        code_lo: 0x6002,
+        code_hi: 0x600C,
+        lo: 0x2010,
+        hi: 0x201A,
+    };
+    assert_eq!(rt;
+        put_marked(&mut m, alloc, &module_text, &[2]),
+        Answer::At(at)
+    );
+    // an empty region stands at 2000, also where another one does
+    let empty = Regions {
+        dom: 9,
+        code_lo: 0x600C,
+        code_hi: 0x6012,
+        lo: 0x2000,
+        hi: 0x2000,
+    };
+    assert_eq!(rt; put(&mut m, alloc, &bare_text), Answer::At(empty));
+    let row = ModuleRow {
+        state: 1,
+        code_lo: 0x6002,
+        code_hi: 0x600C,
+        lo: 0x2010,
+        hi: 0x201A,
+    };
+    assert_eq!(rt; module(&m, 0), row);
+    assert_eq!(rt; (module(&m, 1).state, module(&m, 2).state), (1, 0));
+    // its functions are left to the caller
+    let free = FnRow {
+        module: 0xFFFF,
+        address: 0,
+    };
+    assert_eq!(rt; function(&m, 5), free);
+    let words: [(u16, u16); 7] = [
+        (0x6002, 0x1111),
+        (0x6006, 0x5FF2),
+        (0x600A, 0x001A),
+        (0x2010, 0x1234),
+        (0x2012, 0x200F),
+        (0x2016, 0),
+        (0x2018, 0),
+    ];
+    for (place, word) in words {
+        assert_eq!(rt; m.word(place), word, "at {place:#x}");
+    }
+    // the second word of the module's code is 6004, bit 2
+    assert_eq!(rt; (m.byte(0x1100) % 64, m.byte(0x201A)), (0x04, OLD));
+    Ok(())
+}
+
 /// A copy of memory.
 fn copy(alloc: Global, m: &FlatMem) -> Result<FlatMem, AllocError> {
     let mut other = FlatMem::new(alloc)?;
@@ -353,6 +426,7 @@ fn refusals_leave_memory_as_it_was(rt: HostRuntime) -> Result<(), Fail> {
     };
     assert_eq!(rt; refused(alloc, &long)?, (2, Answer::Refused(no_code), true));
     let head = Head {
+        kind: APP,
         zeroed: 16384,
         stack: 1024,
         threads: 4,
@@ -366,6 +440,40 @@ fn refusals_leave_memory_as_it_was(rt: HostRuntime) -> Result<(), Fail> {
     assert_eq!(rt;
         refused(alloc, &wide)?,
         (0, Answer::Refused(no_region), true)
+    );
+    Ok(())
+}
+
+#[test]
+fn modules_are_refused_as_applications_are(rt: HostRuntime) -> Result<(), Fail> {
+    let alloc = rt.alloc();
+    let small = text(alloc, &BARE, &ADDS, &[], &[])?;
+    assert_eq!(rt;
+        refused(alloc, &small)?,
+        (4, Answer::Refused(NoRoom::Slots), true)
+    );
+    let mut code = Vec::new(alloc);
+    for _ in 0..8192u16 {
+        code.push(0x3FFF)?;
+    }
+    let long = text(alloc, &BARE, &code, &[], &[])?;
+    let no_code = NoRoom::Code {
+        need: 16384,
+        gap: 0,
+    };
+    assert_eq!(rt; refused(alloc, &long)?, (2, Answer::Refused(no_code), true));
+    let head = Head {
+        zeroed: 10001,
+        ..BARE
+    };
+    let wide = text(alloc, &head, &JUMPS, &[], &[])?;
+    let no_region = NoRoom::Region {
+        need: 10002,
+        gap: 6382,
+    };
+    assert_eq!(rt;
+        refused(alloc, &wide)?,
+        (1, Answer::Refused(no_region), true)
     );
     Ok(())
 }
