@@ -11,7 +11,7 @@ use crate::{NoRoom, Regions};
 use code_model::marks::Marks;
 use code_model::object::Object;
 use flat_mem::FlatMem;
-use kernel_tables::{AppRow, FnRow, ModuleRow, app, clear, function, module};
+use kernel_tables::{AppRow, ModuleRow, app, clear, function, module};
 use object_form::reading::read_object;
 use std::alloc::{AllocError, Global};
 use std::test::Fail;
@@ -317,60 +317,52 @@ fn a_modules_row_has_its_places_alone(rt: HostRuntime) -> Result<(), Fail> {
     let alloc = rt.alloc();
     let mut m = start(alloc)?;
     let app_text = text(alloc, &SMALL, &JUMPS, &[], &[])?;
-    let head = Head { zeroed: 3, ..BARE };
-    let relocs = [(IN_CODE, CODE, 4), (IN_CODE, HI, 8), (IN_INIT, DATA, 2)];
-    let module_text = text(alloc, &head, &MIXED_CODE, &MIXED_INIT, &relocs)?;
     let bare_text = text(alloc, &BARE, &ADDS, &[], &[])?;
     let _app = put(&mut m, alloc, &app_text);
+    // an empty region stands at 2000, also where another one does
     let at = Regions {
         dom: 8,
         code_lo: 0x6002,
-        code_hi: 0x600C,
-        lo: 0x2010,
-        hi: 0x201A,
-    };
-    assert_eq!(rt;
-        put_marked(&mut m, alloc, &module_text, &[2]),
-        Answer::At(at)
-    );
-    // an empty region stands at 2000, also where another one does
-    let empty = Regions {
-        dom: 9,
-        code_lo: 0x600C,
-        code_hi: 0x6012,
+        code_hi: 0x6008,
         lo: 0x2000,
         hi: 0x2000,
     };
-    assert_eq!(rt; put(&mut m, alloc, &bare_text), Answer::At(empty));
+    assert_eq!(rt; put(&mut m, alloc, &bare_text), Answer::At(at));
     let row = ModuleRow {
         state: 1,
         code_lo: 0x6002,
-        code_hi: 0x600C,
-        lo: 0x2010,
-        hi: 0x201A,
+        code_hi: 0x6008,
+        lo: 0x2000,
+        hi: 0x2000,
     };
     assert_eq!(rt; module(&m, 0), row);
-    assert_eq!(rt; (module(&m, 1).state, module(&m, 2).state), (1, 0));
     // its functions are left to the caller
-    let free = FnRow {
-        module: 0xFFFF,
-        address: 0,
-    };
-    assert_eq!(rt; function(&m, 5), free);
+    assert_eq!(rt; function(&m, 5).module, 0xFFFF);
+    Ok(())
+}
+
+#[test]
+fn a_module_stands_relocated_with_its_marks(rt: HostRuntime) -> Result<(), Fail> {
+    let alloc = rt.alloc();
+    let mut m = start(alloc)?;
+    let head = Head { zeroed: 3, ..BARE };
+    let relocs = [(IN_CODE, CODE, 4), (IN_CODE, HI, 8), (IN_INIT, DATA, 2)];
+    let text = text(alloc, &head, &MIXED_CODE, &MIXED_INIT, &relocs)?;
+    let _at = put_marked(&mut m, alloc, &text, &[2]);
     let words: [(u16, u16); 7] = [
-        (0x6002, 0x1111),
-        (0x6006, 0x5FF2),
-        (0x600A, 0x001A),
-        (0x2010, 0x1234),
-        (0x2012, 0x200F),
-        (0x2016, 0),
-        (0x2018, 0),
+        (0x6000, 0x1111),
+        (0x6004, 0x5FF0),
+        (0x6008, 0x000A),
+        (0x2000, 0x1234),
+        (0x2002, 0x1FFF),
+        (0x2006, 0),
+        (0x2008, 0),
     ];
     for (place, word) in words {
         assert_eq!(rt; m.word(place), word, "at {place:#x}");
     }
-    // the second word of the module's code is 6004, bit 2
-    assert_eq!(rt; (m.byte(0x1100) % 64, m.byte(0x201A)), (0x04, OLD));
+    // its mark is 6002, bit 1, and its region ends at 200A
+    assert_eq!(rt; (m.byte(0x1100) % 32, m.byte(0x200A)), (0x02, OLD));
     Ok(())
 }
 
