@@ -37,7 +37,7 @@ pub fn load_module(m: &mut FlatMem, o: &Object, marks: &Marks) -> Result<u8, NoR
     requires settled { IsSettled m.old }
     ensures answer { MatchResult result
         (λ n. (r : Regions) × (places_of (kernel_of m.old) o.now ≡ Ok r) × (r.dom ≡ n)
-            × Loaded m.old m.new (loaded_kernel Module (kernel_of m.old) o.now r) (record { object = o.now; units = marks.now }) r)
+        × Loaded m.old m.new (loaded_kernel Module (kernel_of m.old) o.now r) (record { object = o.now; units = marks.now }) r)
         (λ e. (places_of (kernel_of m.old) o.now ≡ Err e) × (m.new ≡ m.old)) }
     ensures known { HasKnownModules (kernel_of m.old) → HasKnownModules (kernel_of m.new) }
     ensures settled { IsSettled m.new }
@@ -55,7 +55,7 @@ fn put_with_functions(m: &mut FlatMem, o: &Object, marks: &Marks) -> Result<u8, 
     requires settled { IsSettled m.old }
     ensures answer { MatchResult result
         (λ n. (r : Regions) × (placing (kernel_of m.old) Module (code_length o.now) (region_length o.now) ≡ Ok r) × (r.dom ≡ n)
-            × Loaded m.old m.new (loaded_kernel Module (kernel_of m.old) o.now r) (record { object = o.now; units = marks.now }) r)
+        × Loaded m.old m.new (loaded_kernel Module (kernel_of m.old) o.now r) (record { object = o.now; units = marks.now }) r)
         (λ e. (placing (kernel_of m.old) Module (code_length o.now) (region_length o.now) ≡ Err e) × (m.new ≡ m.old)) }
     ensures known { HasKnownModules (kernel_of m.old) → HasKnownModules (kernel_of m.new) }
     ensures settled { IsSettled m.new }

@@ -32,7 +32,7 @@ pub fn load(m: &mut FlatMem, o: &Object, marks: &Marks) -> Result<u8, NoRoom>
     requires settled { IsSettled m.old }
     ensures answer { MatchResult result
         (λ n. (r : Regions) × (places_of (kernel_of m.old) o.now ≡ Ok r) × (r.dom ≡ n)
-            × Loaded m.old m.new (loaded_kernel App (kernel_of m.old) o.now r) (record { object = o.now; units = marks.now }) r)
+        × Loaded m.old m.new (loaded_kernel App (kernel_of m.old) o.now r) (record { object = o.now; units = marks.now }) r)
         (λ e. (places_of (kernel_of m.old) o.now ≡ Err e) × (m.new ≡ m.old)) }
     ensures keeps { IsSettled m.new }
 {
@@ -51,13 +51,13 @@ pub fn put_module(m: &mut FlatMem, o: &Object, marks: &Marks) -> Result<u8, NoRo
     requires settled { IsSettled m.old }
     ensures answer { MatchResult result
         (λ n. (r : Regions) × (placing (kernel_of m.old) Module (code_length o.now) (region_length o.now) ≡ Ok r) × (r.dom ≡ n)
-            × Loaded m.old m.new (placed_row (kernel_of m.old) r) (record { object = o.now; units = marks.now }) r)
+        × Loaded m.old m.new (placed_row (kernel_of m.old) r) (record { object = o.now; units = marks.now }) r)
         (λ e. (placing (kernel_of m.old) Module (code_length o.now) (region_length o.now) ≡ Err e) × (m.new ≡ m.old)) }
     ensures keeps { IsSettled m.new }
 {
     match loaded(m, o, marks) {
         Err(cause) => Err(cause),
-        Ok(r) => Ok(r.dom),
+        Ok(places) => Ok(places.dom),
     }
 }
 
