@@ -20,7 +20,7 @@ use Rattle.place_model.specs.Settled.{IsSettled, IsSettledKernel}
 use Rattle.load_model.specs.Domains.{code_length, region_length}
 use Rattle.load_model.specs.Loading.{Loadable, Loaded, placed_row, loaded_module, loaded_kernel, with_export, taken_number, unless_taken, places_of}
 use Rattle.load_model.specs.Laws.{LoadedLaw, TablesLastLaw}
-use Rattle.kernel_modules.specs.Calls.{HasKnownModules}
+use Rattle.kernel_model.specs.Modules.{HasKnownModules}
 
 -- a module has exported the function
 abbrev pub is_exported : Kernel → (f : ℕ) → Bool

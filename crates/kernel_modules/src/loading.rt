@@ -12,7 +12,7 @@ ghost use Rattle.place_model.specs.Placing.{placing};
 ghost use Rattle.place_model.specs.Settled.{IsSettled};
 ghost use Rattle.load_model.specs.Domains.{code_length, region_length};
 ghost use Rattle.load_model.specs.Loading.{places_of, loaded_kernel, with_export, taken_number, unless_taken, Loaded};
-ghost use Rattle.kernel_modules.specs.Calls.{HasKnownModules};
+ghost use Rattle.kernel_model.specs.Modules.{HasKnownModules};
 
 use code_model::marks::Marks;
 use code_model::object::Object;

@@ -7,7 +7,7 @@ ghost use Rattle.kernel_model.specs.Layout.{kernel_of};
 ghost use Rattle.kernel_model.specs.Running.{NoneRuns, ThreadRuns};
 ghost use Rattle.kernel_model.specs.Starting.{MayBegin};
 ghost use Rattle.place_model.specs.Settled.{IsSettled};
-ghost use Rattle.kernel_modules.specs.Calls.{HasKnownModules};
+ghost use Rattle.kernel_model.specs.Modules.{HasKnownModules};
 
 use super::texts::text;
 use crate::entering::ENDED;
