@@ -1,5 +1,5 @@
--- What the code of a node's boot stands on: the memory that it holds while objects are placed and threads start. Each law is proved in
--- `node_laws`.
+-- What the code of a node's boot stands on: the memory that it holds while objects are placed and threads start. Each law is
+-- proved in `node_laws`.
 use Rattle.std.specs.Prelude.{◌≡◌, ◌≢◌, ℕ, ◌+◌, ◌*◌, ◌<◌, ◌≤◌, ◌⊎◌, ◌↔◌, List, length, drop, replicate, slice_index, slice_get, slice_set, Some, Ok, Err}
 use Rattle.flat_mem.specs.Bytes.{word_at}
 use Rattle.machine_model.specs.Memory.{IsMemory}
@@ -45,8 +45,8 @@ LoadingSettledLaw = (m : List ℕ) (s : System) → Shows m s → IsLoading s �
 
 -- behind loading an object, memory is that of the system that has it
 abbrev pub SeenLoadedLaw : Type 0
-SeenLoadedLaw = (before after : List ℕ) (s : System) (n : ℕ) (o : Loadable) (r : Regions) → IsLoading s → IsAccepted o.object o.units
-    → places_of s.kernel o.object ≡ Ok r → Shows before s → IsMemory after
+SeenLoadedLaw = (before after : List ℕ) (s : System) (n : ℕ) (o : Loadable) (r : Regions) → IsLoading s
+    → IsAccepted o.object o.units → places_of s.kernel o.object ≡ Ok r → Shows before s → IsMemory after
     → Loaded before after (loaded_kernel o.object.kind s.kernel o.object r) o r → Shows after (loaded_at s n o r)
 
 -- and the owners are those of the domains
@@ -122,4 +122,5 @@ pub record IsBegun (before : List ℕ) (new : Parts) (os : List Loadable) (s : S
   pub steps : new.steps ≡ 0
 
 abbrev pub BootStandsLaw : Type 0
-BootStandsLaw = (before : List ℕ) (new : Parts) (os : List Loadable) (s : System) → IsBegun before new os s → Boots new os (booted os)
+BootStandsLaw = (before : List ℕ) (new : Parts) (os : List Loadable) (s : System) → IsBegun before new os s
+    → Boots new os (booted os)
