@@ -6,8 +6,13 @@
 //! placing and starting, `running` a run with its lines, and `schedule` what a script gives for the next step.
 #![tactic(auto)]
 
-pub mod node;
 pub mod objects;
+
+mod step_laws;
+mod turns;
+mod stepping;
+
+pub mod node;
 
 pub use node::{BootFault, End, Node, Show};
 pub use objects::ObjectList;

@@ -8,6 +8,8 @@ ghost use Rattle.trace_model.specs.Scripts.{IsScript};
 ghost use Rattle.retos_node.specs.Parts.{parts, IsBootFault, RunsTo, RunsUpTo};
 
 use crate::objects::ObjectList;
+use crate::step_laws::{memory_laws, stands_law};
+use crate::stepping;
 use edge_io::sink::Sink;
 use edge_io::whole::SinkFault;
 use flat_mem::FlatMem;
@@ -79,10 +81,13 @@ impl Node {
         ensures made { (self.new).steps ≡ (self.old).steps + 1 }
         ensures same { ((self.new).owner ≡ (self.old).owner) × ((self.new).show ≡ (self.old).show) }
     {
-        let _ = raised;
-        let _ = pick;
+        stands_law();
+        memory_laws();
         let _ = objects;
-        Record::IdleTurn { step: self.steps }
+        let step = self.steps + 1;
+        let record = stepping::step(&mut self.mem, &mut self.regs, raised, step, pick);
+        self.steps = step;
+        record
     }
 
     /// Runs under a script for at most so many steps, until it is quiet, and prints the lines, each by a write of its own.
