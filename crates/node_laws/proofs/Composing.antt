@@ -169,7 +169,7 @@ made-by : (s : System) (o : Option (Instr × ℕ)) → (instruction s o).system.
 made-by s None = refl
 made-by s (Some x) = refl
 
-made : (s : System) (pick : Option ℕ) (c : Case) → (by_case s pick c).system.steps ≡ s.steps + 1
+pub made : (s : System) (pick : Option ℕ) (c : Case) → (by_case s pick c).system.steps ≡ s.steps + 1
 made s pick (Accepts n) = refl
 made s pick IsIdle = refl
 made s pick (Enters c) = refl

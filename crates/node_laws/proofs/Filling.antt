@@ -34,6 +34,7 @@ use Rattle.node_model.specs.Systems.{domain_in, is_mark, is_mark_in, is_unit_add
 use Rattle.node_model.specs.Steps.{pending}
 use Rattle.load_model.specs.Loading.{Loadable, domain_of, loaded_app, loaded_module, loaded_kernel, with_export, unless_taken, taken_number, places_of}
 use Rattle.node_model.specs.Sound.{AreDomains, AreFunctions}
+use Rattle.node_laws.proofs.Domains.{even-times}
 use Rattle.node_laws.proofs.FillingKernels.{app_row, settled-app, settled-register, settled-export}
 use Rattle.node_laws.proofs.FillingRows.{free-row, free-app, domain-old, HasLengths, domains-with, new-app, new-module, functions-stay, is-unit, is-mark}
 
@@ -65,10 +66,6 @@ not-taken (Some f) (Err Slots) r e = absurd (cc)
 not-taken (Some f) (Err (NoCode a b)) r e = absurd (cc)
 not-taken (Some f) (Err (NoRegion a b)) r e = absurd (cc)
 not-taken (Some f) (Err (Taken g)) r e = absurd (cc)
-
-even-times : (n s : ℕ) → s % 2 ≡ 0 → (n * s) % 2 ≡ 0
-even-times zero s e = omega arith
-even-times (suc n) s e = let h : (n * s) % 2 ≡ 0 = even-times n s e in omega (arith, h)
 
 even-stack : (kind : Kind) (o : Object) → o.kind ≡ kind → o.stack % 2 ≡ 0
 even-stack App o e = (o.form.app e).stack_even

@@ -141,7 +141,7 @@ marks-small ds k = elim (cases_lt k 2048) [
 pub over-length : (m : List ℕ) (k : Kernel) → length m ≡ 65536 → length (patch m 0x0200 (bytes_in 3584 (layout k))) ≡ 65536
 over-length m k e = length-patch m (bytes_in 3584 (layout k)) 0x0200 3584 (tables-length k) (omega arith) ∙ e
 
-seen-memory : (m : List ℕ) (k : Kernel) (ds : List (Option Domain)) → IsMemory m → IsMemory (seen_in m k ds)
+pub seen-memory : (m : List ℕ) (k : Kernel) (ds : List (Option Domain)) → IsMemory m → IsMemory (seen_in m k ds)
 unfolding seen_in SmallAll
 seen-memory m k ds h =
     let size : length (patch m 0x0200 (bytes_in 3584 (layout k))) ≡ 65536 = over-length m k h.bytes in
