@@ -1,6 +1,7 @@
 //! The list of accepted objects that a node is given.
 
-ghost use Rattle.std.specs.Prelude.{◌≡◌, ◌<◌, ◌∷◌, ◌++◌, [], length, slice_get, Some, OnOk, OnErr};
+ghost use Rattle.std.specs.Prelude.{◌≡◌, ◌<◌, ℕ, List, ◌∷◌, ◌++◌, [], length, slice_get, Some, OnOk, OnErr};
+ghost use Rattle.code_model.specs.declared.object.Object.{Object};
 ghost use Rattle.code_model.specs.Verdicts.{IsAccepted};
 ghost use Rattle.load_model.specs.Loading.{Loadable};
 
