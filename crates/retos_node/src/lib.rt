@@ -6,8 +6,11 @@
 //! placing and starting, `running` a run with its lines, and `schedule` what a script gives for the next step.
 #![tactic(auto)]
 
+mod entries;
 pub mod node;
 pub mod objects;
+mod routines;
+mod turns;
 
 pub use node::{BootFault, End, Node, Show};
 pub use objects::ObjectList;
