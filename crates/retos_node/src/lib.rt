@@ -6,13 +6,13 @@
 //! placing and starting, `running` a run with its lines, and `schedule` what a script gives for the next step.
 #![tactic(auto)]
 
-pub mod objects;
-
-mod step_laws;
-mod turns;
-mod stepping;
-
+mod entries;
 pub mod node;
+pub mod objects;
+mod routines;
+mod step_laws;
+mod stepping;
+mod turns;
 
 pub use node::{BootFault, End, Node, Show};
 pub use objects::ObjectList;

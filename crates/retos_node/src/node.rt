@@ -10,6 +10,7 @@ ghost use Rattle.retos_node.specs.Parts.{parts, IsBootFault, RunsTo, RunsUpTo};
 use crate::objects::ObjectList;
 use crate::step_laws::{memory_laws, stands_law};
 use crate::stepping;
+use crate::turns::Moment;
 use edge_io::sink::Sink;
 use edge_io::whole::SinkFault;
 use flat_mem::FlatMem;
@@ -85,7 +86,8 @@ impl Node {
         memory_laws();
         let _ = objects;
         let step = self.steps + 1;
-        let record = stepping::step(&mut self.mem, &mut self.regs, raised, step, pick);
+        let moment = Moment { step, pick };
+        let record = stepping::step(&mut self.mem, &mut self.regs, raised, moment);
         self.steps = step;
         record
     }

@@ -10,6 +10,7 @@ ghost use Rattle.kernel_model.specs.Kernel.{word_of};
 ghost use Rattle.kernel_model.specs.Layout.{kernel_of};
 ghost use Rattle.kernel_model.specs.declared.rows.SysWord.TheVariants.{Budget};
 ghost use Rattle.kernel_model.specs.Queues.{Leaves};
+ghost use Rattle.trace_model.specs.declared.records.Record.TheVariants as told;
 ghost use Rattle.place_model.specs.Settled.{IsSettled};
 ghost use Rattle.node_model.specs.Code.{Shows};
 ghost use Rattle.node_model.specs.Entries.{Call, entry_address, module_runs, who_runs};
@@ -18,11 +19,13 @@ ghost use Rattle.node_model.specs.Steps.{
   Accepts, Enters, IsIdle, OverBudget, Runs, Serves, case_in_code, case_of, pending, with_pending, with_raised,
 };
 ghost use Rattle.node_model.specs.Systems.{System};
-ghost use Rattle.retos_node.specs.Cases.{Gives, GivesRaised, IsAtCall, StandsForOne, line_to_accept};
-ghost use Rattle.retos_node.specs.Turns.{IsReady};
+ghost use Rattle.retos_node.specs.Cases.{Gives, GivesRaised, IsAtEntry, StandsForOne, line_to_accept};
+ghost use Rattle.retos_node.specs.Turns.{HasRow, IsReady};
 
 use crate::step_laws::{acceptance_laws, instruction_laws, memory_laws, raise_laws, turn_laws};
-use crate::turns::{budget_fault, entry, vector, who_runs};
+use crate::entries::entry;
+use crate::routines::vector;
+use crate::turns::{Moment, budget_fault, who_runs};
 use flat_mem::FlatMem;
 use interrupts::laws::{dropped_word, highest_found};
 use interrupts::lines::LINES;
@@ -58,12 +61,12 @@ const LAST_ROUTINE: u16 = 0xF09A;
 const MOST_INSTRUCTIONS: u16 = 4096;
 
 /// One step, with this number: the lines of a mask are raised before it, and a dispatch in it takes this pick.
-pub fn step(m: &mut FlatMem, r: &mut Regs, raised: u16, step: u32, pick: Option<u32>) -> Record
-    requires stands { StandsForOne m.old r.old step }
-    ensures { GivesRaised m.old m.new r.old r.new step raised pick result }
+pub fn step(m: &mut FlatMem, r: &mut Regs, raised: u16, moment: Moment) -> Record
+    requires stands { StandsForOne m.old r.old moment.step }
+    ensures { GivesRaised m.old m.new r.old r.new raised moment result }
 {
     raise_lines(m, raised);
-    by_case(m, r, step, pick)
+    by_case(m, r, moment)
 }
 
 // ---- lines
@@ -106,37 +109,39 @@ fn line_to_accept(m: &FlatMem, r: &Regs) -> Option<u8>
 // ---- the cases
 
 /// The first case that applies.
-fn by_case(m: &mut FlatMem, r: &mut Regs, step: u32, pick: Option<u32>) -> Record
-    requires stands { StandsForOne m.old r.old step }
-    ensures { Gives m.old m.new r.old r.new step pick result }
+fn by_case(m: &mut FlatMem, r: &mut Regs, moment: Moment) -> Record
+    requires stands { StandsForOne m.old r.old moment.step }
+    ensures { Gives m.old m.new r.old r.new moment result }
 {
     match line_to_accept(m, r) {
-        Some(line) => acceptance(m, r, line, step),
-        None if r.get(PC) < FIRST_ENTRY => in_code(m, r, step, pick),
-        None => in_kernel(m, r, step, pick),
+        Some(line) => acceptance(m, r, line, moment),
+        None if r.get(PC) < FIRST_ENTRY => in_code(m, r, moment),
+        None => in_kernel(m, r, moment),
     }
 }
 
 /// What holds of the memory and the registers of a sound system.
-fn memory_is_ready(m: &FlatMem, r: &Regs, step: u32)
-    requires { StandsForOne m.now r.now step }
+fn memory_is_ready(m: &FlatMem, r: &Regs, moment: Moment)
+    requires { StandsForOne m.now r.now moment.step }
     ensures ready { IsReady m.now }
     ensures settled { IsSettled m.now }
 {
     memory_laws();
-    let _ = (m, r, step);
+    let _ = m;
+    let _ = r;
+    let _ = moment;
 }
 
 /// An interrupt of a line is accepted, which isn't pending any more.
-fn acceptance(m: &mut FlatMem, r: &mut Regs, line: u8, step: u32) -> Record
+fn acceptance(m: &mut FlatMem, r: &mut Regs, line: u8, moment: Moment) -> Record
     requires line { line < LINES }
     requires pending { 2 ^ line ≤ pending (kernel_of m.old) }
-    requires stands { StandsForOne m.old r.old step }
+    requires stands { StandsForOne m.old r.old moment.step }
     requires case { case_of (kernel_of m.old) r.old ≡ Accepts line }
-    ensures { (pick : Option ℕ) → Gives m.old m.new r.old r.new step pick result }
+    ensures { Gives m.old m.new r.old r.new moment result }
 {
     acceptance_laws();
-    memory_is_ready(m, r, step);
+    memory_is_ready(m, r, moment);
     let who = who_runs(m);
     let pc = r.get(PC);
     let pending = get(m, SysWord::Pending);
@@ -144,7 +149,7 @@ fn acceptance(m: &mut FlatMem, r: &mut Regs, line: u8, step: u32) -> Record
     put(m, SysWord::Pending, pending - (1 << line));
     m.is_flat();
     Record::Accept {
-        step,
+        step: moment.step,
         who,
         line,
         pc,
@@ -153,62 +158,77 @@ fn acceptance(m: &mut FlatMem, r: &mut Regs, line: u8, step: u32) -> Record
 }
 
 /// The case at an address of the kernel.
-fn in_kernel(m: &mut FlatMem, r: &mut Regs, step: u32, pick: Option<u32>) -> Record
+fn in_kernel(m: &mut FlatMem, r: &mut Regs, moment: Moment) -> Record
     requires above { FIRST_ENTRY ≤ reg r.old 0 }
-    requires stands { StandsForOne m.old r.old step }
+    requires stands { StandsForOne m.old r.old moment.step }
     requires none { line_to_accept (kernel_of m.old) r.old ≡ None }
-    ensures { Gives m.old m.new r.old r.new step pick result }
+    ensures { Gives m.old m.new r.old r.new moment result }
 {
     r.is_context();
     let pc = r.get(PC);
     if pc <= LAST_ENTRY {
-        enter(m, r, step, pick)
+        enter(m, r, moment)
     } else if pc == IDLE {
-        idle_turn(m, r, step)
+        idle_turn(m, r, moment)
     } else if pc >= FIRST_ROUTINE && pc <= LAST_ROUTINE {
-        serve(m, r, ((pc - FIRST_ROUTINE) / 2) as u8, step, pick)
+        serve(m, r, ((pc - FIRST_ROUTINE) / 2) as u8, moment)
     } else {
-        in_code(m, r, step, pick)
+        in_code(m, r, moment)
     }
 }
 
 /// The idle machine's turn changes nothing.
-fn idle_turn(m: &FlatMem, r: &Regs, step: u32) -> Record
+fn idle_turn(m: &FlatMem, r: &Regs, moment: Moment) -> Record
     requires case { case_of (kernel_of m.now) r.now ≡ IsIdle }
-    ensures { (pick : Option ℕ) → Gives m.now m.now r.now r.now step pick result }
+    ensures { Gives m.now m.now r.now r.now moment result }
 {
     turn_laws();
     m.is_flat();
     let _ = r;
-    Record::IdleTurn { step }
+    Record::IdleTurn {
+        step: moment.step,
+    }
 }
 
 /// The turn of the entry at PC.
-fn enter(m: &mut FlatMem, r: &mut Regs, step: u32, pick: Option<u32>) -> Record
-    requires stands { StandsForOne m.old r.old step }
-    requires at { IsAtCall r.old }
-    requires case { (c : Call) → reg r.old 0 ≡ entry_address c → case_of (kernel_of m.old) r.old ≡ Enters c }
-    ensures { Gives m.old m.new r.old r.new step pick result }
+fn enter(m: &mut FlatMem, r: &mut Regs, moment: Moment) -> Record
+    requires stands { StandsForOne m.old r.old moment.step }
+    requires at { IsAtEntry (kernel_of m.old) r.old }
+    ensures { Gives m.old m.new r.old r.new moment result }
 {
     turn_laws();
     memory_laws();
-    memory_is_ready(m, r, step);
-    let record = entry(m, r, step, pick);
+    memory_is_ready(m, r, moment);
+    has_a_row(m, r, moment);
+    let at = r.get(PC);
+    let record = entry(m, r, at, moment);
     m.is_flat();
     record
 }
 
+/// The entry at PC has a row for who runs.
+fn has_a_row(m: &FlatMem, r: &Regs, moment: Moment)
+    requires stands { StandsForOne m.now r.now moment.step }
+    requires at { IsAtEntry (kernel_of m.now) r.now }
+    ensures { HasRow (kernel_of m.now) (reg r.now 0) }
+{
+    turn_laws();
+    let _ = m;
+    let _ = r;
+    let _ = moment;
+}
+
 /// The turn of a line's routine.
-fn serve(m: &mut FlatMem, r: &mut Regs, line: u8, step: u32, pick: Option<u32>) -> Record
+fn serve(m: &mut FlatMem, r: &mut Regs, line: u8, moment: Moment) -> Record
     requires line { line < LINES }
-    requires stands { StandsForOne m.old r.old step }
+    requires stands { StandsForOne m.old r.old moment.step }
     requires case { case_of (kernel_of m.old) r.old ≡ Serves line }
-    ensures { Gives m.old m.new r.old r.new step pick result }
+    ensures { Gives m.old m.new r.old r.new moment result }
 {
     turn_laws();
     memory_laws();
-    memory_is_ready(m, r, step);
-    let record = vector(m, r, line, step, pick);
+    memory_is_ready(m, r, moment);
+    let record = vector(m, r, line, moment);
     m.is_flat();
     record
 }
@@ -216,101 +236,105 @@ fn serve(m: &mut FlatMem, r: &mut Regs, line: u8, step: u32, pick: Option<u32>) 
 // ---- in code
 
 /// An instruction, or the end of a module whose budget is spent.
-fn in_code(m: &mut FlatMem, r: &mut Regs, step: u32, pick: Option<u32>) -> Record
-    requires stands { StandsForOne m.old r.old step }
+fn in_code(m: &mut FlatMem, r: &mut Regs, moment: Moment) -> Record
+    requires stands { StandsForOne m.old r.old moment.step }
     requires case { case_of (kernel_of m.old) r.old ≡ case_in_code (kernel_of m.old) }
-    ensures { Gives m.old m.new r.old r.new step pick result }
+    ensures { Gives m.old m.new r.old r.new moment result }
 {
-    memory_is_ready(m, r, step);
+    memory_is_ready(m, r, moment);
     let who = who_runs(m);
     match who {
-        Who::Module(_) => in_module(m, r, who, step, pick),
-        Who::Thread { .. } | Who::Idle => instruction(m, r, who, step),
+        Who::Module(_) => in_module(m, r, who, moment),
+        Who::Thread { .. } | Who::Idle => instruction(m, r, who, moment),
     }
 }
 
 /// A module's instruction, or its end where it ran as many as it may.
-fn in_module(m: &mut FlatMem, r: &mut Regs, who: Who, step: u32, pick: Option<u32>) -> Record
-    requires stands { StandsForOne m.old r.old step }
+fn in_module(m: &mut FlatMem, r: &mut Regs, who: Who, moment: Moment) -> Record
+    requires stands { StandsForOne m.old r.old moment.step }
     requires case { case_of (kernel_of m.old) r.old ≡ case_in_code (kernel_of m.old) }
     requires who { who ≡ who_runs (kernel_of m.old) }
     requires runs { module_runs (kernel_of m.old) ≡ true }
-    ensures { Gives m.old m.new r.old r.new step pick result }
+    ensures { Gives m.old m.new r.old r.new moment result }
 {
     let count = get(m, SysWord::Budget);
     if count < MOST_INSTRUCTIONS {
-        counted_instruction(m, r, who, count, step)
+        counted_instruction(m, r, who, count, moment)
     } else {
-        over_budget(m, r, step, pick)
+        over_budget(m, r, moment)
     }
 }
 
 /// The end of a module that ran as many instructions as it may.
-fn over_budget(m: &mut FlatMem, r: &mut Regs, step: u32, pick: Option<u32>) -> Record
-    requires stands { StandsForOne m.old r.old step }
+fn over_budget(m: &mut FlatMem, r: &mut Regs, moment: Moment) -> Record
+    requires stands { StandsForOne m.old r.old moment.step }
     requires case { case_of (kernel_of m.old) r.old ≡ OverBudget }
-    ensures { Gives m.old m.new r.old r.new step pick result }
+    ensures { Gives m.old m.new r.old r.new moment result }
 {
     turn_laws();
     memory_laws();
-    memory_is_ready(m, r, step);
-    let record = budget_fault(m, r, step, pick);
+    memory_is_ready(m, r, moment);
+    let record = budget_fault(m, r, moment);
     m.is_flat();
     record
 }
 
 /// A module's instruction, which is counted.
-fn counted_instruction(m: &mut FlatMem, r: &mut Regs, who: Who, count: u16, step: u32) -> Record
+fn counted_instruction(m: &mut FlatMem, r: &mut Regs, who: Who, count: u16, moment: Moment) -> Record
     requires case { case_of (kernel_of m.old) r.old ≡ Runs }
     requires who { who ≡ who_runs (kernel_of m.old) }
     requires runs { module_runs (kernel_of m.old) ≡ true }
     requires count { count ≡ word_of (kernel_of m.old) Budget }
     requires few { count < MOST_INSTRUCTIONS }
-    ensures { (pick : Option ℕ) → Gives m.old m.new r.old r.new step pick result }
+    ensures { Gives m.old m.new r.old r.new moment result }
 {
     instruction_laws();
     m.is_flat();
     match fetch(m, r.get(PC)) {
         Ok((instr, words)) => {
-            let record = execute(m, r, &instr, words, who, step);
+            let record = execute(m, r, &instr, words, who, moment);
             put(m, SysWord::Budget, count + 1);
             m.is_flat();
             record
         }
-        Err(_) => Record::IdleTurn { step },
+        Err(_) => Record::IdleTurn {
+        step: moment.step,
+    },
     }
 }
 
 /// An instruction of an application.
-fn instruction(m: &mut FlatMem, r: &mut Regs, who: Who, step: u32) -> Record
+fn instruction(m: &mut FlatMem, r: &mut Regs, who: Who, moment: Moment) -> Record
     requires case { case_of (kernel_of m.old) r.old ≡ Runs }
     requires who { who ≡ who_runs (kernel_of m.old) }
     requires no_module { module_runs (kernel_of m.old) ≡ false }
-    ensures { (pick : Option ℕ) → Gives m.old m.new r.old r.new step pick result }
+    ensures { Gives m.old m.new r.old r.new moment result }
 {
     instruction_laws();
     m.is_flat();
     match fetch(m, r.get(PC)) {
-        Ok((instr, words)) => execute(m, r, &instr, words, who, step),
-        Err(_) => Record::IdleTurn { step },
+        Ok((instr, words)) => execute(m, r, &instr, words, who, moment),
+        Err(_) => Record::IdleTurn {
+        step: moment.step,
+    },
     }
 }
 
 /// Runs the instruction at PC, of so many words.
 #[inline(always)]
-fn execute(m: &mut FlatMem, r: &mut Regs, instr: &Instr, words: u8, who: Who, step: u32) -> Record
+fn execute(m: &mut FlatMem, r: &mut Regs, instr: &Instr, words: u8, who: Who, moment: Moment) -> Record
     requires legal { Legal instr.now }
     requires size { words ≡ 1 + length (words_after instr.now) }
     ensures memory { m.new ≡ memory_after m.old (does m.old r.old instr.now words) }
     ensures context { r.new ≡ (does m.old r.old instr.now words).context }
-    ensures shown { result ≡ Record.Instr step who (reg r.old 0) (word_at m.old (reg r.old 0)) (does m.old r.old instr.now words).written }
+    ensures shown { result ≡ told.Instr moment.step who (reg r.old 0) (word_at m.old (reg r.old 0)) (does m.old r.old instr.now words).written }
     ensures is_memory { IsMemory m.new }
 {
     let pc = r.get(PC);
     let word = m.word(pc);
     let writes = exec(m, r, instr, words);
     Record::Instr {
-        step,
+        step: moment.step,
         who,
         pc,
         word,
