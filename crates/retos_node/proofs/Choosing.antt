@@ -1,28 +1,31 @@
 -- Which case a step is, by the line to accept and by PC.
-use Rattle.std.proofs.Common.{◌≡◌, ◌≢◌, ℕ, ◌+◌, ◌*◌, ◌%◌, ◌^◌, ◌<◌, ◌≤◌, ◌⊎◌, inl, inr, Bool, true, false, cond, eqb, List, [], ◌∷◌, Option, Some, None, refl, sym, ap, ◌∙◌, subst, arith, bit_and}
+use Rattle.std.proofs.Common.{◌≡◌, ◌≢◌, ℕ, ◌+◌, ◌*◌, ◌%◌, ◌^◌, ◌<◌, ◌≤◌, ◌⊎◌, inl, inr, Bool, true, false, not, cond, eqb, List, [], ◌∷◌, Option, Some, None, refl, sym, ap, ◌∙◌, subst, arith, bit_and}
 use Rattle.std.specs.Int.{bit_at}
 use Rattle.std.specs.List.{find, AllByRecursion}
-use Rattle.std.proofs.lemmas.Bool.{cases_eq, cond-false, ne_eqb, eq-eqb, eqb-true, and_left}
+use Rattle.std.proofs.lemmas.Bool.{true≢false, cases_eq, cond-true, cond-false, ne_eqb, eq-eqb, eqb-true, and_left, and_right, and_from, lt-leb, le-leb}
 use Rattle.std.proofs.lemmas.Nat.{and_le_l}
 use Rattle.std.proofs.lemmas.Nat.Bits.{and_pow}
 use Rattle.machine_model.specs.Context.{reg}
 use Rattle.kernel_model.specs.declared.kinds.Kind.TheVariants.{App}
-use Rattle.kernel_model.specs.Kernel.{Kernel}
-use Rattle.node_model.specs.Entries.{Call, StoreFault, StackFault, Goes, Leave, calls, entry_address}
-use Rattle.node_model.specs.Steps.{Case, Accepts, IsIdle, Enters, Serves, case_of, case_by_line, case_at, case_in_code, pending, highest_line, allows_interrupts, entry_at, routine_at, lines_down}
-use Rattle.node_laws.proofs.Casing.{StandsAt, named, entry-least, enters-at, find-none}
+use Rattle.kernel_model.specs.declared.rows.SysWord.TheVariants.{Budget}
+use Rattle.kernel_model.specs.Kernel.{Kernel, word_of}
+use Rattle.kernel_model.specs.Words.{none, running_module}
+use Rattle.node_model.specs.Entries.{Call, StoreFault, StackFault, Goes, Leave, calls, entry_address, module_runs}
+use Rattle.node_model.specs.Steps.{Case, Accepts, IsIdle, Enters, Serves, OverBudget, Runs, case_of, case_by_line, case_at, case_in_code, is_over_budget, pending, highest_line, entry_at, routine_at, lines_down}
+use Rattle.node_laws.proofs.Casing.{StandsAt, named, entry-least, entry-found, enters-at, find-none}
 use Rattle.node_laws.proofs.Composing.{routine-found}
-use Rattle.retos_node.specs.Cases.{line_to_accept, IsAtCall}
+use Rattle.retos_node.specs.Cases.{line_to_accept, IsAtEntry}
 
 -- ---- the line
 
+found_by : (p : ℕ → Bool) (y x : ℕ) (rest : Option ℕ) (b : Bool) → p y ≡ b → (rest ≡ Some x → p x ≡ true) → cond b (Some y) rest ≡ Some x
+    → p x ≡ true
+found_by p y x rest true h later e = let same : y ≡ x = cc in subst (λ (z : ℕ). p z ≡ true) same h
+found_by p y x rest false h later e = later e
+
 find_holds : (p : ℕ → Bool) (xs : List ℕ) (x : ℕ) → find p xs ≡ Some x → p x ≡ true
 find_holds p [] x e = absurd (cc)
-find_holds p (y ∷ ys) x e = by (p y) refl e
-  where
-    by : (b : Bool) → p y ≡ b → cond b (Some y) (find p ys) ≡ Some x → p x ≡ true
-    by true h f = (let same : y ≡ x = cc in subst (λ (z : ℕ). p z ≡ true) same h)
-    by false h f = find_holds p ys x f
+find_holds p (y ∷ ys) x e = found_by p y x (find p ys) (p y) refl (find_holds p ys x) e
 
 bit_within : (w n : ℕ) → bit_at w n ≡ 1 → 2 ^ n ≤ w
 bit_within w n e =
@@ -49,10 +52,6 @@ accepts k r n e = by_line k r (Some n) e
 pub idles : (k : Kernel) (r : List ℕ) → line_to_accept k r ≡ None → reg r 0 ≡ 0xF07E → case_of k r ≡ IsIdle
 idles k r e at = by_line k r None e ∙ ap (λ (pc : ℕ). case_by_line k pc None) at
 
-pub enters : (k : Kernel) (r : List ℕ) → line_to_accept k r ≡ None → (c : Call) → reg r 0 ≡ entry_address c
-    → case_of k r ≡ Enters c
-enters k r e c at = by_line k r None e ∙ enters-at k (reg r 0) c at
-
 no_entry : (pc : ℕ) → (pc < 0xF000) ⊎ (0xF026 < pc) → entry_at pc ≡ None
 no_entry pc h = find-none (λ c. eqb (entry_address c) pc) calls (λ c. ne_eqb (entry_address c) pc (apart c h))
   where
@@ -70,7 +69,7 @@ serves k r n e l at =
     ∙ ap (λ (o : Option ℕ). case_at k None o) (routine-found n l)
 
 -- no entry, no routine, and not where the machine idles
-pub IsNowhere : (pc : ℕ) → Type 0
+abbrev pub IsNowhere : (pc : ℕ) → Type 0
 IsNowhere pc = (pc < 0xF000) ⊎ ((0xF026 < pc) × (pc ≢ 0xF07E) × ((pc < 0xF080) ⊎ (0xF09A < pc)))
 
 find_none_in : (p : ℕ → Bool) (xs : List ℕ) → AllByRecursion (λ x. p x ≡ false) xs → find p xs ≡ None
@@ -99,23 +98,54 @@ in_code k r e h = by_line k r None e ∙ elim h [
 
 -- ---- the entry
 
-pub at_call : (r : List ℕ) → 0xF000 ≤ reg r 0 → reg r 0 ≤ 0xF026 → reg r 0 % 2 ≡ 0 → IsAtCall r
-at_call r l u e = at (reg r 0) l u e
-  where
-    given : (pc : ℕ) → StandsAt pc → (c : Call) × (pc ≡ entry_address c)
-    given pc s = (s.entry, s.at)
-
-    at : (pc : ℕ) → 0xF000 ≤ pc → pc ≤ 0xF026 → pc % 2 ≡ 0 → (c : Call) × (pc ≡ entry_address c)
-    at pc l u e = elim (cases_eq pc 0xF000) [
-      | inl h ↦ (StoreFault, h)
-      | inr n0 ↦ elim (cases_eq pc 0xF002) [
-        | inl h ↦ (StackFault, h)
-        | inr n2 ↦ elim (cases_eq pc 0xF004) [
-          | inl h ↦ (Goes, h)
-          | inr n4 ↦ elim (cases_eq pc 0xF026) [
-            | inl h ↦ (Leave, h)
-            | inr n26 ↦ given pc (named App pc refl (inr (omega arith, omega arith, e)))
-          ]
-        ]
+named_entry : (pc : ℕ) → 0xF000 ≤ pc → pc ≤ 0xF026 → pc % 2 ≡ 0 → (c : Call) × (pc ≡ entry_address c)
+named_entry pc l u e = elim (cases_eq pc 0xF000) [
+  | inl h ↦ (StoreFault, h)
+  | inr n0 ↦ elim (cases_eq pc 0xF002) [
+    | inl h ↦ (StackFault, h)
+    | inr n2 ↦ elim (cases_eq pc 0xF004) [
+      | inl h ↦ (Goes, h)
+      | inr n4 ↦ elim (cases_eq pc 0xF026) [
+        | inl h ↦ (Leave, h)
+        | inr n26 ↦ (let s : StandsAt pc = named App pc refl (inr (omega arith, omega arith, e)) in (s.entry, s.at))
       ]
     ]
+  ]
+]
+
+pub at_entry : (k : Kernel) (r : List ℕ) → line_to_accept k r ≡ None → 0xF000 ≤ reg r 0 → reg r 0 ≤ 0xF026 → reg r 0 % 2 ≡ 0
+    → IsAtEntry k r
+at_entry k r none l u e =
+    let c : (c : Call) × (reg r 0 ≡ entry_address c) = named_entry (reg r 0) l u e in
+    record {
+      call = c.0;
+      at = ap entry_at c.1 ∙ entry-found c.0;
+      enters = by_line k r None none ∙ enters-at k (reg r 0) c.0 c.1;
+    }
+
+-- ---- in code
+
+runs_without : (k : Kernel) → module_runs k ≡ false → case_in_code k ≡ Runs
+runs_without k e = cond-false (is_over_budget k) OverBudget Runs (and_left (module_runs k) _ e)
+
+-- no module runs, so an instruction does
+pub app_runs : (k : Kernel) (r : List ℕ) → case_of k r ≡ case_in_code k → module_runs k ≡ false → case_of k r ≡ Runs
+app_runs k r e f = e ∙ runs_without k f
+
+pub module_goes_on : (k : Kernel) (r : List ℕ) → case_of k r ≡ case_in_code k → word_of k Budget < 4096 → case_of k r ≡ Runs
+module_goes_on k r e l =
+    e ∙ cond-false (is_over_budget k) OverBudget Runs (and_right (module_runs k) _ (lt-leb 4096 (word_of k Budget) l))
+
+pub module_is_over : (k : Kernel) (r : List ℕ) → case_of k r ≡ case_in_code k → module_runs k ≡ true → 4096 ≤ word_of k Budget
+    → case_of k r ≡ OverBudget
+module_is_over k r e f l =
+    e ∙ cond-true (is_over_budget k) OverBudget Runs (and_from (module_runs k) _ f (le-leb 4096 (word_of k Budget) l))
+
+pub no_module : (k : Kernel) → running_module k ≡ none → module_runs k ≡ false
+no_module k e = ap not (eq-eqb (running_module k) none e)
+
+pub a_module : (k : Kernel) → running_module k ≢ none → module_runs k ≡ true
+a_module k n = ap not (ne_eqb (running_module k) none n)
+
+pub some_module : (k : Kernel) → module_runs k ≡ true → running_module k ≢ none
+some_module k e f = true≢false (sym e ∙ ap not (eq-eqb (running_module k) none f))

@@ -8,13 +8,14 @@ ghost use Rattle.trace_model.specs.Scripts.{IsScript};
 ghost use Rattle.retos_node.specs.Parts.{parts, IsBootFault, RunsTo, RunsUpTo};
 
 use crate::objects::ObjectList;
-use crate::step_laws::{memory_laws, stands_law};
+use crate::step_laws::step_law;
 use crate::stepping;
 use crate::turns::Moment;
 use edge_io::sink::Sink;
 use edge_io::whole::SinkFault;
 use flat_mem::FlatMem;
 use msp_machine::Regs;
+use node_laws::code::memory_is_shown;
 use place_model::places::NoRoom;
 use std::alloc::{AllocError, Global};
 use thiserror::Error;
@@ -82,8 +83,8 @@ impl Node {
         ensures made { (self.new).steps ≡ (self.old).steps + 1 }
         ensures same { ((self.new).owner ≡ (self.old).owner) × ((self.new).show ≡ (self.old).show) }
     {
-        stands_law();
-        memory_laws();
+        step_law();
+        memory_is_shown();
         let _ = objects;
         let step = self.steps + 1;
         let moment = Moment { step, pick };

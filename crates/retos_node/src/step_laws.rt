@@ -1,53 +1,61 @@
-//! The laws of `node_laws`, without their premises, as the code of a step uses them. Each is a function that does nothing.
+//! The laws of a step, without their premises, as its code uses them. Each is a function that does nothing.
 
-ghost use Rattle.node_model.specs.Code.{
-  AcceptanceStandsLaw, AcceptedWritesLaw, DoneWritesLaw, InstructionStandsLaw, KnownLaw, NoneRaisedLaw, OwnMarkLaw, OwnedLaw,
-  RaiseLaw, SettledLaw, ShownLaw, StandsLaw, TurnStandsLaw,
-};
-ghost use Rattle.node_model.specs.Laws.{FetchedLaw, RowlessLaw, StepLaw};
 ghost use Rattle.node_laws.specs.Facts.{Given};
+ghost use Rattle.node_model.specs.Code.{
+  AcceptanceStandsLaw, AcceptedWritesLaw, DoneWritesLaw, InstructionStandsLaw, StandsLaw,
+};
+ghost use Rattle.node_model.specs.Laws.{StepLaw};
 
-/// The laws that those of a step take as premises.
+use confinement_laws::{good_above_is_at_entry, good_fetches, instruction_leads, stack_stays};
+use load_model::code_image_stands;
+use machine_laws::instruction_writes_bytes;
+use node_laws::code::{acceptance_stands, instruction_stands, step_stands};
+use node_laws::each_step_is_safe;
+use node_model::laws::fetched_where_spelled;
+
+/// The laws of other crates that those of a step take as premises.
 fn premises()
     ensures { Given }
-{}
+{
+    code_image_stands();
+    fetched_where_spelled();
+    instruction_writes_bytes();
+    instruction_leads();
+    stack_stays();
+    good_fetches();
+    good_above_is_at_entry();
+}
 
-/// What a node shows, and what a sound system's memory has.
-pub fn memory_laws()
-    ensures shown { ShownLaw }
-    ensures settled { SettledLaw }
-    ensures known { KnownLaw }
-    ensures marks { OwnMarkLaw }
-{}
+/// A step from a sound system leads to a sound one.
+pub fn steps_are_safe()
+    ensures { StepLaw }
+{
+    premises();
+    each_step_is_safe();
+}
 
-/// Raised lines.
-pub fn raise_laws()
-    ensures raised { RaiseLaw }
-    ensures none { NoneRaisedLaw }
-{}
-
-/// A routine's turn.
-pub fn turn_laws()
-    ensures step { StepLaw }
-    ensures turn { TurnStandsLaw }
-    ensures rowless { RowlessLaw }
-{}
-
-/// An instruction.
-pub fn instruction_laws()
-    ensures fetched { FetchedLaw }
+/// Behind an instruction memory, registers and record are those of the next system.
+pub fn instruction_law()
     ensures written { DoneWritesLaw }
     ensures stands { InstructionStandsLaw }
-    ensures turn { TurnStandsLaw }
-{}
+{
+    premises();
+    instruction_stands();
+}
 
-/// An acceptance.
-pub fn acceptance_laws()
+/// So they are behind an acceptance.
+pub fn acceptance_law()
     ensures written { AcceptedWritesLaw }
     ensures stands { AcceptanceStandsLaw }
-{}
+{
+    premises();
+    acceptance_stands();
+}
 
-/// The whole step.
-pub fn stands_law()
+/// Then the node stands for the system behind the step.
+pub fn step_law()
     ensures { StandsLaw }
-{}
+{
+    premises();
+    step_stands();
+}

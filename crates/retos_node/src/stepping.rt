@@ -1,7 +1,7 @@
 //! A step, by its cases: lines are raised, and then an interrupt is accepted, the machine idles, an entry or a routine of the kernel
 //! takes its turn, a module's budget is spent, or the instruction at PC runs.
 
-ghost use Rattle.std.specs.Prelude.{◌≡◌, ℕ, ◌+◌, ◌<◌, ◌≤◌, ◌^◌, IfSome, length, None, Option, true, false};
+ghost use Rattle.std.specs.Prelude.{◌≡◌, ◌≢◌, ◌+◌, ◌<◌, ◌≤◌, ◌^◌, IfSome, length, None, false, true};
 ghost use Rattle.msp_encode.specs.Spelling.{Legal, words_after};
 ghost use Rattle.machine_model.specs.Context.{reg};
 ghost use Rattle.machine_model.specs.Does.{does, memory_after};
@@ -10,28 +10,35 @@ ghost use Rattle.kernel_model.specs.Kernel.{word_of};
 ghost use Rattle.kernel_model.specs.Layout.{kernel_of};
 ghost use Rattle.kernel_model.specs.declared.rows.SysWord.TheVariants.{Budget};
 ghost use Rattle.kernel_model.specs.Queues.{Leaves};
+ghost use Rattle.kernel_model.specs.Words.{none, running_module};
 ghost use Rattle.trace_model.specs.declared.records.Record.TheVariants as told;
 ghost use Rattle.place_model.specs.Settled.{IsSettled};
 ghost use Rattle.node_model.specs.Code.{Shows};
-ghost use Rattle.node_model.specs.Entries.{Call, entry_address, module_runs, who_runs};
+ghost use Rattle.node_model.specs.Entries.{module_runs, who_runs};
 ghost use Rattle.node_model.specs.Sound.{IsSound};
 ghost use Rattle.node_model.specs.Steps.{
-  Accepts, Enters, IsIdle, OverBudget, Runs, Serves, case_in_code, case_of, pending, with_pending, with_raised,
+  Accepts, IsIdle, OverBudget, Runs, Serves, case_in_code, case_of, pending, with_pending, with_raised,
 };
 ghost use Rattle.node_model.specs.Systems.{System};
 ghost use Rattle.retos_node.specs.Cases.{Gives, GivesRaised, IsAtEntry, StandsForOne, line_to_accept};
 ghost use Rattle.retos_node.specs.Turns.{HasRow, IsReady};
 
-use crate::step_laws::{acceptance_laws, instruction_laws, memory_laws, raise_laws, turn_laws};
+use crate::step_laws::{acceptance_law, instruction_law, steps_are_safe};
 use crate::entries::entry;
 use crate::routines::vector;
 use crate::turns::{Moment, budget_fault, who_runs};
 use flat_mem::FlatMem;
-use interrupts::laws::{dropped_word, highest_found};
+use interrupts::laws::highest_found;
 use interrupts::lines::LINES;
 use interrupts::{Lines, accept};
 use kernel_tables::{SysWord, get, put};
+use kernel_threads::NONE;
 use msp_encode::instr::Instr;
+use node_laws::code::{
+    memory_is_shown, modules_are_known, own_marks_are_seen, raised_is_shown, turn_stands,
+};
+use node_laws::raised_is_sound;
+use node_model::laws::{fetched_where_spelled, rowless_is_not_confined};
 use msp_machine::Regs;
 use msp_machine::exec::exec;
 use msp_machine::fetch::fetch;
@@ -65,6 +72,7 @@ pub fn step(m: &mut FlatMem, r: &mut Regs, raised: u16, moment: Moment) -> Recor
     requires stands { StandsForOne m.old r.old moment.step }
     ensures { GivesRaised m.old m.new r.old r.new raised moment result }
 {
+    raised_is_sound();
     raise_lines(m, raised);
     by_case(m, r, moment)
 }
@@ -75,7 +83,7 @@ pub fn step(m: &mut FlatMem, r: &mut Regs, raised: u16, moment: Moment) -> Recor
 fn raise_lines(m: &mut FlatMem, raised: u16)
     ensures { (s : System) → Shows m.old s → IsSound s → Shows m.new (with_raised s raised) }
 {
-    raise_laws();
+    raised_is_shown();
     if raised != 0 {
         raise(m, raised);
     }
@@ -126,7 +134,8 @@ fn memory_is_ready(m: &FlatMem, r: &Regs, moment: Moment)
     ensures ready { IsReady m.now }
     ensures settled { IsSettled m.now }
 {
-    memory_laws();
+    memory_is_shown();
+    modules_are_known();
     let _ = m;
     let _ = r;
     let _ = moment;
@@ -140,7 +149,7 @@ fn acceptance(m: &mut FlatMem, r: &mut Regs, line: u8, moment: Moment) -> Record
     requires case { case_of (kernel_of m.old) r.old ≡ Accepts line }
     ensures { Gives m.old m.new r.old r.new moment result }
 {
-    acceptance_laws();
+    acceptance_law();
     memory_is_ready(m, r, moment);
     let who = who_runs(m);
     let pc = r.get(PC);
@@ -182,7 +191,7 @@ fn idle_turn(m: &FlatMem, r: &Regs, moment: Moment) -> Record
     requires case { case_of (kernel_of m.now) r.now ≡ IsIdle }
     ensures { Gives m.now m.now r.now r.now moment result }
 {
-    turn_laws();
+    turn_stands();
     m.is_flat();
     let _ = r;
     Record::IdleTurn {
@@ -196,8 +205,10 @@ fn enter(m: &mut FlatMem, r: &mut Regs, moment: Moment) -> Record
     requires at { IsAtEntry (kernel_of m.old) r.old }
     ensures { Gives m.old m.new r.old r.new moment result }
 {
-    turn_laws();
-    memory_laws();
+    steps_are_safe();
+    turn_stands();
+    own_marks_are_seen();
+    rowless_is_not_confined();
     memory_is_ready(m, r, moment);
     has_a_row(m, r, moment);
     let at = r.get(PC);
@@ -212,9 +223,23 @@ fn has_a_row(m: &FlatMem, r: &Regs, moment: Moment)
     requires at { IsAtEntry (kernel_of m.now) r.now }
     ensures { HasRow (kernel_of m.now) (reg r.now 0) }
 {
-    turn_laws();
+    steps_are_safe();
+    rowless_is_not_confined();
     let _ = m;
     let _ = r;
+    let _ = moment;
+}
+
+/// No module runs at a routine.
+fn no_module_runs(m: &FlatMem, r: &Regs, line: u8, moment: Moment)
+    requires stands { StandsForOne m.now r.now moment.step }
+    requires case { case_of (kernel_of m.now) r.now ≡ Serves line }
+    ensures { running_module (kernel_of m.now) ≡ none }
+{
+    steps_are_safe();
+    let _ = m;
+    let _ = r;
+    let _ = line;
     let _ = moment;
 }
 
@@ -225,9 +250,11 @@ fn serve(m: &mut FlatMem, r: &mut Regs, line: u8, moment: Moment) -> Record
     requires case { case_of (kernel_of m.old) r.old ≡ Serves line }
     ensures { Gives m.old m.new r.old r.new moment result }
 {
-    turn_laws();
-    memory_laws();
+    steps_are_safe();
+    turn_stands();
+    own_marks_are_seen();
     memory_is_ready(m, r, moment);
+    no_module_runs(m, r, line, moment);
     let record = vector(m, r, line, moment);
     m.is_flat();
     record
@@ -243,9 +270,10 @@ fn in_code(m: &mut FlatMem, r: &mut Regs, moment: Moment) -> Record
 {
     memory_is_ready(m, r, moment);
     let who = who_runs(m);
-    match who {
-        Who::Module(_) => in_module(m, r, who, moment),
-        Who::Thread { .. } | Who::Idle => instruction(m, r, who, moment),
+    if get(m, SysWord::Module) == NONE {
+        instruction(m, r, who, moment)
+    } else {
+        in_module(m, r, who, moment)
     }
 }
 
@@ -269,10 +297,12 @@ fn in_module(m: &mut FlatMem, r: &mut Regs, who: Who, moment: Moment) -> Record
 fn over_budget(m: &mut FlatMem, r: &mut Regs, moment: Moment) -> Record
     requires stands { StandsForOne m.old r.old moment.step }
     requires case { case_of (kernel_of m.old) r.old ≡ OverBudget }
+    requires runs { running_module (kernel_of m.old) ≢ none }
     ensures { Gives m.old m.new r.old r.new moment result }
 {
-    turn_laws();
-    memory_laws();
+    steps_are_safe();
+    turn_stands();
+    own_marks_are_seen();
     memory_is_ready(m, r, moment);
     let record = budget_fault(m, r, moment);
     m.is_flat();
@@ -288,7 +318,9 @@ fn counted_instruction(m: &mut FlatMem, r: &mut Regs, who: Who, count: u16, mome
     requires few { count < MOST_INSTRUCTIONS }
     ensures { Gives m.old m.new r.old r.new moment result }
 {
-    instruction_laws();
+    instruction_law();
+    fetched_where_spelled();
+    turn_stands();
     m.is_flat();
     match fetch(m, r.get(PC)) {
         Ok((instr, words)) => {
@@ -310,7 +342,9 @@ fn instruction(m: &mut FlatMem, r: &mut Regs, who: Who, moment: Moment) -> Recor
     requires no_module { module_runs (kernel_of m.old) ≡ false }
     ensures { Gives m.old m.new r.old r.new moment result }
 {
-    instruction_laws();
+    instruction_law();
+    fetched_where_spelled();
+    turn_stands();
     m.is_flat();
     match fetch(m, r.get(PC)) {
         Ok((instr, words)) => execute(m, r, &instr, words, who, moment),
@@ -331,7 +365,7 @@ fn execute(m: &mut FlatMem, r: &mut Regs, instr: &Instr, words: u8, who: Who, mo
     ensures is_memory { IsMemory m.new }
 {
     let pc = r.get(PC);
-    let word = m.word(pc);
+    let word = word(m, pc);
     let writes = exec(m, r, instr, words);
     Record::Instr {
         step: moment.step,
@@ -340,4 +374,12 @@ fn execute(m: &mut FlatMem, r: &mut Regs, instr: &Instr, words: u8, who: Who, mo
         word,
         writes,
     }
+}
+
+/// The word at an address.
+#[tactic(auto, unfolding(machine_model::specs::Memory::word_at))]
+fn word(m: &FlatMem, at: u16) -> u16
+    ensures { result ≡ word_at m.now at }
+{
+    m.word(at)
 }
