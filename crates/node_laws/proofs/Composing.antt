@@ -76,7 +76,7 @@ accepted-below k false n e = absurd (cc)
 
 -- ---- the routine that PC is at
 
-routine-found : (l : ℕ) → l < 14 → routine_at (0xF080 + 2 * l) ≡ Some l
+pub routine-found : (l : ℕ) → l < 14 → routine_at (0xF080 + 2 * l) ≡ Some l
 routine-found zero h = refl
 routine-found (suc zero) h = refl
 routine-found (suc (suc zero)) h = refl

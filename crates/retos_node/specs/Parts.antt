@@ -1,0 +1,37 @@
+-- What the contracts of a node see of it.
+use Rattle.std.specs.Prelude.{◌≡◌, ℕ, ◌<◌, ◌≤◌, ◌⊎◌, Bool, true, false, List, length, Option, Result, Ok, Err}
+use Rattle.retos_node.specs.declared.node.Node.{Node}
+use Rattle.retos_node.specs.declared.node.BootFault.{BootFault}
+use Rattle.retos_node.specs.declared.node.BootFault.TheVariants.{NoRoom, Memory}
+use Rattle.retos_node.specs.declared.node.End.{End}
+use Rattle.retos_node.specs.declared.node.End.TheVariants.{Limit, Quiet}
+use Rattle.trace_model.specs.declared.scripts.Script.{Script}
+use Rattle.edge_io.specs.Known.{SinkState, appended, GotPrefix}
+use Rattle.node_model.specs.Systems.{System}
+use Rattle.node_model.specs.Runs.{Run, run}
+use Rattle.node_model.specs.Sound.{IsSound}
+use Rattle.load_model.specs.Loading.{Loadable}
+use Rattle.node_model.specs.Booting.{booted}
+use Rattle.node_model.specs.Nodes.{Parts, Represents, Boots, IsBootRefusal, Ran, RanUpTo, IsEnd, trace_text}
+
+abbrev pub parts : Node → Parts
+parts n = record { mem = n.mem; regs = n.regs; steps = n.steps; owner = n.owner }
+
+-- a refusal is the model's, at its object; want of memory is free
+abbrev pub IsBootFault : List Loadable → BootFault → Type 0
+IsBootFault os (NoRoom i why) = IsBootRefusal (booted os) i why
+IsBootFault os Memory = Unit {0}
+
+abbrev pub IsRunEnd : Script → Run → End → Type 0
+IsRunEnd t r (Limit n e f) = IsEnd t r false n e f
+IsRunEnd t r (Quiet n e f) = IsEnd t r true n e f
+
+-- a whole run from each system that the node stood for: it printed all lines, and the node stands for the last system
+abbrev pub RunsTo : (old new : Node) → List Loadable → (limit : ℕ) → Script → (o0 o1 : SinkState) → End → Type 0
+RunsTo old new os limit t o0 o1 end = (s : System) → Represents (parts old) os s → IsSound s
+    → IsRunEnd t (run limit t s) end × Ran (parts new) os limit t s × (o1.bytes ≡ appended o0.bytes (trace_text old.show.all false (length os) t s (run limit t s)))
+
+-- a run that a fault of the sink cut: what it got is a prefix, and the node stands for the system of as many steps
+abbrev pub RunsUpTo : (old new : Node) → List Loadable → (limit : ℕ) → Script → (o0 o1 : SinkState) → Type 0
+RunsUpTo old new os limit t o0 o1 = (s : System) → Represents (parts old) os s → IsSound s
+    → RanUpTo (parts new) os limit t s × GotPrefix o0.bytes o1.bytes (trace_text old.show.all false (length os) t s (run limit t s))

