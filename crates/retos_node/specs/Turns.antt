@@ -8,7 +8,7 @@ use Rattle.kernel_model.specs.Queues.{Leaves}
 use Rattle.kernel_model.specs.Words.{tick_number}
 use Rattle.place_model.specs.Settled.{IsSettled}
 use Rattle.place_model.specs.Marking.{IsOwnMark}
-use Rattle.kernel_modules.specs.Calls.{HasKnownModules}
+use Rattle.kernel_model.specs.Modules.{HasKnownModules}
 use Rattle.trace_model.specs.declared.records.Record.{Record}
 use Rattle.retos_node.specs.declared.turns.Moment.{Moment}
 use Rattle.node_model.specs.Entries.{Work, Turn, Call, has_row}
