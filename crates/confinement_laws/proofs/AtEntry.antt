@@ -1,10 +1,8 @@
 -- Where a safe context above the code stands.
-use Rattle.std.proofs.Common.{◌≡◌, ℕ, ◌+◌, ◌≤◌, ◌⊎◌, List, inl, inr, arith}
+use Rattle.std.proofs.Common.{◌+◌, ◌≤◌, ◌⊎◌, inl, inr, arith}
 use Rattle.machine_model.specs.Context.{reg}
 use Rattle.code_model.specs.Rules.{IsJumpEntry, IsCallEntry}
-use Rattle.load_model.specs.Domains.{Domain}
-use Rattle.node_model.specs.Placed.{StandsIn}
-use Rattle.node_model.specs.Good.{IsGood, IsSomewhere, AtUnit, Within, Jumped, Called, bounds}
+use Rattle.node_model.specs.Good.{IsSomewhere, AtUnit, Within, Jumped, Called, bounds}
 use Rattle.node_model.specs.Instructions.{AtEntryLaw}
 use Rattle.confinement_laws.proofs.Runs.{place-start}
 

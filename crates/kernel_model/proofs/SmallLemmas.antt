@@ -1,16 +1,12 @@
 -- The layout of a memory's kernel is bytes.
-use Rattle.std.proofs.Common.{◌≡◌, ℕ, ◌+◌, ◌-◌, ◌*◌, ◌/◌, ◌%◌, ◌<◌, ◌≤◌, zero, suc, List, [], ◌∷◌, ◌++◌, length, take, drop, map, get_or, replicate, refl, sym, ap, ◌∙◌, inl, inr, arith, length-append, All}
+use Rattle.std.proofs.Common.{◌≡◌, ℕ, ◌+◌, ◌-◌, ◌*◌, ◌/◌, ◌%◌, ◌<◌, ◌≤◌, List, [], ◌∷◌, ◌++◌, length, take, drop, map, get_or, replicate, refl, ap, ◌∙◌, inl, inr, arith, length-append, All}
 use Rattle.std.specs.List.{flat_map}
 use Rattle.std.proofs.lemmas.Bool.{cases_lt}
 use Rattle.std.proofs.lemmas.List.{get_or_past}
 use Rattle.std.proofs.lemmas.List.Elements.{All-head, All-tail, All-nil, All-cons, All-take, All-drop, All-append, All-replicate, All-weaker}
 use Rattle.kernel_model.specs.Bytes.{part, words_of, bytes_of, filled, rows}
 use Rattle.kernel_model.specs.Kernel.{Kernel}
-use Rattle.kernel_model.specs.Layout.{FitsList, FitsMutex, Fits, app_words, app_bytes, app_read, module_words, module_bytes, module_read, function_words, function_bytes, function_read, thread_words, thread_bytes, thread_read, mutex_bytes, mutex_read, sizes, system_words, written, layout, tables, kernel_in, kernel_of}
-use Rattle.kernel_model.specs.declared.rows.ThreadRow.{ThreadRow}
-use Rattle.kernel_model.specs.declared.rows.AppRow.{AppRow}
-use Rattle.kernel_model.specs.declared.rows.ModuleRow.{ModuleRow}
-use Rattle.kernel_model.specs.declared.rows.FnRow.{FnRow}
+use Rattle.kernel_model.specs.Layout.{FitsList, FitsMutex, Fits, app_words, app_bytes, app_read, module_words, module_bytes, module_read, function_words, function_bytes, function_read, thread_words, thread_bytes, thread_read, mutex_bytes, mutex_read, system_words, written, layout, tables, kernel_in, kernel_of}
 use Rattle.kernel_model.specs.declared.rows.MutexRow.{MutexRow}
 use Rattle.kernel_model.proofs.BytesLemmas.{total, length-part}
 use Rattle.kernel_model.proofs.LayoutLemmas.{written_sizes}

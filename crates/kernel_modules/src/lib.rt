@@ -9,10 +9,13 @@
 
 mod entering;
 mod leaving;
+mod loading;
 
 pub use entering::enter;
 pub use kernel_threads::Code;
 pub use leaving::{end_module, leave};
+pub use loading::load_module;
+pub use region_table::NoRoom;
 
 #[cfg(test)]
 mod tests;

@@ -1,5 +1,5 @@
 -- What a node's memory shows behind each part of a step.
-use Rattle.std.proofs.Common.{◌≡◌, ◌≢◌, ℕ, ◌+◌, ◌*◌, ◌^◌, ◌%◌, ◌<◌, ◌≤◌, ◌⊎◌, List, length, inl, inr, refl, sym, ap, ◌∙◌, subst, arith, Option, None, Some}
+use Rattle.std.proofs.Common.{◌≡◌, ◌≢◌, ℕ, ◌+◌, ◌<◌, List, inl, inr, refl, sym, ap, ◌∙◌, subst, arith, Option, None, Some}
 use Rattle.std.specs.List.{AllByRecursion}
 use Rattle.std.specs.Int.Bits.{or_zero_r}
 use Rattle.kernel_model.specs.declared.kinds.Kind.{Kind}
@@ -14,23 +14,23 @@ use Rattle.kernel_model.specs.declared.rows.SysWord.TheVariants.{Pending}
 use Rattle.kernel_model.specs.Layout.{kernel_of}
 use Rattle.kernel_model.specs.Queues.{Leaves}
 use Rattle.kernel_model.specs.Running.{ThreadRuns, running_domain}
-use Rattle.kernel_model.specs.Words.{free, live, running, app_of}
+use Rattle.kernel_model.specs.Words.{free, running, app_of}
 use Rattle.thread_laws.specs.Facts.{IsRunning as IsRunningRow}
 use Rattle.thread_laws.proofs.Spots.{running_is}
 use Rattle.load_model.specs.Domains.{Domain}
 use Rattle.trace_model.specs.declared.records.Record.{Record}
 use Rattle.trace_model.specs.declared.records.Record.TheVariants.{Instr as InstrRecord, Accept as AcceptRecord}
 use Rattle.node_model.specs.Placed.{IsWellPlaced}
-use Rattle.node_model.specs.Systems.{System, seen, seen_in, domain_in}
+use Rattle.node_model.specs.Systems.{System, seen}
 use Rattle.node_model.specs.Entries.{Turn, who_runs}
-use Rattle.node_model.specs.Steps.{Next, Case, Accepts, Runs, by_case, by_turn, by_effect, acceptance, case_of, counted, fetched, instruction, pending, step_of, with_pending, with_raised, without_line}
-use Rattle.node_model.specs.Sound.{IsSound, HasDomain, IsDomain, IsAppRowOf, low_in, top_in}
+use Rattle.node_model.specs.Steps.{Next, Accepts, Runs, by_case, by_turn, by_effect, acceptance, case_of, counted, fetched, instruction, pending, step_of, with_pending, without_line}
+use Rattle.node_model.specs.Sound.{IsSound, HasDomain, IsDomain, low_in, top_in}
 use Rattle.node_model.specs.Confined.{Within, MayWrite, IsOwnInstr, IsConfinedAccept, IsInOwnStack}
 use Rattle.node_model.specs.Laws.{IsInPools, IsSafe}
 use Rattle.node_model.specs.Nodes.{most_steps}
-use Rattle.node_model.specs.Code.{Shows, RaiseLaw, NoneRaisedLaw, GivesNext, IsTurned, TurnStandsLaw, IsDone, InstructionStandsLaw, IsAccepting, AcceptanceStandsLaw, IsWritten, DoneWritesLaw, AcceptedWritesLaw}
+use Rattle.node_model.specs.Code.{Shows, RaiseLaw, NoneRaisedLaw, GivesNext, TurnStandsLaw, IsDone, InstructionStandsLaw, IsAccepting, AcceptanceStandsLaw, IsWritten, DoneWritesLaw, AcceptedWritesLaw}
 use Rattle.node_laws.specs.Facts.{Given}
-use Rattle.node_laws.proofs.Domains.{of-app, app-placed, IsStack, stack-in}
+use Rattle.node_laws.proofs.Seeing.{IsOnStack, on-stack}
 use Rattle.node_laws.proofs.Joining.{each-step}
 use Rattle.node_laws.proofs.Representing.{seen-writes}
 use Rattle.node_laws.proofs.Showing.{shows-seen, settled-shown, leaves-bytes}
@@ -172,13 +172,9 @@ stack-pools s ws h r all =
     let row : IsRunningRow s.kernel t = running_is s.kernel h.kernel.settled.orderly r in
     let used : (app_at s.kernel (app_of t)).state ≢ free = λ z. omega (arith, z, row.app) in
     let has : HasDomain s.placed (app_of t) = h.kernel.domains.apps_used (app_of t) l used in
-    let is : IsDomain s.kernel.apps s.kernel.modules (app_of t) has.0 = h.kernel.domains.placed (app_of t) has.0 has.1 in
-    let app = of-app s.kernel.apps s.kernel.modules (app_of t) has.0 l is in
-    let well : IsWellPlaced has.0 = app-placed s.kernel s.placed s.steps (app_of t) has.0 h.kernel l has.1 in
-    let stack : IsStack has.0 (low_in s.kernel.apps t) (top_in s.kernel.apps t) =
-    stack-in s.kernel.apps t has.0 well app.0 is.region app.1 (omega (arith, row.within, app.1.threads)) in
+    let on : IsOnStack s has.0 = on-stack s has.0 h r has.1 in
     all-map (Within (low_in s.kernel.apps t) (top_in s.kernel.apps t)) IsInPools
-    (λ w i. inr (omega (arith, i.0, stack.within_low, well.lo_low), omega (arith, i.1, stack.within_top, well.hi_high))) ws all
+    (λ w i. inr (omega (arith, i.0, on.stack.within_low, on.well.lo_low), omega (arith, i.1, on.stack.within_top, on.well.hi_high))) ws all
 
 own-pools : (s : System) (ws : List (ℕ × ℕ)) → IsSound s → IsInOwnStack s ws → AllByRecursion IsInPools ws
 own-pools s ws h (inl i) = stack-pools s ws h i.0 i.1

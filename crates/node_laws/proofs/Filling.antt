@@ -1,5 +1,5 @@
 -- A kernel that objects are placed in: with an application, and with a module and its exports.
-use Rattle.std.proofs.Common.{◌≡◌, ◌≢◌, ℕ, zero, suc, ◌+◌, ◌*◌, ◌-◌, ◌/◌, ◌%◌, ◌<◌, ◌≤◌, List, [], ◌∷◌, true, length, set, refl, sym, ap, ◌∙◌, subst, inl, inr, arith, Contains, Option, Some, Result, Ok, Err, None}
+use Rattle.std.proofs.Common.{◌≡◌, ◌≢◌, ℕ, suc, ◌+◌, ◌-◌, ◌/◌, ◌%◌, ◌<◌, ◌≤◌, List, [], ◌∷◌, true, length, set, refl, sym, ap, ◌∙◌, subst, inl, inr, arith, Contains, Option, Some, Result, Ok, Err, None}
 use Rattle.std.specs.Prelude.{nat_lt}
 use Rattle.std.specs.List.{fold}
 use Rattle.std.proofs.lemmas.Bool.{cases_eq, le-ltb, cond-false}

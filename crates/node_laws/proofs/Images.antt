@@ -41,18 +41,30 @@ code-stands m d e i k l =
     (omega (arith, with-code m d e i, i.up, i.hi_high)) (omega (arith, i.up, i.hi_high, i.code_low))
     ∙ in-patch m (code_image d) d.code_lo k (omega (arith, i.code_high)) l
 
--- at and above the region's end, and outside the code, memory is as it was
+-- and so do the region's
+pub region-stands : (m : List ℕ) (d : Domain) → length m ≡ 65536 → IsImaged d → HasBytes (with_images m d) d.lo (region_image d)
+region-stands m d e i k l =
+    in-patch (patch m d.code_lo (code_image d)) (region_image d) d.lo k (omega (arith, with-code m d e i, i.up, i.hi_high)) l
+
+-- outside of both memory is as it was
+pub beside-both : (m : List ℕ) (d : Domain) (a : ℕ) → length m ≡ 65536 → IsImaged d
+    → (a < d.code_lo) ⊎ (d.code_lo + code_length d.object ≤ a) → (a < d.lo) ⊎ (d.hi ≤ a) → get_or (with_images m d) a 0 ≡ get_or m a 0
+beside-both m d a e i h g = region g ∙ code h
+  where
+    region : (a < d.lo) ⊎ (d.hi ≤ a) → get_or (with_images m d) a 0 ≡ get_or (patch m d.code_lo (code_image d)) a 0
+    region (inl l) = below-patch (patch m d.code_lo (code_image d)) (region_image d) d.lo a
+        (omega (arith, with-code m d e i, i.up, i.hi_high)) l
+    region (inr u) = above-patch (patch m d.code_lo (code_image d)) (region_image d) d.lo (d.hi - d.lo) a i.region_size
+        (omega (arith, with-code m d e i, i.up, i.hi_high)) (omega (arith, i.up, u))
+
+    code : (a < d.code_lo) ⊎ (d.code_lo + code_length d.object ≤ a) → get_or (patch m d.code_lo (code_image d)) a 0 ≡ get_or m a 0
+    code (inl l) = below-patch m (code_image d) d.code_lo a (omega (arith, i.code_high)) l
+    code (inr u) = above-patch m (code_image d) d.code_lo (code_length d.object) a i.code_size (omega (arith, i.code_high)) u
+
+-- at and above the code pool's start that is outside of the code
 pub beside-images : (m : List ℕ) (d : Domain) (a : ℕ) → length m ≡ 65536 → IsImaged d → 0x6000 ≤ a
     → (a < d.code_lo) ⊎ (d.code_lo + code_length d.object ≤ a) → get_or (with_images m d) a 0 ≡ get_or m a 0
-beside-images m d a e i u h =
-    above-patch (patch m d.code_lo (code_image d)) (region_image d) d.lo (d.hi - d.lo) a i.region_size
-    (omega (arith, with-code m d e i, i.up, i.hi_high)) (omega (arith, i.up, i.hi_high))
-    ∙ outside h
-  where
-    outside : (a < d.code_lo) ⊎ (d.code_lo + code_length d.object ≤ a)
-        → get_or (patch m d.code_lo (code_image d)) a 0 ≡ get_or m a 0
-    outside (inl l) = below-patch m (code_image d) d.code_lo a (omega (arith, i.code_high)) l
-    outside (inr g) = above-patch m (code_image d) d.code_lo (code_length d.object) a i.code_size (omega (arith, i.code_high)) g
+beside-images m d a e i u h = beside-both m d a e i h (inr (omega (arith, i.hi_high)))
 
 -- so are the words above the code pool
 pub high-words : (m : List ℕ) (d : Domain) (n : ℕ) → length m ≡ 65536 → IsImaged d → n < 14

@@ -1,30 +1,28 @@
 -- An object is placed in a system that is being loaded.
-use Rattle.std.proofs.Common.{◌≡◌, ◌≢◌, ℕ, ◌+◌, ◌-◌, ◌<◌, ◌≤◌, ◌⊎◌, List, length, set, refl, sym, ◌∙◌, subst, inl, inr, arith, Option, Some}
+use Rattle.std.proofs.Common.{◌≡◌, ◌≢◌, ℕ, ◌+◌, ◌-◌, ◌<◌, ◌≤◌, List, length, set, refl, sym, ◌∙◌, subst, inl, inr, arith, Option, Some}
 use Rattle.std.specs.Prelude.{slice_index}
-use Rattle.std.proofs.lemmas.Bool.{cases_eq, cases_lt}
+use Rattle.std.proofs.lemmas.Bool.{cases_eq}
 use Rattle.kernel_model.specs.declared.kinds.Kind.{Kind}
 use Rattle.kernel_model.specs.declared.kinds.Kind.TheVariants.{App, Module}
 use Rattle.kernel_model.specs.Kernel.{Kernel}
 use Rattle.code_laws.specs.Laws.{NamedUnits}
-use Rattle.place_model.specs.declared.places.Pool.TheVariants.{Code}
 use Rattle.place_model.specs.declared.places.Regions.{Regions}
-use Rattle.place_model.specs.Placing.{domain_at, IsInPools}
+use Rattle.place_model.specs.Placing.{IsInPools}
 use Rattle.place_model.specs.Settled.{IsSettledKernel}
-use Rattle.place_model.proofs.GapLemmas.{holds_from}
 use Rattle.load_model.specs.Domains.{Domain, code_length}
 use Rattle.load_model.specs.Images.{code_image, region_image}
 use Rattle.load_model.specs.Standing.{HasBytes}
 use Rattle.node_model.specs.Systems.{System, domain_in}
 use Rattle.load_model.specs.Loading.{Loadable, domain_of, loaded_kernel, with_images}
-use Rattle.node_model.specs.Sound.{IsDomain, AreDomains, IsCodeInPlace}
+use Rattle.node_model.specs.Sound.{AreDomains, IsCodeInPlace}
 use Rattle.node_model.specs.Laws.{IsLoading, LoadedLaw}
-use Rattle.node_laws.proofs.Stepping.{HasPlaces, places-of, code-in-pool}
+use Rattle.node_laws.proofs.Stepping.{code-in-pool, code-apart}
 use Rattle.node_laws.proofs.Images.{IsImaged, is-memory, code-stands, beside-images, high-words}
 use Rattle.node_laws.proofs.FillingRows.{domain-new, domain-put, domain-old}
 use Rattle.node_laws.proofs.Filling.{IsFilling, IsPlacedAt, placed-at, filling-with}
 
 -- the laws of other crates that are used
-pub record Given : Type 0 where
+pub record ImageLaws : Type 0 where
   pub code_size : (d : Domain) → length (code_image d) ≡ code_length d.object
   pub region_size : (d : Domain) → length d.object.init ≤ d.hi - d.lo → length (region_image d) ≡ d.hi - d.lo
   pub code_small : (d : Domain) (k : ℕ) → slice_index (code_image d) k < 256
@@ -33,7 +31,7 @@ pub record Given : Type 0 where
 
 -- ---- memory
 
-imaged : Given → (k : Kernel) (o : Loadable) (r : Regions) → IsPlacedAt k o.object.kind o r → IsImaged (domain_of o r)
+pub imaged : ImageLaws → (k : Kernel) (o : Loadable) (r : Regions) → IsPlacedAt k o.object.kind o r → IsImaged (domain_of o r)
 imaged laws k o r p = record {
   code_size = laws.code_size (domain_of o r);
   region_size = laws.region_size (domain_of o r) (omega (arith, p.lengths.region));
@@ -46,34 +44,8 @@ imaged laws k o r p = record {
   hi_high = p.pools.region_to;
 }
 
--- the code of one domain isn't that of another
-code-apart : (j : Kernel) (ds : List (Option Domain)) (n i : ℕ) (x d : Domain) → IsSettledKernel j → AreDomains j.apps j.modules ds
-    → domain_in ds n ≡ Some x → domain_in ds i ≡ Some d → n ≢ i → (a : ℕ) → x.code_lo ≤ a → a < x.code_lo + code_length x.object
-    → (a < d.code_lo) ⊎ (d.code_lo + code_length d.object ≤ a)
-code-apart j ds n i x d h domains en ei ne a from to = elim (cases_lt a d.code_lo) [
-  | inl l ↦ inl l
-  | inr g ↦ elim (cases_lt a (d.code_lo + code_length d.object)) [ inl l ↦ absurd (both g l) | inr above ↦ inr above ]
-]
-  where
-    is-x : IsDomain j.apps j.modules n x
-    is-x = domains.placed n x en
-
-    is-d : IsDomain j.apps j.modules i d
-    is-d = domains.placed i d ei
-
-    p : HasPlaces (domain_at j n) x
-    p = places-of j n x is-x
-
-    q : HasPlaces (domain_at j i) d
-    q = places-of j i d is-d
-
-    both : d.code_lo ≤ a → a < d.code_lo + code_length d.object → ⊥
-    both g l = h.apart Code n i is-x.below is-d.below ne p.used q.used a
-        (holds_from a (domain_at j n).code (omega (arith, from, p.code_from)) (omega (arith, to, p.code_to)))
-        (holds_from a (domain_at j i).code (omega (arith, g, q.code_from)) (omega (arith, l, q.code_to)))
-
 -- the placed object's code stands, that of each other domain is left, and so are the vectors
-code-in-place : Given → (m : List ℕ) (j : Kernel) (ds : List (Option Domain)) (dom : ℕ) (d : Domain) → dom < length ds
+code-in-place : ImageLaws → (m : List ℕ) (j : Kernel) (ds : List (Option Domain)) (dom : ℕ) (d : Domain) → dom < length ds
     → IsSettledKernel j → AreDomains j.apps j.modules (set ds dom (Some d)) → IsImaged d → IsCodeInPlace m ds
     → IsCodeInPlace (with_images m d) (set ds dom (Some d))
 code-in-place laws m j ds dom d size h domains i c = record {
@@ -98,7 +70,7 @@ code-in-place laws m j ds dom d size h domains i c = record {
 
 -- ---- the system
 
-below-twelve : (kind : Kind) (r : Regions) → IsInPools kind r → r.dom < 12
+pub below-twelve : (kind : Kind) (r : Regions) → IsInPools kind r → r.dom < 12
 below-twelve App r i = omega (arith, i.number_to)
 below-twelve Module r i = omega (arith, i.number_to)
 
@@ -114,7 +86,7 @@ filling-of s h = record {
   fresh = h.fresh;
 }
 
-pub loaded-loading : Given → LoadedLaw
+pub loaded-loading : ImageLaws → LoadedLaw
 loaded-loading laws s n o r h a e =
     let p : IsPlacedAt s.kernel o.object.kind o r = placed-at s.kernel o r h.settled e in
     let j : Kernel = loaded_kernel o.object.kind s.kernel o.object r in

@@ -1,16 +1,15 @@
 -- The marks of the domain that runs are those of the bitmap.
-use Rattle.std.proofs.Common.{◌≡◌, ◌≢◌, ℕ, ◌+◌, ◌/◌, ◌<◌, true, cond, eqb, List, sym, ap, ◌∙◌, subst, arith, Option, Some}
+use Rattle.std.proofs.Common.{◌≡◌, ℕ, ◌+◌, true, cond, eqb, List, sym, ap, ◌∙◌, subst, arith, Option}
 use Rattle.std.specs.Prelude.{◌↔◌}
 use Rattle.kernel_model.specs.Kernel.{Kernel}
-use Rattle.kernel_model.specs.Layout.{kernel_of}
-use Rattle.kernel_model.specs.Words.{none, running, running_module, app_of}
+use Rattle.kernel_model.specs.Words.{none, running, app_of}
 use Rattle.kernel_model.specs.Running.{NoneRuns, DomainRuns, running_domain}
 use Rattle.place_model.specs.declared.places.DomainRow.{DomainRow}
-use Rattle.place_model.specs.Marking.{IsMarkOf, IsOwnMark}
+use Rattle.place_model.specs.Marking.{IsMarkOf}
 use Rattle.place_model.specs.Placing.{domain_at}
 use Rattle.load_model.specs.Domains.{Domain, code_length}
 use Rattle.node_model.specs.Systems.{System, seen, domain_in, is_mark}
-use Rattle.node_model.specs.Sound.{IsSound, IsRunning, AThread, Nothing, Interrupted, IdleInterrupted, AModule, HasDomain}
+use Rattle.node_model.specs.Sound.{IsRunning, AThread, Nothing, Interrupted, IdleInterrupted, AModule, HasDomain}
 use Rattle.node_model.specs.Code.{OwnMarkLaw}
 use Rattle.node_laws.proofs.Marking.{mark-seen}
 use Rattle.node_laws.proofs.Stepping.{HasPlaces, places-of, domain-runs}

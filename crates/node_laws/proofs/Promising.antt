@@ -1,10 +1,10 @@
 -- What is promised of owners and waiters, of a settled kernel.
-use Rattle.std.proofs.Common.{◌≡◌, ◌≢◌, ℕ, ◌+◌, ◌*◌, ◌/◌, ◌<◌, sym, ap, ◌∙◌, subst, arith}
+use Rattle.std.proofs.Common.{◌≡◌, ℕ, ◌<◌, sym, ◌∙◌, subst, arith}
 use Rattle.kernel_model.specs.Kernel.{Kernel, app_at}
 use Rattle.kernel_model.specs.Words.{app_of, identity}
-use Rattle.kernel_model.specs.Orderly.{Spot, IsLiveThread}
+use Rattle.kernel_model.specs.Orderly.{IsLiveThread}
 use Rattle.kernel_model.specs.Orderly.Spot.{OnMutex, OnCondition}
-use Rattle.kernel_model.specs.Locks.{IsOwner, WaitsForMutex, WaitsForCondition, IsLiveOwner, LocksHeld}
+use Rattle.kernel_model.specs.Locks.{WaitsForMutex, WaitsForCondition, IsLiveOwner, LocksHeld}
 use Rattle.place_model.specs.Settled.{IsSettledKernel}
 use Rattle.node_model.specs.Code.{LocksLaw}
 use Rattle.sync_laws.specs.Promises.{IsOnlyOwner}

@@ -1,5 +1,5 @@
 -- What a node's memory shows, and that the kernel's calls find it as they want it.
-use Rattle.std.proofs.Common.{◌≡◌, ◌≢◌, ℕ, ◌+◌, ◌-◌, ◌*◌, ◌<◌, ◌≤◌, ◌⊎◌, true, false, List, length, get_or, inl, inr, refl, sym, ap, ◌∙◌, subst, arith, All, Option, Some}
+use Rattle.std.proofs.Common.{◌≡◌, ◌≢◌, ℕ, ◌+◌, ◌<◌, ◌≤◌, List, length, get_or, inl, inr, refl, sym, ap, ◌∙◌, subst, arith, All, Option}
 use Rattle.std.proofs.lemmas.Bool.{cases_lt, cases_eq}
 use Rattle.std.proofs.lemmas.Grind.{same_number_lists}
 use Rattle.std.proofs.lemmas.List.{get_or_past}
@@ -7,18 +7,15 @@ use Rattle.std.proofs.lemmas.List.Elements.{All-from_get_or}
 use Rattle.machine_model.specs.Memory.{IsMemory}
 use Rattle.kernel_model.specs.Kernel.{Kernel, module_at}
 use Rattle.kernel_model.specs.Layout.{kernel_of, layout, table_bytes, Fits, IsLaidOut}
-use Rattle.kernel_model.specs.Modules.{HasKnownModules}
 use Rattle.kernel_model.specs.Queues.{Leaves}
 use Rattle.kernel_model.specs.Words.{free}
 use Rattle.kernel_model.proofs.FitLemmas.{memory_fits_lem}
-use Rattle.kernel_model.proofs.LayoutLemmas.{kernel_of-layout, laid_out_from_layout}
+use Rattle.kernel_model.proofs.LayoutLemmas.{kernel_of-layout, laid_out_from_layout, layout_from_laid_out}
 use Rattle.kernel_model.proofs.SmallLemmas.{layout_size, layout_small}
 use Rattle.place_model.specs.Settled.{IsSettled, IsSettledKernel}
 use Rattle.load_model.specs.Domains.{Domain}
-use Rattle.node_model.specs.Systems.{System, seen, seen_in, bytes_in}
-use Rattle.node_model.specs.Sound.{IsSound, HasDomain, IsDomain, IsModuleRowOf}
-use Rattle.node_model.specs.Nodes.{Represents}
-use Rattle.node_model.specs.Laws.{IsLoading}
+use Rattle.node_model.specs.Systems.{System, seen, seen_in}
+use Rattle.node_model.specs.Sound.{IsSound, HasDomain, IsDomain}
 use Rattle.node_model.specs.Code.{Shows, ShownLaw, SettledLaw, KnownLaw}
 use Rattle.node_model.specs.BootCode.{LoadingSettledLaw}
 use Rattle.node_laws.proofs.Seeing.{sees, seen-memory, seen-tables}
@@ -62,6 +59,16 @@ seen-kernel m k ds e h = kernel_of-layout (seen_in m k ds) k h.fits (tables-seen
 
 seen-laid : (m : List ℕ) (k : Kernel) (ds : List (Option Domain)) → length m ≡ 65536 → IsHeld k → IsLaidOut (seen_in m k ds)
 seen-laid m k ds e h = laid_out_from_layout (seen_in m k ds) k h.fits (tables-seen m k ds e h)
+
+-- a laid-out memory has the tables that are seen with its kernel
+pub tables-shown : (after m : List ℕ) (j : Kernel) (ds : List (Option Domain)) (a : ℕ) → IsMemory after → IsLaidOut after
+    → kernel_of after ≡ j → length m ≡ 65536 → a < 3584 → get_or after (512 + a) 0 ≡ get_or (seen_in m j ds) (512 + a) 0
+tables-shown after m j ds a h laid e size l =
+    let x : IsHeld j = subst (λ (k : Kernel). IsHeld k) e (held after h) in
+    sym (part-byte after a l)
+    ∙ ap (λ (bs : List ℕ). get_or bs a 0) (layout_from_laid_out after laid ∙ ap (λ (k : Kernel). layout k) e)
+    ∙ sym (whole j a x.size (x.small a) l)
+    ∙ sym (seen-tables m j ds a size l)
 
 -- ---- a memory that is shown
 

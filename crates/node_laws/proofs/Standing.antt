@@ -3,7 +3,6 @@ use Rattle.std.proofs.Common.{◌≡◌, ℕ, ◌+◌, List, refl, sym, ap, ◌�
 use Rattle.msp_encode.specs.declared.instr.Instr.{Instr}
 use Rattle.machine_model.specs.Context.{reg}
 use Rattle.load_model.specs.Domains.{Domain}
-use Rattle.load_model.specs.Loading.{Loadable}
 use Rattle.trace_model.specs.declared.records.Record.{Record}
 use Rattle.node_model.specs.Systems.{System, seen}
 use Rattle.node_model.specs.Steps.{Next, Case, Accepts, IsIdle, Enters, Serves, OverBudget, Runs, by_case, case_of, fetched, instruction, step, step_of, with_raised}

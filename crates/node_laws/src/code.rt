@@ -19,7 +19,7 @@ ghost use Rattle.node_model.specs.Code.{
   TurnStandsLaw,
 };
 
-/// A node's memory is what is seen of each system that it stands for, and is settled there; so is that of a system that is being loaded.
+/// A node's memory is what is seen of each system that it stands for, and is settled; so is that of a system that is being loaded.
 pub fn memory_is_shown()
     ensures shown { ShownLaw }
     ensures settled { SettledLaw }

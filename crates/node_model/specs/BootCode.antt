@@ -1,5 +1,5 @@
--- What the code of a node's boot stands on: the memory that it holds while objects are placed and threads start. Each law is proved in
--- `node_laws`.
+-- What the code of a node's boot stands on: the memory that it holds while objects are placed and threads start. Each law is
+-- proved in `node_laws`.
 use Rattle.std.specs.Prelude.{◌≡◌, ◌≢◌, ℕ, ◌+◌, ◌*◌, ◌<◌, ◌≤◌, ◌⊎◌, ◌↔◌, List, length, drop, replicate, slice_index, slice_get, slice_set, Some, Ok, Err}
 use Rattle.flat_mem.specs.Bytes.{word_at}
 use Rattle.machine_model.specs.Memory.{IsMemory}
@@ -23,10 +23,6 @@ use Rattle.node_model.specs.Code.{Shows}
 
 -- ---- the first memory
 
--- outside of the tables and of the vectors
-abbrev pub IsElsewhere : ℕ → Type 0
-IsElsewhere a = (a < 0x0200) ⊎ (((0x1000 ≤ a) × (a < 0xFFE0)) ⊎ (0xFFFC ≤ a))
-
 -- a memory of zeros got the empty kernel and the vectors
 pub record IsCleared (before after : List ℕ) : Type 0 where
   pub zeros : before ≡ replicate 65536 0
@@ -34,7 +30,8 @@ pub record IsCleared (before after : List ℕ) : Type 0 where
   pub kernel : kernel_of after ≡ empty
   pub laid_out : IsLaidOut after
   pub vectors : (n : ℕ) → n < 14 → word_at after (0xFFE0 + 2 * n) ≡ 0xF080 + 2 * n
-  pub others : (a : ℕ) → IsElsewhere a → slice_index after a ≡ slice_index before a
+  -- outside of the tables and of the vectors
+  pub others : (a : ℕ) → (a < 0x0200) ⊎ (((0x1000 ≤ a) × (a < 0xFFE0)) ⊎ (0xFFFC ≤ a)) → slice_index after a ≡ slice_index before a
 
 -- it is that of the system with nothing in it
 abbrev pub FirstSeenLaw : Type 0
@@ -48,8 +45,8 @@ LoadingSettledLaw = (m : List ℕ) (s : System) → Shows m s → IsLoading s �
 
 -- behind loading an object, memory is that of the system that has it
 abbrev pub SeenLoadedLaw : Type 0
-SeenLoadedLaw = (before after : List ℕ) (s : System) (n : ℕ) (o : Loadable) (r : Regions) → IsLoading s → IsAccepted o.object o.units
-    → places_of s.kernel o.object ≡ Ok r → Shows before s → IsMemory after
+SeenLoadedLaw = (before after : List ℕ) (s : System) (n : ℕ) (o : Loadable) (r : Regions) → IsLoading s
+    → IsAccepted o.object o.units → places_of s.kernel o.object ≡ Ok r → Shows before s → IsMemory after
     → Loaded before after (loaded_kernel o.object.kind s.kernel o.object r) o r → Shows after (loaded_at s n o r)
 
 -- and the owners are those of the domains
@@ -125,4 +122,5 @@ pub record IsBegun (before : List ℕ) (new : Parts) (os : List Loadable) (s : S
   pub steps : new.steps ≡ 0
 
 abbrev pub BootStandsLaw : Type 0
-BootStandsLaw = (before : List ℕ) (new : Parts) (os : List Loadable) (s : System) → IsBegun before new os s → Boots new os (booted os)
+BootStandsLaw = (before : List ℕ) (new : Parts) (os : List Loadable) (s : System) → IsBegun before new os s
+    → Boots new os (booted os)

@@ -1,4 +1,5 @@
--- What the code of a node's step stands on: the memory that it holds, behind each part of a step. Each law is proved in `node_laws`.
+-- What the code of a node's step stands on: the memory that it holds, behind each part of a step. Each law is proved in
+-- `node_laws`.
 use Rattle.std.specs.Prelude.{◌≡◌, ℕ, ◌+◌, ◌<◌, ◌↔◌, List, true, Option, Some}
 use Rattle.msp_encode.specs.declared.instr.Instr.{Instr}
 use Rattle.machine_model.specs.Memory.{word_at, IsMemory, put_all}
@@ -145,7 +146,8 @@ AcceptedWritesLaw = (s : System) (line : ℕ) (before : List ℕ) → IsSound s 
 -- ---- the whole step
 
 -- the node's parts behind a step are those of the next system
-pub record IsStepOf (old new : Parts) (os : List Loadable) (s : System) (raised : ℕ) (pick : Option ℕ) (told : Record) : Type 0 where
+pub record IsStepOf (old new : Parts) (os : List Loadable) (s : System) (raised : ℕ) (pick : Option ℕ) (told : Record)
+    : Type 0 where
   pub represents : Represents old os s
   pub sound : IsSound s
   pub made : s.steps < most_steps
