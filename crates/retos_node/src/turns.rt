@@ -1,6 +1,6 @@
 //! What the kernel's routines share: who runs, how a turn ends, and faults.
 
-ghost use Rattle.std.specs.Prelude.{◌≡◌, ◌≢◌, ◌<◌, ℕ};
+ghost use Rattle.std.specs.Prelude.{◌≡◌, ◌≢◌, ◌<◌, false};
 ghost use Rattle.kernel_model.specs.Dispatching.{moved_to_front, saved};
 ghost use Rattle.kernel_model.specs.Layout.{kernel_of};
 ghost use Rattle.kernel_model.specs.Queues.{Leaves};
@@ -51,6 +51,17 @@ pub fn runners_are_known(m: &FlatMem)
     ensures module { running_module (kernel_of m.now) ≢ none → running_module (kernel_of m.now) < 4 }
     ensures caller { running_module (kernel_of m.now) ≢ none → running (kernel_of m.now) ≢ none }
     ensures thread { running (kernel_of m.now) ≢ none → running (kernel_of m.now) < 32 }
+{
+    let _ = m;
+}
+
+/// Where a domain runs and no module does, a thread does.
+#[tactic(auto, using(crate::proofs::RunnerLemmas::thread_runs_by))]
+pub fn thread_runs(m: &FlatMem)
+    requires settled { IsSettled m.now }
+    requires domain { DomainRuns (kernel_of m.now) }
+    requires no_module { module_runs (kernel_of m.now) ≡ false }
+    ensures { ThreadRuns (kernel_of m.now) }
 {
     let _ = m;
 }
@@ -169,11 +180,11 @@ fn end_running(m: &mut FlatMem)
     ensures settled { IsSettled m.new }
 {
     running_thread();
-    runners_are_known(m);
     if module_runs(m) {
         end_module(m);
         to_front(m);
     } else {
+        thread_runs(m);
         let app = running(m) / THREADS_OF_APP;
         end_app(m, app, AppEnd::Faulted);
     }

@@ -1,0 +1,2 @@
+pub mod RunnerLemmas
+pub mod TurnLemmas
