@@ -1,2 +1,4 @@
 pub mod RunnerLemmas
 pub mod TurnLemmas
+pub mod AnswerLemmas
+pub mod EntryLemmas

@@ -16,11 +16,13 @@ use Rattle.node_model.specs.Entries.{Work, Turn}
 use Rattle.retos_node.specs.Turns.{AreOwnMarks, Becomes, DispatchesFrom, Turned, TurnsBy, work_of}
 
 -- a dispatch behind another call
-pub dispatches_then : (m m1 m' r' : List ℕ) (moment : Moment) (j : Kernel) → Leaves m m1 j → DispatchesFrom m1 m' r' moment (kernel_of m1)
-    → DispatchesFrom m m' r' moment j
-dispatches_then m m1 m' r' moment j x d = record {
-  leaves = leaves_then (λ k. dispatched k moment.pick) m m1 m' j x d.leaves;
-  registers_are = subst (λ (k : Kernel). IsContext (dispatched_context k moment.pick) → r' ≡ dispatched_context k moment.pick) x.kernel d.registers_are;
+pub dispatches_by : (rule : Kernel → Kernel) (m m1 m' r' : List ℕ) (moment : Moment) (j : Kernel) → Leaves m m1 j
+    → DispatchesFrom m1 m' r' moment (rule (kernel_of m1)) → DispatchesFrom m m' r' moment (rule j)
+dispatches_by rule m m1 m' r' moment j x d = record {
+  leaves = leaves_then (λ k. dispatched (rule k) moment.pick) m m1 m' j x d.leaves;
+  registers_are =
+      subst (λ (k : Kernel). IsContext (dispatched_context (rule k) moment.pick) → r' ≡ dispatched_context (rule k) moment.pick) x.kernel
+      d.registers_are;
 }
 
 -- registers that had another value in R12 for a while
