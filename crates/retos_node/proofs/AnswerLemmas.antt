@@ -127,7 +127,7 @@ pub spawned_turn : (m m1 m' r r1 r' : List ℕ) (moment : Moment) (told : Record
     → SpawnedBy m m1 r o (Ok n) → r1 ≡ set_reg r 13 n → told ≡ called (work_of m r moment own at) (entry_address Spawn)
     → DispatchesFrom m1 m' r' moment (moved_to_front (saved (kernel_of m1) (set_reg r1 12 0)))
     → Turned m m' r' told
-        (unless Spawn (work_of m r moment own at) o (after_giving Spawn (work_of m r moment own at) (spawned (kernel_of m) r) (number_of (next_thread (kernel_of m)))))
+    (unless Spawn (work_of m r moment own at) o (after_giving Spawn (work_of m r moment own at) (spawned (kernel_of m) r) (number_of (next_thread (kernel_of m)))))
 spawned_turn m m1 m' r r1 r' moment told own at o n h is shown d =
     let w : Work = work_of m r moment own at in
     let k : Kernel = spawned (kernel_of m) r in
@@ -140,3 +140,10 @@ spawned_turn m m1 m' r r1 r' moment told own at o n h is shown d =
     (dispatches_by (λ j. moved_to_front (saved j x)) m m1 m' r' moment k a.leaves
     (subst (λ (y : List ℕ). DispatchesFrom m1 m' r' moment (moved_to_front (saved (kernel_of m1) (set_reg y 12 0)))) (is ∙ ap (λ z. set_reg r 13 z) value) d))
     shown)
+
+-- the code is another's
+pub allowed_as : (m m' : List ℕ) (o o' : Option Code) (k : Kernel) → o ≡ o' → IsAllowed m m' o k → IsAllowed m m' o' k
+allowed_as m m' o o' k e h = record { code = sym e ∙ h.code; leaves = h.leaves }
+
+pub refused_as : (m m' : List ℕ) (o o' : Option Code) (code : Code) → o ≡ o' → IsRefused m m' o code → IsRefused m m' o' code
+refused_as m m' o o' code e h = record { code_is = sym e ∙ h.code_is; same = h.same }

@@ -45,7 +45,7 @@ pub turns_by : (m m' r r' : List ℕ) (moment : Moment) (told : Record) (turn : 
     → TurnsBy m m' r r' moment told turn
 turns_by m m' r r' moment told turn h w i =
     let P : Kernel → List ℕ → ℕ → ℕ → Option ℕ → Type 0 = λ k c at n p.
-        Turned m m' r' told (turn (record { kernel = k; context = c; is_own = w.is_own; stacked = at; step = n; pick = p })) in
+    Turned m m' r' told (turn (record { kernel = k; context = c; is_own = w.is_own; stacked = at; step = n; pick = p })) in
     subst (λ (k : Kernel). P k w.context w.stacked w.step w.pick) i.kernel
     (subst (λ (c : List ℕ). P (kernel_of m) c w.stacked w.step w.pick) i.context
     (subst (λ (at : ℕ). P (kernel_of m) r at w.step w.pick) i.stacked

@@ -2,6 +2,24 @@
 use Rattle.node_model.specs.Entries.{Call, StoreFault, StackFault, Goes, Calls, Exits, Spawn, Yield, Sleep, Priority, Self, Ticks, Lock, Unlock, Wait, Signal, Broadcast, Line, ModuleCall, Emits, Leave}
 use Rattle.retos_node.specs.declared.entries.EntryPoint.{EntryPoint}
 use Rattle.retos_node.specs.declared.entries.EntryPoint.TheVariants as entry
+use Rattle.retos_node.specs.declared.entries.KernelCall.{KernelCall}
+use Rattle.retos_node.specs.declared.entries.KernelCall.TheVariants as call
+
+abbrev pub kernel_call : KernelCall → Call
+kernel_call call.Spawn = Spawn
+kernel_call call.Yield = Yield
+kernel_call call.Sleep = Sleep
+kernel_call call.Priority = Priority
+kernel_call call.Identity = Self
+kernel_call call.Ticks = Ticks
+kernel_call call.Lock = Lock
+kernel_call call.Unlock = Unlock
+kernel_call call.Wait = Wait
+kernel_call call.Signal = Signal
+kernel_call call.Broadcast = Broadcast
+kernel_call call.Line = Line
+kernel_call call.ModuleCall = ModuleCall
+kernel_call call.Emits = Emits
 
 abbrev pub call_of : EntryPoint → Call
 call_of entry.StoreFault = StoreFault
@@ -9,28 +27,5 @@ call_of entry.StackFault = StackFault
 call_of entry.Goes = Goes
 call_of entry.Calls = Calls
 call_of entry.Exits = Exits
-call_of entry.Spawn = Spawn
-call_of entry.Yield = Yield
-call_of entry.Sleep = Sleep
-call_of entry.Priority = Priority
-call_of entry.Identity = Self
-call_of entry.Ticks = Ticks
-call_of entry.Lock = Lock
-call_of entry.Unlock = Unlock
-call_of entry.Wait = Wait
-call_of entry.Signal = Signal
-call_of entry.Broadcast = Broadcast
-call_of entry.Line = Line
-call_of entry.ModuleCall = ModuleCall
-call_of entry.Emits = Emits
 call_of entry.Leave = Leave
-
--- the entry takes a return address off the stack
-abbrev pub IsCall : EntryPoint → Type 0
-IsCall entry.StoreFault = ⊥
-IsCall entry.StackFault = ⊥
-IsCall entry.Goes = ⊥
-IsCall entry.Calls = ⊥
-IsCall entry.Exits = ⊥
-IsCall entry.Leave = ⊥
-IsCall _ = Unit {0}
+call_of (entry.Call c) = kernel_call c

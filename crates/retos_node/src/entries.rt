@@ -8,7 +8,7 @@ ghost use Rattle.kernel_model.specs.Words.{none, running_module};
 ghost use Rattle.place_model.specs.Settled.{IsSettled};
 ghost use Rattle.node_model.specs.Entries.{Call, by_jump, entry_address, has_row, is_for_app, is_for_module, row, turn_at};
 ghost use Rattle.node_model.specs.Steps.{entry_at};
-ghost use Rattle.retos_node.specs.Calls.{IsCall, call_of};
+ghost use Rattle.retos_node.specs.Calls.{call_of, kernel_call};
 ghost use Rattle.retos_node.specs.Turns.{Does, DoesCall, HasRow, IsReady, TurnsBy};
 
 use crate::calls::{
@@ -37,6 +37,15 @@ pub enum EntryPoint {
     Calls,
     /// A thread's end.
     Exits,
+    /// A module's return.
+    Leave,
+    /// A call, which returns.
+    Call(KernelCall),
+}
+
+/// A call of the kernel.
+#[derive(Clone, Copy, Drop)]
+pub enum KernelCall {
     /// A new thread.
     Spawn,
     /// The end of a thread's turn.
@@ -45,7 +54,7 @@ pub enum EntryPoint {
     Sleep,
     /// Another priority.
     Priority,
-    /// Who is running.
+    /// Who runs.
     Identity,
     /// The tick number.
     Ticks,
@@ -65,8 +74,6 @@ pub enum EntryPoint {
     ModuleCall,
     /// A value that is printed.
     Emits,
-    /// A module's return.
-    Leave,
 }
 
 const STORE_FAULT: u16 = 0xF000;
@@ -122,20 +129,20 @@ pub fn entry_at(pc: u16) -> Option<EntryPoint>
         GOES => Some(EntryPoint::Goes),
         CALLS => Some(EntryPoint::Calls),
         EXITS => Some(EntryPoint::Exits),
-        SPAWN => Some(EntryPoint::Spawn),
-        YIELD => Some(EntryPoint::Yield),
-        SLEEP => Some(EntryPoint::Sleep),
-        PRIORITY => Some(EntryPoint::Priority),
-        IDENTITY => Some(EntryPoint::Identity),
-        TICKS => Some(EntryPoint::Ticks),
-        LOCK => Some(EntryPoint::Lock),
-        UNLOCK => Some(EntryPoint::Unlock),
-        WAIT => Some(EntryPoint::Wait),
-        SIGNAL => Some(EntryPoint::Signal),
-        BROADCAST => Some(EntryPoint::Broadcast),
-        LINE => Some(EntryPoint::Line),
-        MODULE_CALL => Some(EntryPoint::ModuleCall),
-        EMITS => Some(EntryPoint::Emits),
+        SPAWN => Some(EntryPoint::Call(KernelCall::Spawn)),
+        YIELD => Some(EntryPoint::Call(KernelCall::Yield)),
+        SLEEP => Some(EntryPoint::Call(KernelCall::Sleep)),
+        PRIORITY => Some(EntryPoint::Call(KernelCall::Priority)),
+        IDENTITY => Some(EntryPoint::Call(KernelCall::Identity)),
+        TICKS => Some(EntryPoint::Call(KernelCall::Ticks)),
+        LOCK => Some(EntryPoint::Call(KernelCall::Lock)),
+        UNLOCK => Some(EntryPoint::Call(KernelCall::Unlock)),
+        WAIT => Some(EntryPoint::Call(KernelCall::Wait)),
+        SIGNAL => Some(EntryPoint::Call(KernelCall::Signal)),
+        BROADCAST => Some(EntryPoint::Call(KernelCall::Broadcast)),
+        LINE => Some(EntryPoint::Call(KernelCall::Line)),
+        MODULE_CALL => Some(EntryPoint::Call(KernelCall::ModuleCall)),
+        EMITS => Some(EntryPoint::Call(KernelCall::Emits)),
         LEAVE => Some(EntryPoint::Leave),
         _ => None,
     }
@@ -185,7 +192,7 @@ fn enter(m: &mut FlatMem, r: &mut Regs, entry: EntryPoint, moment: Moment) -> Re
         EntryPoint::Calls => jumps(m, r, CALLS, moment),
         EntryPoint::Exits => exits(m, r, moment),
         EntryPoint::Leave => leaves(m, r, moment),
-        _ => returns(m, r, entry, moment),
+        EntryPoint::Call(call) => returns(m, r, call, moment),
     }
 }
 
@@ -202,42 +209,39 @@ fn jumps(m: &mut FlatMem, r: &mut Regs, entry: u16, moment: Moment) -> Record
 }
 
 /// Does what a call does: its return address is popped, which has to be a mark.
-fn returns(m: &mut FlatMem, r: &mut Regs, entry: EntryPoint, moment: Moment) -> Record
+fn returns(m: &mut FlatMem, r: &mut Regs, call: KernelCall, moment: Moment) -> Record
     requires ready { IsReady m.old }
-    requires row { has_row (kernel_of m.old) (call_of entry) ≡ true }
-    requires call { IsCall entry }
-    ensures { DoesCall m.old m.new r.old r.new moment result (call_of entry) }
+    requires row { has_row (kernel_of m.old) (kernel_call call) ≡ true }
+    ensures { DoesCall m.old m.new r.old r.new moment result (kernel_call call) }
 {
-    row_runs(m, entry);
+    row_runs(m, EntryPoint::Call(call));
     match take_return(m, r) {
-        Ok(()) => calls(m, r, entry, moment),
+        Ok(()) => calls(m, r, call, moment),
         Err(address) => faults(m, r, FaultKind::Return, address, moment),
     }
 }
 
 /// Does what a call does behind its return.
-fn calls(m: &mut FlatMem, r: &mut Regs, entry: EntryPoint, moment: Moment) -> Record
+fn calls(m: &mut FlatMem, r: &mut Regs, call: KernelCall, moment: Moment) -> Record
     requires ready { IsReady m.old }
-    requires row { has_row (kernel_of m.old) (call_of entry) ≡ true }
-    requires call { IsCall entry }
-    ensures { Does m.old m.new r.old r.new moment result (row (call_of entry)) }
+    requires row { has_row (kernel_of m.old) (kernel_call call) ≡ true }
+    ensures { Does m.old m.new r.old r.new moment result (row (kernel_call call)) }
 {
-    row_runs(m, entry);
-    match entry {
-        EntryPoint::Spawn => spawns(m, r, moment),
-        EntryPoint::Yield => yields(m, r, moment),
-        EntryPoint::Sleep => sleeps(m, r, moment),
-        EntryPoint::Priority => gives_priority(m, r, moment),
-        EntryPoint::Identity => tells_identity(m, r, moment),
-        EntryPoint::Ticks => gives_ticks(m, r, moment),
-        EntryPoint::Lock => locks(m, r, moment),
-        EntryPoint::Unlock => unlocks(m, r, moment),
-        EntryPoint::Wait => waits(m, r, moment),
-        EntryPoint::Signal => signals(m, r, moment),
-        EntryPoint::Broadcast => broadcasts(m, r, moment),
-        EntryPoint::Line => waits_for_line(m, r, moment),
-        EntryPoint::ModuleCall => calls_module(m, r, moment),
-        EntryPoint::Emits => emits(m, r, moment),
-        _ => unreachable!(),
+    row_runs(m, EntryPoint::Call(call));
+    match call {
+        KernelCall::Spawn => spawns(m, r, moment),
+        KernelCall::Yield => yields(m, r, moment),
+        KernelCall::Sleep => sleeps(m, r, moment),
+        KernelCall::Priority => gives_priority(m, r, moment),
+        KernelCall::Identity => tells_identity(m, r, moment),
+        KernelCall::Ticks => gives_ticks(m, r, moment),
+        KernelCall::Lock => locks(m, r, moment),
+        KernelCall::Unlock => unlocks(m, r, moment),
+        KernelCall::Wait => waits(m, r, moment),
+        KernelCall::Signal => signals(m, r, moment),
+        KernelCall::Broadcast => broadcasts(m, r, moment),
+        KernelCall::Line => waits_for_line(m, r, moment),
+        KernelCall::ModuleCall => calls_module(m, r, moment),
+        KernelCall::Emits => emits(m, r, moment),
     }
 }

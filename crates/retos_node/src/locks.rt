@@ -24,8 +24,9 @@ pub fn locks(m: &mut FlatMem, r: &mut Regs, moment: Moment) -> Record
     ensures { Does m.old m.new r.old r.new moment result (row Lock) }
 {
     let told = called(m, moment, LOCK);
+    let mutex = r.get(CODE);
     save_zero(m, r);
-    match lock(m, r.get(CODE)) {
+    match lock(m, mutex) {
         Ok(true) => {
             to_front(m);
             run_next(m, r, moment);
@@ -55,8 +56,10 @@ pub fn waits(m: &mut FlatMem, r: &mut Regs, moment: Moment) -> Record
     ensures { Does m.old m.new r.old r.new moment result (row Wait) }
 {
     let told = called(m, moment, WAIT);
+    let condition = r.get(CODE);
+    let mutex = r.get(VALUE);
     save_zero(m, r);
-    match wait(m, r.get(CODE), r.get(VALUE)) {
+    match wait(m, condition, mutex) {
         Ok(()) => run_next(m, r, moment),
         Err(code) => go_on(m, r, code_number(code), moment),
     }

@@ -12,5 +12,5 @@ pub returns : goal.returns
 returns c =
     turns_by c.args.m.now c.faults.new.m c.args.r.now c.faults.new.r c.args.moment c.faults.result over_budget
     (λ own marks. let at : ℕ = word_at c.args.m.now (reg c.args.r.now 1) in
-        subst (λ (v : ℕ). Turned c.args.m.now c.faults.new.m c.faults.new.r c.faults.result (faults (work_of c.args.m.now c.args.r.now c.args.moment own at) Budget v))
-        c.get-at.ensures (c.faults.ensures own at marks))
+    subst (λ (v : ℕ). Turned c.args.m.now c.faults.new.m c.faults.new.r c.faults.result (faults (work_of c.args.m.now c.args.r.now c.args.moment own at) Budget v))
+    c.get-at.ensures (c.faults.ensures own at marks))
