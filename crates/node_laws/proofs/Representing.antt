@@ -125,7 +125,7 @@ seen-free m k ds a e (inr (inr u)) =
     ∙ above-patch m (bytes_in 3584 (layout k)) 0x0200 3584 a (tables-length k) (omega arith) (omega arith)
 
 -- what is seen in the tables and in the marks isn't memory's
-seen-over : (m n : List ℕ) (k : Kernel) (ds : List (Option Domain)) (a : ℕ) → length m ≡ 65536 → length n ≡ 65536
+pub seen-over : (m n : List ℕ) (k : Kernel) (ds : List (Option Domain)) (a : ℕ) → length m ≡ 65536 → length n ≡ 65536
     → ((512 ≤ a) × (a < 4096)) ⊎ ((0x1100 ≤ a) × (a < 0x1900)) → get_or (seen_in m k ds) a 0 ≡ get_or (seen_in n k ds) a 0
 unfolding seen_in
 seen-over m n k ds a e f (inl h) =

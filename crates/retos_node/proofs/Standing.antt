@@ -30,7 +30,9 @@ use Rattle.node_model.specs.Steps.{Next, Case, Accepts, IsIdle, Enters, Serves, 
 use Rattle.node_model.specs.Sound.{IsSound, IsRunning, AThread, Nothing, Interrupted, IdleInterrupted, AModule}
 use Rattle.node_model.specs.Confined.{IsConfined, IsJustAccepted, IsPushed}
 use Rattle.node_model.specs.Laws.{StepLaw, IsSafe, FetchedLaw, RowlessLaw, RaisedLaw}
-use Rattle.node_model.specs.Code.{Shows, SettledLaw, KnownLaw, OwnMarkLaw, GivesNext, IsTurned, TurnStandsLaw, IsDone, IsWritten, InstructionStandsLaw, DoneWritesLaw, IsAccepting, AcceptanceStandsLaw, AcceptedWritesLaw}
+use Rattle.node_model.specs.Nodes.{Parts, Represents, Stepped, most_steps}
+use Rattle.load_model.specs.Loading.{Loadable}
+use Rattle.node_model.specs.Code.{StandsLaw, ShownLaw, Shows, SettledLaw, KnownLaw, OwnMarkLaw, GivesNext, IsTurned, TurnStandsLaw, IsDone, IsWritten, InstructionStandsLaw, DoneWritesLaw, IsAccepting, AcceptanceStandsLaw, AcceptedWritesLaw}
 use Rattle.node_laws.proofs.Stepping.{domain-runs}
 use Rattle.node_laws.proofs.Within.{domain-module}
 use Rattle.node_laws.proofs.Idling.{idle-is}
@@ -336,3 +338,27 @@ gives_over safe law marks s pick before after registers context step shown st me
     gives_turn safe law s pick (over_budget (work s pick)) before after registers context step shown st memory
     (ap (by_case s pick) (case_here before registers step s OverBudget st e))
     (h (work s pick) (is_work marks s pick before registers step st))
+
+-- ---- a node
+
+pub node_stands : ShownLaw → (n : Parts) (os : List Loadable) (s : System) → Represents n os s → IsSound s → n.steps < most_steps
+    → Stands n.mem n.regs (n.steps + 1) s
+node_stands shown n os s r h few = record {
+  shows = shown n os s r h;
+  regs = r.context;
+  sound = h;
+  number = ap (λ (x : ℕ). x + 1) r.steps;
+  made = subst (λ (x : ℕ). x < most_steps) r.steps few;
+}
+
+pub stepped : StandsLaw → (old new : Parts) (os : List Loadable) (s : System) (raised : ℕ) (pick : Option ℕ) (shown : Record)
+    → Represents old os s → IsSound s → old.steps < most_steps → new.steps ≡ old.steps + 1 → new.owner ≡ old.owner
+    → GivesNext new.mem new.regs shown (step_of (with_raised s raised) pick) → Stepped new os s raised pick shown
+stepped law old new os s raised pick shown r h few made same gives = law old new os s raised pick shown record {
+  represents = r;
+  sound = h;
+  made = subst (λ (x : ℕ). x < most_steps) r.steps few;
+  gives = gives;
+  steps = made;
+  owner = same;
+}

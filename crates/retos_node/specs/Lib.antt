@@ -1,3 +1,5 @@
 pub mod Parts
 pub mod Turns
 pub mod Cases
+pub mod Codes
+pub mod Calls

@@ -6,12 +6,13 @@ use Rattle.kernel_model.specs.Kernel.{Kernel}
 use Rattle.kernel_model.specs.Layout.{kernel_of}
 use Rattle.kernel_model.specs.Queues.{Leaves}
 use Rattle.kernel_model.specs.Words.{tick_number}
+use Rattle.kernel_model.specs.Dispatching.{dispatched, dispatched_context}
 use Rattle.place_model.specs.Settled.{IsSettled}
 use Rattle.place_model.specs.Marking.{IsOwnMark}
 use Rattle.kernel_model.specs.Modules.{HasKnownModules}
 use Rattle.trace_model.specs.declared.records.Record.{Record}
 use Rattle.retos_node.specs.declared.turns.Moment.{Moment}
-use Rattle.node_model.specs.Entries.{Work, Turn, Call, has_row}
+use Rattle.node_model.specs.Entries.{Work, Turn, Call, has_row, turn_at}
 use Rattle.node_model.specs.Steps.{entry_at}
 
 -- ---- what a routine is given
@@ -53,3 +54,35 @@ pub record Turned (before after registers : List ℕ) (told : Record) (t : Turn)
 -- the turn of a routine, for its work
 abbrev pub TurnsBy : (m m' r r' : List ℕ) → Moment → Record → (Work → Turn) → Type 0
 TurnsBy m m' r r' moment told turn = (w : Work) → IsWork m r moment.step moment.pick w → Turned m m' r' told (turn w)
+
+-- ---- between its parts
+
+-- memory has a kernel and is else as before, and the registers are a context, which they can hold in each sound system
+pub record Becomes (before after registers : List ℕ) (k : Kernel) (context : List ℕ) : Type 0 where
+  pub leaves : Leaves before after k
+  pub registers_are : IsContext context → registers ≡ context
+
+-- a dispatch was made from a kernel, in which nothing runs
+abbrev pub DispatchesFrom : (m m' r' : List ℕ) → Moment → Kernel → Type 0
+DispatchesFrom m m' r' moment k = Becomes m m' r' (dispatched k moment.pick) (dispatched_context k moment.pick)
+
+-- the work as memory and registers have it, with these marks, and with this word that stood at SP
+abbrev pub work_of : (m registers : List ℕ) → Moment → (is_own : ℕ → Bool) → (stacked : ℕ) → Work
+work_of m r moment own at = record {
+  kernel = kernel_of m;
+  context = r;
+  is_own = own;
+  stacked = at;
+  step = moment.step;
+  pick = moment.pick;
+}
+
+-- a turn that is made by neither marks nor stack
+abbrev pub Does : (m m' r r' : List ℕ) → Moment → Record → (Work → Turn) → Type 0
+Does m m' r r' moment told turn =
+    (own : ℕ → Bool) (at : ℕ) → AreOwnMarks m own → Turned m m' r' told (turn (work_of m r moment own at))
+
+-- a turn whose word at SP is that of memory
+abbrev pub DoesCall : (m m' r r' : List ℕ) → Moment → Record → Call → Type 0
+DoesCall m m' r r' moment told c =
+    (own : ℕ → Bool) → AreOwnMarks m own → Turned m m' r' told (turn_at c (work_of m r moment own (word_at m (reg r 1))))

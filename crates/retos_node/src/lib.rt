@@ -6,7 +6,10 @@
 //! placing and starting, `running` a run with its lines, and `schedule` what a script gives for the next step.
 #![tactic(auto)]
 
+mod calls;
 mod entries;
+mod locks;
+mod modules;
 pub mod node;
 pub mod objects;
 mod routines;

@@ -16,6 +16,7 @@ use edge_io::whole::SinkFault;
 use flat_mem::FlatMem;
 use msp_machine::Regs;
 use node_laws::code::memory_is_shown;
+use node_laws::holding::nodes_are_sound;
 use place_model::places::NoRoom;
 use std::alloc::{AllocError, Global};
 use thiserror::Error;
@@ -85,6 +86,7 @@ impl Node {
     {
         step_law();
         memory_is_shown();
+        nodes_are_sound();
         let _ = objects;
         let step = self.steps + 1;
         let moment = Moment { step, pick };
