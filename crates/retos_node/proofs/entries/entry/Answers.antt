@@ -12,8 +12,8 @@ pub enter-requires-clause-row : goal.enter-requires-clause-row
 enter-requires-clause-row c =
     subst (λ (x : Call). has_row (kernel_of c.args.m.now) x ≡ true) (same_call c.requires.row.call (call_of c.in-Some.entry) (sym c.requires.row.at ∙ sym c.in-Some.ensures)) c.requires.row.row
 
-pub returns-in-Some : goal.returns-in-Some
-returns-in-Some c e at =
+pub returns : goal.returns
+returns c e at =
     turns_by c.args.m.now c.enter.new.m c.args.r.now c.enter.new.r c.args.moment c.enter.result (turn_at e)
     (subst (λ (x : Call). DoesCall c.args.m.now c.enter.new.m c.args.r.now c.enter.new.r c.args.moment c.enter.result x)
     (same_call (call_of c.in-Some.entry) e (c.in-Some.ensures ∙ at)) c.enter.ensures)
