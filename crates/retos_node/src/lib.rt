@@ -8,6 +8,7 @@
 
 pub mod node;
 pub mod objects;
+mod schedule;
 
 pub use node::{BootFault, End, Node, Show};
 pub use objects::ObjectList;
