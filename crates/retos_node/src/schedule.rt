@@ -171,7 +171,11 @@ fn at_lines(script: &Script, from: usize, step: u32) -> AtLines
         place: from,
         due: NEVER,
     };
-    while let Some(at) = script.ats.get(lines.place) {
+    let count = script.ats.len();
+    while lines.place < count {
+        let Some(at) = script.ats.get(lines.place) else {
+            return lines;
+        };
         if at.step > step {
             lines.due = at.step;
             return lines;
