@@ -1,3 +1,5 @@
 pub mod Parts
 pub mod Turns
 pub mod Readiness
+pub mod Printing
+pub mod Underway

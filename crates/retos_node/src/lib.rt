@@ -6,8 +6,11 @@
 //! placing and starting, `running` a run with its lines, and `schedule` what a script gives for the next step.
 #![tactic(auto)]
 
+mod lines;
 pub mod node;
 pub mod objects;
+mod quiet;
+mod running;
 mod schedule;
 
 pub use node::{BootFault, End, Node, Show};
