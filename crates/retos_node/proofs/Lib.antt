@@ -1,2 +1,5 @@
 pub mod Fitting
 pub mod Scheduling
+pub mod Writing
+pub mod Naming
+pub mod Course

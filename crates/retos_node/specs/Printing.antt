@@ -15,15 +15,18 @@ use Rattle.node_model.specs.Nodes.{end_line, in_order, nobody, placement_line}
 
 -- ---- which lines
 
--- the numbers of the domains of an object
-abbrev pub numbers_of : (owner : List ℕ) → (object : ℕ) → List ℕ
-numbers_of owner i = filter (λ n. slice_index_or owner n nobody == i) (range_with_len 0 12)
+-- the numbers of the domains of an object, below a number
+unfoldable pub numbers_below : (owner : List ℕ) → (object : ℕ) → (number : ℕ) → List ℕ
+numbers_below owner i n = filter (λ n. slice_index_or owner n nobody == i) (range_with_len 0 n)
 
-abbrev pub placement_lines : Kernel → (owner : List ℕ) → (count : ℕ) → List (List ℕ)
+abbrev pub numbers_of : (owner : List ℕ) → (object : ℕ) → List ℕ
+numbers_of owner i = numbers_below owner i 12
+
+unfoldable pub placement_lines : Kernel → (owner : List ℕ) → (count : ℕ) → List (List ℕ)
 placement_lines k owner count = map (placement_line k) (in_order owner count)
 
 -- the line of a record, where it is shown
-abbrev pub shown_line : (all : Bool) → Record → List (List ℕ)
+unfoldable pub shown_line : (all : Bool) → Record → List (List ℕ)
 shown_line all r = if all then record_text r ∷ [] else (if is_always_shown r then record_text r ∷ [] else [])
 
 unfoldable pub shown_lines : (all : Bool) → List Record → List (List ℕ)

@@ -9,6 +9,7 @@
 mod lines;
 pub mod node;
 pub mod objects;
+mod printing;
 mod quiet;
 mod running;
 mod schedule;
