@@ -1,5 +1,5 @@
 -- How far a run has come, a step further and at its end.
-use Rattle.std.proofs.Common.{◌≡◌, ℕ, suc, zero, ◌<◌, ◌≤◌, ◌+◌, ◌-◌, Bool, true, false, cond, List, [], ◌∷◌, ◌++◌, length, map, ap, ◌∙◌, sym, refl, subst, arith, append_assoc, length-append, add-one}
+use Rattle.std.proofs.Common.{◌≡◌, ℕ, suc, zero, ◌<◌, ◌≤◌, ◌+◌, ◌-◌, Bool, true, false, cond, List, [], ◌∷◌, ◌++◌, length, map, Option, ap, ◌∙◌, sym, refl, subst, arith, append_assoc, length-append, add-one}
 use Rattle.std.specs.List.{concat, filter, flat_map}
 use Rattle.std.proofs.lemmas.List.{append-nil}
 use Rattle.std.proofs.lemmas.List.Folds.{concat-append}
@@ -12,10 +12,15 @@ use Rattle.load_model.specs.Loading.{Loadable}
 use Rattle.node_model.specs.Systems.{System}
 use Rattle.node_model.specs.Runs.{Run, run, next, is_quiet, ended_run, after, emits, faults}
 use Rattle.node_model.specs.Sound.{IsSound}
-use Rattle.node_model.specs.Nodes.{Parts, Represents, IsEnd, placement_line, placement_text, end_line, in_order, trace_text}
+use Rattle.kernel_model.specs.Kernel.{Kernel}
+use Rattle.kernel_model.specs.Layout.{kernel_of}
+use Rattle.trace_model.specs.Draws.{raised_at, pick_at}
+use Rattle.trace_print.specs.Named.{HasLine}
+use Rattle.retos_node.proofs.Naming.{step_has_line}
+use Rattle.node_model.specs.Nodes.{Parts, Represents, Steps, Stepped, IsEnd, placement_line, placement_text, end_line, in_order, trace_text}
 use Rattle.retos_node.specs.declared.running.Counts.{Counts}
 use Rattle.retos_node.specs.Printing.{placement_lines, shown_line, shown_lines, trace_lines}
-use Rattle.retos_node.specs.Underway.{one_if, AreCounted, IsNext, behind, IsUnderWay, HasReached, HasEnded}
+use Rattle.retos_node.specs.Underway.{one_if, AreCounted, IsNext, behind, quiet_in, IsUnderWay, HasReached, HasEnded}
 
 -- ---- the run, a step further
 
@@ -36,7 +41,26 @@ unfolding run
 run-none t s = refl
 
 same-run : (a b : Run) → a.records ≡ b.records → a.last ≡ b.last → a ≡ b
-same-run a b e f = cc
+same-run a b e f = ap (λ (rs : List Record). run_of rs a.last) e ∙ ap (λ (x : System). run_of b.records x) f
+
+part-by : (n : ℕ) (t : Script) (s : System) (made : List Record) (now : System) (b : Bool) → is_quiet t s ≡ b
+    → run (suc n) t s ≡ run_of made now → length made ≡ suc n
+    → ((rest : List Record) → run n t (next t s).system ≡ run_of rest now → length rest ≡ n
+      → run (suc n) t (next t s).system ≡ run_of (rest ++ (next t now).shown ∷ []) (next t now).system)
+    → run (suc (suc n)) t s ≡ run_of (made ++ (next t now).shown ∷ []) (next t now).system
+part-by n t s made now true h e l more =
+    let none : made ≡ [] = ap (λ (r : Run). r.records) (sym e ∙ run-quiet (suc n) t s h) in
+    absurd (omega (arith, ap length none, l))
+part-by n t s made now false h e l more =
+    let first : Record = (next t s).shown in
+    let then : System = (next t s).system in
+    let cut : run_of made now ≡ after first (run n t then) = sym e ∙ run-on n t s h in
+    let made_is : made ≡ first ∷ (run n t then).records = ap (λ (r : Run). r.records) cut in
+    let rest : run n t then ≡ run_of (run n t then).records now =
+        same-run (run n t then) (run_of (run n t then).records now) refl (sym (ap (λ (r : Run). r.last) cut)) in
+    let long : length (run n t then).records ≡ n = omega (arith, ap length made_is, l) in
+    run-on (suc n) t s h ∙ ap (λ (r : Run). after first r) (more (run n t then).records rest long)
+    ∙ ap (λ (m : List Record). run_of (m ++ (next t now).shown ∷ []) (next t now).system) (sym made_is)
 
 -- so many steps were made, and the next one too
 part-more : (n : ℕ) (t : Script) (s : System) (made : List Record) (now : System) → run n t s ≡ run_of made now → length made ≡ n
@@ -49,23 +73,8 @@ part-more zero t s made now e l q =
     run-on 0 t s quiet ∙ ap (λ (r : Run). after (next t s).shown r) (run-none t (next t s).system)
     ∙ ap (λ (x : System). run_of ((next t x).shown ∷ []) (next t x).system) (sym same)
     ∙ ap (λ (m : List Record). run_of (m ++ (next t now).shown ∷ []) (next t now).system) (sym none)
-part-more (suc n) t s made now e l q = by (is_quiet t s) refl
-  where
-    by : (b : Bool) → is_quiet t s ≡ b → run (suc (suc n)) t s ≡ run_of (made ++ (next t now).shown ∷ []) (next t now).system
-    by true h =
-        let none : made ≡ [] = ap (λ (r : Run). r.records) (sym e ∙ run-quiet (suc n) t s h) in
-        absurd (omega (arith, ap length none, l))
-    by false h =
-        let first : Record = (next t s).shown in
-        let then : System = (next t s).system in
-        let cut : run_of made now ≡ after first (run n t then) = sym e ∙ run-on n t s h in
-        let made_is : made ≡ first ∷ (run n t then).records = ap (λ (r : Run). r.records) cut in
-        let rest : run n t then ≡ run_of (run n t then).records now =
-            same-run (run n t then) (run_of (run n t then).records now) refl (sym (ap (λ (r : Run). r.last) cut)) in
-        let long : length (run n t then).records ≡ n = omega (arith, ap length made_is, l) in
-        run-on (suc n) t s h
-        ∙ ap (λ (r : Run). after first r) (part-more n t then (run n t then).records now rest long q)
-        ∙ ap (λ (m : List Record). run_of (m ++ (next t now).shown ∷ []) (next t now).system) (sym made_is)
+part-more (suc n) t s made now e l q =
+    part-by n t s made now (is_quiet t s) refl e l (λ rest r k. part-more n t (next t s).system rest now r k q)
 
 filter-more : (p : Record → Bool) (made : List Record) (r : Record)
     → length (filter p (made ++ r ∷ [])) ≡ length (filter p made) + one_if (p r)
@@ -235,3 +244,35 @@ trace_is all count t s r =
     (concat-append (shown_lines all r.records) (end_line t r ∷ [])
     ∙ ap (λ (x : List ℕ). x ++ concat (end_line t r ∷ [])) (shown-is all r.records)
     ∙ ap (λ (x : List ℕ). shown_texts all false r.records ++ x) (append-nil (end_line t r)))
+
+-- ---- a step, and the quiet test
+
+pub stepped_next : (t : Script) (old new : Parts) (os : List Loadable) (s : System) (raised : ℕ) (pick : Option ℕ) (told : Record)
+    → Steps old new os raised pick told → raised ≡ raised_at t (old.steps + 1) → pick ≡ pick_at t (old.steps + 1) → Represents old os s
+    → IsSound s → Stepped new os s (raised_at t (s.steps + 1)) (pick_at t (s.steps + 1)) told
+stepped_next t old new os s raised pick told h e f r k =
+    let one : raised ≡ raised_at t (s.steps + 1) = e ∙ ap (λ n. raised_at t (n + 1)) r.steps in
+    let two : pick ≡ pick_at t (s.steps + 1) = f ∙ ap (λ n. pick_at t (n + 1)) r.steps in
+    subst (λ p. Stepped new os s (raised_at t (s.steps + 1)) p told) two (subst (λ n. Stepped new os s n pick told) one (h s r k))
+
+pub told_has_line : (new : Parts) (os : List Loadable) (s : System) (raised : ℕ) (pick : Option ℕ) (told : Record)
+    → Stepped new os s raised pick told → HasLine told
+told_has_line new os s raised pick told h = subst HasLine (sym h.shown) (step_has_line s raised pick)
+
+pub told_line : (a b : Bool) (x y : Record) → a ≡ b → x ≡ y → shown_line a x ≡ shown_line b y
+told_line a b x y e f = ap (λ c. shown_line c x) e ∙ ap (λ (r : Record). shown_line b r) f
+
+pub quiet_is : (n : Parts) (os : List Loadable) (t : Script) (s : System) → Represents n os s
+    → quiet_in t n.steps (kernel_of n.mem) n.regs ≡ is_quiet t s
+unfolding is_quiet
+quiet_is n os t s r =
+    ap (λ (k : Kernel). quiet_in t n.steps k n.regs) r.kernel ∙ ap (λ (c : List ℕ). quiet_in t n.steps s.kernel c) r.context
+    ∙ ap (λ m. quiet_in t m s.kernel s.context) r.steps
+
+pub next_counted : (t : Script) (old new : Parts) (os : List Loadable) (s : System) (raised : ℕ) (pick : Option ℕ) (told : Record)
+    (c d : Counts) → Steps old new os raised pick told → raised ≡ raised_at t (old.steps + 1) → pick ≡ pick_at t (old.steps + 1)
+    → Represents old os s → IsSound s → AreCounted c d told → IsNext t s os new c d
+next_counted t old new os s raised pick told c d h e f r k counted =
+    let x : Stepped new os s (raised_at t (s.steps + 1)) (pick_at t (s.steps + 1)) told =
+        stepped_next t old new os s raised pick told h e f r k in
+    record { represents = x.represents; sound = x.sound; counted = subst (λ (y : Record). AreCounted c d y) x.shown counted }

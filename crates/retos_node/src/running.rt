@@ -103,7 +103,10 @@ fn turn<S: Sink>(
 {
     let stimulus = schedule.next(script, node.steps);
     let record = node.step(stimulus.raised, stimulus.pick, objects);
-    tell(node.show.all, &record, counts, out)
+    match tell(node.show.all, &record, counts, out) {
+        Ok(()) => Ok(()),
+        Err(fault) => Err(fault),
+    }
 }
 
 impl Node {
