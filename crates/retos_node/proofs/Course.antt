@@ -1,5 +1,5 @@
 -- How far a run has come, a step further and at its end.
-use Rattle.std.proofs.Common.{◌≡◌, ℕ, suc, zero, ◌<◌, ◌≤◌, ◌+◌, ◌-◌, Bool, true, false, cond, List, [], ◌∷◌, ◌++◌, length, map, Option, ap, ◌∙◌, sym, refl, subst, arith, append_assoc, length-append, add-one}
+use Rattle.std.proofs.Common.{◌≡◌, ℕ, suc, zero, ◌<◌, ◌≤◌, ◌+◌, ◌-◌, Bool, true, false, cond, not, List, [], ◌∷◌, ◌++◌, length, map, Option, ap, ◌∙◌, sym, refl, subst, arith, append_assoc, length-append, add-one}
 use Rattle.std.specs.List.{concat, filter, flat_map}
 use Rattle.std.proofs.lemmas.List.{append-nil}
 use Rattle.std.proofs.lemmas.List.Folds.{concat-append}
@@ -276,3 +276,11 @@ next_counted t old new os s raised pick told c d h e f r k counted =
     let x : Stepped new os s (raised_at t (s.steps + 1)) (pick_at t (s.steps + 1)) told =
         stepped_next t old new os s raised pick told h e f r k in
     record { represents = x.represents; sound = x.sound; counted = subst (λ (y : Record). AreCounted c d y) x.shown counted }
+
+pub not_true : (b : Bool) → not b ≡ true → b ≡ false
+not_true true h = cc
+not_true false h = refl
+
+pub not_false : (b : Bool) → not b ≡ false → b ≡ true
+not_false true h = refl
+not_false false h = cc

@@ -3,3 +3,4 @@ pub mod Scheduling
 pub mod Writing
 pub mod Naming
 pub mod Course
+pub mod Traced

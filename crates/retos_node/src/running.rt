@@ -1,27 +1,30 @@
 //! A run, with its lines.
 
-ghost use Rattle.std.specs.Prelude.{◌≡◌, ◌<◌, ◌≤◌, ◌+◌, ℕ, List, ◌∷◌, [], length, IfOk, IfErr, OnOk};
+ghost use Rattle.std.specs.Prelude.{◌≡◌, ◌<◌, ◌≤◌, ◌+◌, ℕ, List, ◌++◌, codes, decimal, IfOk, IfErr, OnOk};
 ghost use Rattle.edge_io.specs.Causes.{HasCause};
 ghost use Rattle.kernel_model.specs.Queues.{QueuesHold};
 ghost use Rattle.load_model.specs.Loading.{Loadable};
 ghost use Rattle.trace_model.specs.declared.scripts.Script.{Script as ScriptOf};
 ghost use Rattle.trace_model.specs.Scripts.{IsScript};
+ghost use Rattle.trace_model.specs.Texts.{end_of_line};
 ghost use Rattle.node_model.specs.Systems.{System};
 ghost use Rattle.node_model.specs.Sound.{IsSound};
-ghost use Rattle.node_model.specs.Runs.{is_quiet, next, run};
-ghost use Rattle.node_model.specs.Nodes.{most_steps, IsSoundNode, Parts, Represents, RunLaw};
-ghost use Rattle.retos_node.specs.Parts.{parts};
+ghost use Rattle.node_model.specs.Runs.{is_quiet, next, run, Run};
+ghost use Rattle.node_model.specs.Nodes.{most_steps, IsSoundNode, reason_text, IsEnd, Parts, Represents, RunLaw};
+ghost use Rattle.retos_node.specs.Parts.{parts, IsRunEnd};
 ghost use Rattle.retos_node.specs.Readiness.{IsReady};
 ghost use Rattle.retos_node.specs.Printing.{Printed, PrintedUpTo, shown_line, shown_lines};
 ghost use Rattle.retos_node.specs.Underway.{AreWithin, IsNext, HasReached, HasEnded};
 
-use crate::node::Node;
+use crate::lines::of_end;
+use crate::node::{End, Node};
 use crate::objects::ObjectList;
 use crate::printing::tell;
 use crate::quiet::is_quiet;
 use crate::schedule::Schedule;
 use edge_io::sink::Sink;
 use edge_io::whole::SinkFault;
+use line_text::line::Line;
 use trace_model::scripts::Script;
 
 /// How many values were printed, and how many faults came.
@@ -36,6 +39,34 @@ pub struct Counts {
 pub struct Ended {
     pub quiet: bool,
     pub counts: Counts,
+}
+
+impl Ended {
+    /// The line of the end, after so many steps.
+    pub(crate) fn line(&self, steps: u32) -> Line
+        ensures { result ≡ reason_text (self.now).quiet ++ decimal steps ++ codes " emits " ++ decimal (self.now).counts.emits ++ codes " faults " ++ decimal (self.now).counts.faults ++ end_of_line }
+    {
+        of_end(self.quiet, steps, self.counts.emits, self.counts.faults)
+    }
+
+    /// The end, after so many steps.
+    pub(crate) fn end(&self, steps: u32) -> End
+        ensures { (t : ScriptOf) (r : Run) → IsEnd t r (self.now).quiet steps (self.now).counts.emits (self.now).counts.faults → IsRunEnd t r result }
+    {
+        let Counts { emits, faults } = self.counts;
+        if self.quiet {
+            return End::Quiet {
+                steps,
+                emits,
+                faults,
+            };
+        }
+        End::Limit {
+            steps,
+            emits,
+            faults,
+        }
+    }
 }
 
 /// Each run from a sound system is sound.
