@@ -1,5 +1,5 @@
 -- A whole run's lines: the placement's, the records', and the end's.
-use Rattle.std.proofs.Common.{◌≡◌, ℕ, ◌≤◌, ◌+◌, Bool, List, [], ◌∷◌, ◌++◌, length, Option, Some, Result, Ok, Err, ap, ◌∙◌, sym, refl, subst, arith, append_assoc}
+use Rattle.std.proofs.Common.{◌≡◌, ℕ, ◌≤◌, ◌+◌, Bool, false, List, [], ◌∷◌, ◌++◌, length, Option, Result, Ok, Err, ap, ◌∙◌, sym, refl, subst, arith, append_assoc}
 use Rattle.std.specs.Prelude.{codes, decimal}
 use Rattle.std.specs.List.{concat}
 use Rattle.edge_io.specs.Known.{SinkState, appended, GotPrefix}
@@ -118,3 +118,13 @@ pub none_made : (n : Parts) (os : List Loadable) (limit : ℕ) (t : Script) (s :
 none_made n os limit t s e r h =
     let none : Counts = record { emits = 0; faults = 0 } in
     reached os limit t s n none (λ made. Unit {0}) (course_start os limit t s n none (λ made. Unit {0}) e r h refl refl tt)
+
+pub placement_as : (n : Parts) (os : List Loadable) (s : System) (m count : ℕ) → m ≡ count → Represents n os s
+    → placement_lines (kernel_of n.mem) n.owner m ≡ placement_lines s.kernel s.owner count
+placement_as n os s m count e r = ap (λ k. placement_lines (kernel_of n.mem) n.owner k) e ∙ placement_same n os s count r
+
+-- the line of the end
+pub end_line_as : (t : Script) (r : Run) (q : Bool) (n e f : ℕ) (line text : List ℕ) → text ≡ line
+    → line ≡ reason_text q ++ decimal n ++ codes " emits " ++ decimal e ++ codes " faults " ++ decimal f ++ end_of_line
+    → IsEnd t r q n e f → text ∷ [] ≡ end_line t r ∷ []
+end_line_as t r q n e f line text same is h = ap (λ (x : List ℕ). x ∷ []) (same ∙ is ∙ end_is t r q n e f h)
