@@ -4,3 +4,9 @@ pub mod RunnerLemmas
 pub mod TurnLemmas
 pub mod AnswerLemmas
 pub mod EntryLemmas
+pub mod Fitting
+pub mod Scheduling
+pub mod Writing
+pub mod Naming
+pub mod Course
+pub mod Traced

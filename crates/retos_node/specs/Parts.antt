@@ -7,6 +7,9 @@ use Rattle.retos_node.specs.declared.node.End.{End}
 use Rattle.retos_node.specs.declared.node.End.TheVariants.{Limit, Quiet}
 use Rattle.trace_model.specs.declared.scripts.Script.{Script}
 use Rattle.edge_io.specs.Known.{SinkState, appended, GotPrefix}
+use Rattle.std.specs.List.{concat}
+use Rattle.edge_io.specs.declared.whole.SinkFault.{SinkFault}
+use Rattle.retos_node.specs.Printing.{Writes, CutWrites, trace_lines}
 use Rattle.node_model.specs.Systems.{System}
 use Rattle.node_model.specs.Runs.{Run, run}
 use Rattle.node_model.specs.Sound.{IsSound}
@@ -35,3 +38,15 @@ RunsTo old new os limit t o0 o1 end = (s : System) → Represents (parts old) os
 abbrev pub RunsUpTo : (old new : Node) → List Loadable → (limit : ℕ) → Script → (o0 o1 : SinkState) → Type 0
 RunsUpTo old new os limit t o0 o1 = (s : System) → Represents (parts old) os s → IsSound s
     → RanUpTo (parts new) os limit t s × GotPrefix o0.bytes o1.bytes (trace_text old.show.all false (length os) t s (run limit t s))
+
+-- each line was written whole by a write of its own, up to the one that a fault of the sink cut
+abbrev pub GoBy : {S E : Type 0} → (S → List ℕ → Result ℕ E → S → Type 0) → (o0 o1 : S) → List (List ℕ) → Result End SinkFault → Type 0
+GoBy called o0 o1 lines (Ok end) = Writes called o0 lines o1
+GoBy called o0 o1 lines (Err fault) = CutWrites called o0 o1 lines fault
+
+-- these lines are the text
+abbrev pub GoesByLines : {S E : Type 0} → (S → List ℕ → Result ℕ E → S → Type 0) → (old : Node) → List Loadable → (limit : ℕ) → Script
+    → (o0 o1 : S) → Result End SinkFault → Type 0
+GoesByLines called old os limit t o0 o1 result = (s : System) → Represents (parts old) os s → IsSound s
+    → (concat (trace_lines old.show.all (length os) t s (run limit t s)) ≡ trace_text old.show.all false (length os) t s (run limit t s))
+    × GoBy called o0 o1 (trace_lines old.show.all (length os) t s (run limit t s)) result

@@ -8,11 +8,16 @@
 
 mod calls;
 mod entries;
+mod lines;
 mod locks;
 mod modules;
 pub mod node;
 pub mod objects;
+mod printing;
+mod quiet;
 mod routines;
+mod running;
+mod schedule;
 mod step_laws;
 mod stepping;
 mod turns;

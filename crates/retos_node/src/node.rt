@@ -5,12 +5,14 @@ ghost use Rattle.edge_io.specs.Causes.{HasCause};
 ghost use Rattle.node_model.specs.Booting.{booted};
 ghost use Rattle.node_model.specs.Nodes.{most_steps, IsSoundNode, Boots, Steps};
 ghost use Rattle.trace_model.specs.Scripts.{IsScript};
-ghost use Rattle.retos_node.specs.Parts.{parts, IsBootFault, RunsTo, RunsUpTo};
+ghost use Rattle.retos_node.specs.Parts.{parts, IsBootFault, GoesByLines, RunsTo, RunsUpTo};
 
 use crate::objects::ObjectList;
 use crate::step_laws::step_law;
 use crate::stepping;
 use crate::turns::Moment;
+use crate::printing::{print_line, print_placement};
+use crate::running::{run_law, run_steps};
 use edge_io::sink::Sink;
 use edge_io::whole::SinkFault;
 use flat_mem::FlatMem;
@@ -105,11 +107,20 @@ impl Node {
         ensures prefix { OnErr result (RunsUpTo self.old self.new objects.now limit script.now (S.state out.old) (S.state out.new)) }
         ensures cause { HasCause (S.state out.old).faults (S.state out.new).faults result }
         ensures sound { IsSoundNode (parts self.new) objects.now }
+        ensures lines { GoesByLines S.called self.old objects.now limit script.now out.old out.new result }
     {
-        let _ = script;
-        let _ = limit;
-        let _ = objects;
-        let _ = out;
-        Err(SinkFault::Failed)
+        run_law();
+        match print_placement(&self.mem, &self.owner, objects.len(), out) {
+            Ok(()) => {}
+            Err(fault) => return Err(fault),
+        }
+        let ended = match run_steps(self, script, limit, objects, out) {
+            Ok(ended) => ended,
+            Err(fault) => return Err(fault),
+        };
+        match print_line(ended.line(self.steps).as_slice(), out) {
+            Ok(()) => Ok(ended.end(self.steps)),
+            Err(fault) => Err(fault),
+        }
     }
 }

@@ -1,0 +1,13 @@
+use Rattle.std.proofs.Common.{◌≡◌, ◌-◌, length}
+use Rattle.retos_node.specs.Readiness.{AreTaken, AreAhead}
+use Rattle.retos_node.proofs.schedule.at_lines.Given as goal
+
+abbrev pub invariant-loop-lines : goal.invariant-loop-lines
+invariant-loop-lines l = record {
+  taken : AreTaken l.script.ats l.step l.lines;
+  ahead : AreAhead l.script.ats l.lines.place l.step;
+  due : l.lines.due ≡ 4294967295;
+}
+
+abbrev pub decreases-loop-lines : goal.decreases-loop-lines
+decreases-loop-lines l = length l.script.ats - l.lines.place
