@@ -1,5 +1,8 @@
 -- How many words and relocations blocks have.
-use Rattle.std.proofs.Common.{◌≡◌, ℕ, ◌+◌, ◌*◌, ◌≤◌, List, [], ◌∷◌, ◌++◌, length, Option, None, Some, arith, length-append}
+use Rattle.std.proofs.Common.{◌≡◌, ℕ, ◌+◌, ◌*◌, ◌≤◌, List, [], ◌∷◌, ◌++◌, length, Option, None, Some, ◌∙◌, sym, ap, arith, length-append}
+use Rattle.std.proofs.lemmas.List.{append_assoc}
+use Rattle.std.proofs.lemmas.List.Concat.{flat_map-append}
+use Rattle.code_model.specs.declared.parts.Reloc.{Reloc}
 use Rattle.std.proofs.lemmas.List.FromFn.{length-map-range_with_len}
 use Rattle.code_model.specs.declared.parts.RelKind.{RelKind}
 use Rattle.gen_model.specs.declared.block.Block.{Block}
@@ -63,3 +66,19 @@ blocks_many n =
       length-map-range_with_len (setting n) 0 6,
       length-map-range_with_len (drawn n) 0 450,
     )
+
+-- ---- blocks behind others
+
+pub code_append : (xs ys : List Block) → code_of (xs ++ ys) ≡ code_of xs ++ code_of ys
+unfolding code_of
+code_append xs ys = flat_map-append words xs ys
+
+pub relocs_append : (at : ℕ) (xs ys : List Block) → relocs_from at (xs ++ ys) ≡ relocs_from at xs ++ relocs_from (at + length (code_of xs)) ys
+unfolding relocs_from code_of
+relocs_append at [] ys =
+    let e : at + 0 ≡ at = omega arith in
+    ap (λ (x : ℕ). relocs_from x ys) (sym e)
+relocs_append at (x ∷ xs) ys =
+    let e : (at + length (words x)) + length (code_of xs) ≡ at + length (code_of (x ∷ xs)) = omega (arith, code_next x xs) in
+    ap (λ (rs : List Reloc). relocs_at at x ++ rs) (relocs_append (at + length (words x)) xs ys ∙ ap (λ (k : ℕ). relocs_from (at + length (words x)) xs ++ relocs_from k ys) e)
+    ∙ sym (append_assoc (relocs_at at x) (relocs_from (at + length (words x)) xs) (relocs_from (at + length (code_of (x ∷ xs))) ys))
