@@ -1,0 +1,4 @@
+pub mod Suiting
+pub mod Words
+pub mod SecondWords
+pub mod CleanLines
