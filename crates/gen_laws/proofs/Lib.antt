@@ -2,3 +2,5 @@ pub mod Suiting
 pub mod Words
 pub mod SecondWords
 pub mod CleanLines
+pub mod CleanBlocks
+pub mod MadeLines
