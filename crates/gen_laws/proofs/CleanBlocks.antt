@@ -17,7 +17,7 @@ use Rattle.insert_laws.proofs.ShapedUnits.{AllClean}
 use Rattle.gen_model.specs.declared.block.Block as blocks
 use Rattle.gen_model.specs.declared.block.Block.TheVariants as block
 use Rattle.gen_model.specs.Blocks.{words}
-use Rattle.gen_laws.specs.Instructions.{instrs, IsFree, Suits}
+use Rattle.gen_laws.specs.Instructions.{instrs, Suits}
 use Rattle.gen_laws.proofs.SecondWords.{KindsAre}
 use Rattle.gen_laws.proofs.CleanLines.{line_of, no_code_none, no_code_data, registers_clean, immediate_clean, keep_clean, store_clean, push_clean, pop_clean, halve_clean, skip_clean, emit_clean, restart_clean}
 
@@ -76,10 +76,10 @@ module _ (o : Object) where
   block_clean at (block.Keep from place) s p = (long at _ (Some Data) refl p.kinds_are.first (p.kinds_are.next (omega arith)) (keep_clean o at from place s.0 p.after.inside), tt)
   block_clean at (block.Store from place) s p = (
     long at _ (Some Data) refl p.kinds_are.first (p.kinds_are.next (omega arith))
-    (immediate_clean o at Mov place 12 (Some Data) no_code_data (record { least = omega arith; most = omega arith }) (omega (arith, p.after.inside))),
+        (immediate_clean o at Mov place 12 (Some Data) no_code_data (record { least = omega arith; most = omega arith }) (omega (arith, p.after.inside))),
     (
       long (at + 2) _ None refl (p.kinds_are.more (at + 2) (omega arith) (omega arith)) (p.kinds_are.more (at + 2 + 1) (omega arith) (omega arith))
-      (store_clean o (at + 2) from s (omega (arith, p.after.inside))),
+          (store_clean o (at + 2) from s (omega (arith, p.after.inside))),
       tt,
     ),
   )
@@ -96,7 +96,7 @@ module _ (o : Object) where
     short at _ refl p.kinds_are.first (registers_clean o at Mov from 12 s (record { least = omega arith; most = omega arith }) (omega (arith, p.after.inside))),
     (
       long (at + 1) _ None refl (p.kinds_are.next (omega arith)) (p.kinds_are.more (at + 1 + 1) (omega arith) (omega arith))
-      (emit_clean o (at + 1) p.app (omega (arith, p.after.inside))),
+          (emit_clean o (at + 1) p.app (omega (arith, p.after.inside))),
       tt,
     ),
   )

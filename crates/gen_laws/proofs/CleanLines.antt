@@ -1,5 +1,5 @@
 -- Nothing is wrong with a line of a generated object, by the form of its instruction.
-use Rattle.std.proofs.Common.{◌≡◌, ℕ, ◌+◌, ◌*◌, ◌≤◌, ◌<◌, ◌⊎◌, inl, inr, List, [], ◌∷◌, length, pos, Option, None, Some, refl, sym, subst, arith}
+use Rattle.std.proofs.Common.{◌≡◌, ℕ, ◌+◌, ◌<◌, ◌⊎◌, inl, inr, length, pos, Option, None, Some, refl, sym, subst, arith}
 use Rattle.std.proofs.lemmas.Int.{ints}
 use Rattle.msp_encode.specs.declared.instr.Op2.{Op2}
 use Rattle.msp_encode.specs.declared.instr.Op2.TheVariants.{Mov}
@@ -17,8 +17,7 @@ use Rattle.code_model.specs.declared.parts.RelKind.{RelKind}
 use Rattle.code_model.specs.declared.parts.RelKind.TheVariants.{Code, Data}
 use Rattle.code_model.specs.Starts.{Start}
 use Rattle.insert_model.specs.declared.line.Line.{Line}
-use Rattle.insert_model.specs.Words.{count}
-use Rattle.insert_model.specs.Faults.{IsStartOffset, IsJumpStart, IsSourceTarget, IsSourceCallee, IsSourceCall, IsWrongWord}
+use Rattle.insert_model.specs.Faults.{IsStartOffset, IsJumpStart, IsSourceCall, IsWrongWord}
 use Rattle.insert_laws.specs.Shapes.{IsCleanLine}
 use Rattle.gen_laws.specs.Instructions.{IsFree}
 

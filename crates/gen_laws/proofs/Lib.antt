@@ -4,3 +4,5 @@ pub mod SecondWords
 pub mod CleanLines
 pub mod CleanBlocks
 pub mod MadeLines
+pub mod Growth
+pub mod Refusing

@@ -1,5 +1,5 @@
 -- The starts and the lines of the code of blocks.
-use Rattle.std.proofs.Common.{◌≡◌, ℕ, ◌+◌, ◌*◌, ◌<◌, List, [], ◌∷◌, ◌++◌, length, drop, slice_index, refl, sym, ap, subst, ◌∙◌, append_assoc, length-append, arith}
+use Rattle.std.proofs.Common.{◌≡◌, ℕ, ◌+◌, ◌<◌, List, [], ◌∷◌, ◌++◌, length, drop, slice_index, refl, sym, ap, subst, ◌∙◌, append_assoc, length-append, arith}
 use Rattle.std.proofs.lemmas.List.{append-nil, drop_all}
 use Rattle.std.proofs.lemmas.List.Concat.{flat_map-append}
 use Rattle.kernel_model.specs.declared.kinds.Kind.TheVariants.{App}
@@ -27,7 +27,7 @@ use Rattle.gen_laws.specs.Instructions.{instrs, all_instrs, Suits, AllSuit}
 use Rattle.gen_laws.proofs.Suiting.{Closed}
 use Rattle.gen_laws.proofs.Words.{all_words, all_size, block_size, instrs_append, all_fit}
 use Rattle.gen_laws.proofs.SecondWords.{KindsAre, kinds_are}
-use Rattle.gen_laws.proofs.CleanBlocks.{lines_for, GoesOn, After, goes_on, Placed, block_clean}
+use Rattle.gen_laws.proofs.CleanBlocks.{lines_for, After, goes_on, block_clean}
 
 -- ---- lines one behind another
 
@@ -51,6 +51,13 @@ module _ (line : LineLaw) (relocs : List Reloc) where
       subst (λ (n : ℕ). lines_from relocs n 0 (drop n (words_of (a ++ i ∷ is))) ≡ lines_for relocs n is) (size_push a i)
       (subst (λ (js : List Instr). lines_from relocs (size_of (a ++ i ∷ [])) 0 (drop (size_of (a ++ i ∷ [])) (words_of js)) ≡ lines_for relocs (size_of (a ++ i ∷ [])) is) split next) in
       line relocs (words_of (a ++ i ∷ is)) (size_of a) i (count i) small (below_end a i is) st ∙ ap (λ (ls : List Line). line_at relocs (size_of a) i ∷ ls) same
+
+pub lines_apart : (relocs : List Reloc) (at : ℕ) (xs ys : List Instr) → lines_for relocs at (xs ++ ys) ≡ lines_for relocs at xs ++ lines_for relocs (at + size_of xs) ys
+unfolding size_of
+lines_apart relocs at [] ys = let e : at + 0 ≡ at = omega arith in ap (λ (n : ℕ). lines_for relocs n ys) (sym e)
+lines_apart relocs at (x ∷ xs) ys =
+    let e : (at + count x) + size_of xs ≡ at + size_of (x ∷ xs) = omega (arith, length-append (spelling x) (words_of xs), spelling_length x) in
+    ap (λ (ls : List Line). line_at relocs at x ∷ ls) (lines_apart relocs (at + count x) xs ys ∙ ap (λ (n : ℕ). lines_for relocs (at + count x) xs ++ lines_for relocs n ys) e)
 
 -- ---- an object of blocks
 
@@ -116,13 +123,6 @@ module _ (o : Object) (whole : List blocks.Block) (made : Made o whole) where
   unfolding IsStartOffset code_of
   begin [] e h = absurd h
   begin (b ∷ bs) e h = (0, block_start [] b bs e, refl)
-
-  lines_apart : (relocs : List Reloc) (at : ℕ) (xs ys : List Instr) → lines_for relocs at (xs ++ ys) ≡ lines_for relocs at xs ++ lines_for relocs (at + size_of xs) ys
-  unfolding size_of
-  lines_apart relocs at [] ys = let e : at + 0 ≡ at = omega arith in ap (λ (n : ℕ). lines_for relocs n ys) (sym e)
-  lines_apart relocs at (x ∷ xs) ys =
-      let e : (at + count x) + size_of xs ≡ at + size_of (x ∷ xs) = omega (arith, length-append (spelling x) (words_of xs), spelling_length x) in
-      ap (λ (ls : List Line). line_at relocs at x ∷ ls) (lines_apart relocs (at + count x) xs ys ∙ ap (λ (n : ℕ). lines_for relocs (at + count x) xs ++ lines_for relocs n ys) e)
 
   clean_append : (xs ys : List Line) → AllClean o xs → AllClean o ys → AllClean o (xs ++ ys)
   clean_append [] ys h k = k

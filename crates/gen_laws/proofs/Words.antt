@@ -1,5 +1,5 @@
 -- The words of blocks are those of their instructions, which are legal.
-use Rattle.std.proofs.Common.{◌≡◌, ℕ, ◌+◌, ◌*◌, List, [], ◌∷◌, ◌++◌, length, refl, sym, ap, ◌∙◌, pos, arith}
+use Rattle.std.proofs.Common.{◌≡◌, ℕ, ◌+◌, ◌*◌, List, [], ◌∷◌, ◌++◌, length, refl, sym, ap, ◌∙◌, arith}
 use Rattle.std.proofs.lemmas.Int.{ints}
 use Rattle.std.proofs.lemmas.List.Concat.{flat_map-append}
 use Rattle.msp_encode.specs.declared.instr.Instr.{Instr}
@@ -10,7 +10,7 @@ use Rattle.gen_model.specs.declared.block.Block.{Block}
 use Rattle.gen_model.specs.declared.block.Block.TheVariants.{Set, Add, Xor, Keep, Store, Pass, Halve, Skip, Emit, Restart}
 use Rattle.gen_model.specs.Blocks.{words}
 use Rattle.gen_model.specs.Generated.{code_of}
-use Rattle.gen_laws.specs.Instructions.{instrs, all_instrs, IsFree, Suits, AllSuit}
+use Rattle.gen_laws.specs.Instructions.{instrs, all_instrs, Suits, AllSuit}
 
 -- ---- words
 

@@ -7,14 +7,13 @@
 ghost use Rattle.gen_laws.specs.Laws.{NeverRefused, StaysSmall};
 
 use code_laws::one_stands;
-use insert_model::laws::{instruction_size, line_stands};
+use insert_model::laws::line_stands;
 
 /// Nothing is wrong with a generated object: the inserter never refuses it.
 pub fn never_refused()
     ensures { NeverRefused }
 {
     one_stands();
-    instruction_size();
     line_stands();
 }
 
@@ -22,6 +21,5 @@ pub fn never_refused()
 pub fn stays_small()
     ensures { StaysSmall }
 {
-    instruction_size();
     line_stands();
 }
