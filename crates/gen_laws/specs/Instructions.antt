@@ -17,7 +17,8 @@ instrs (Set to value) = instr.Two op.Mov Wide (src.Immediate value) (dst.Reg to)
 instrs (Add from to) = instr.Two op.Add Wide (src.Reg from) (dst.Reg to) ∷ []
 instrs (Xor from to) = instr.Two op.Xor Wide (src.Reg from) (dst.Reg to) ∷ []
 instrs (Keep from place) = instr.Two op.Mov Wide (src.Reg from) (dst.Absolute place) ∷ []
-instrs (Store from place) = instr.Two op.Mov Wide (src.Immediate place) (dst.Reg 12) ∷ instr.Two op.Mov Wide (src.Reg from) (dst.Indexed 12 0) ∷ []
+instrs (Store from place) =
+    instr.Two op.Mov Wide (src.Immediate place) (dst.Reg 12) ∷ instr.Two op.Mov Wide (src.Reg from) (dst.Indexed 12 0) ∷ []
 instrs (Pass from to) = instr.One Push Wide (src.Reg from) ∷ instr.Two op.Mov Wide (src.AutoInc 1) (dst.Reg to) ∷ []
 instrs (Halve to) = instr.One Rra Wide (src.Reg to) ∷ []
 instrs (Skip from to) = instr.Jump Ne (pos 1) ∷ instr.Two op.Mov Wide (src.Reg from) (dst.Reg to) ∷ []

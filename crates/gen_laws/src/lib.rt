@@ -1,7 +1,7 @@
 //! Laws of generated objects, for the layers above: each is used by calling it.
 //!
-//! `specs/Laws.antt` states them: the inserter never refuses the source object of a number, and what it makes of it has at most 7,664
-//! words. `specs/Instructions.antt` has the instructions of each block.
+//! `specs/Laws.antt` states them: the inserter never refuses the source object of a number, and what it makes of it has at
+//! most 7,664 words. `specs/Instructions.antt` has the instructions of each block.
 #![tactic(auto)]
 
 ghost use Rattle.gen_laws.specs.Laws.{NeverRefused, StaysSmall};

@@ -31,10 +31,14 @@ second (Skip from to) = None
 second (Emit from) = None
 second Restart = Some Code
 
+-- a relocation of the code word at a place
+abbrev pub of_word : (at : ℕ) → RelKind → Reloc
+of_word at k = record { in_code = true; kind = k; offset = 2 * at }
+
 -- the relocations of a block that stands at a place, the number of its first word
 abbrev pub second_at : (at : ℕ) → Option RelKind → List Reloc
 second_at at None = []
-second_at at (Some k) = record { in_code = true; kind = k; offset = 2 * (at + 1) } ∷ []
+second_at at (Some k) = of_word (at + 1) k ∷ []
 
 abbrev pub relocs_at : (at : ℕ) → Block → List Reloc
 relocs_at at b = second_at at (second b)

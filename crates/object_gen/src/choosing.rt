@@ -52,7 +52,9 @@ pub(crate) fn choose(a: u16, b: u16, c: u16) -> Block
 /// The next block.
 pub(crate) fn next_block(draws: &mut Draws) -> Block
     ensures state { draws.new.x ≡ stepped (stepped (stepped draws.old.x)) }
-    ensures is { result ≡ chosen (stepped draws.old.x / 65536) (stepped (stepped draws.old.x) / 65536) (stepped (stepped (stepped draws.old.x)) / 65536) }
+    ensures is { result ≡ chosen (stepped draws.old.x / 65536)
+        (stepped (stepped draws.old.x) / 65536)
+        (stepped (stepped (stepped draws.old.x)) / 65536) }
     ensures fits { Fits result }
 {
     let a = draws.next();

@@ -28,6 +28,12 @@ const WORDS_MOST: usize = 1814;
 /// The most relocations.
 const RELOCS_MOST: usize = 451;
 
+/// The bytes of its static part, all zeroed.
+const ZEROED_BYTES: u16 = 64;
+
+/// The bytes of its stack.
+const STACK_BYTES: u16 = 256;
+
 /// Sets R6 to R11 to draws.
 fn put_settings(source: &mut Source, draws: &mut Draws) -> Result<(), AllocError>
     requires no_code { source.old.code ≡ [] }
@@ -77,8 +83,8 @@ pub fn generate(alloc: Global, n: u32) -> Result<Object, AllocError>
         version: 1,
         code: source.code,
         init: Bytes::new(alloc),
-        zeroed: 64,
-        stack: 256,
+        zeroed: ZEROED_BYTES,
+        stack: STACK_BYTES,
         threads: 1,
         entry: 0,
         relocs: source.relocs,

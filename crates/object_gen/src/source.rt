@@ -1,13 +1,16 @@
 //! The code so far.
 
-ghost use Rattle.std.specs.Prelude.{◌≡◌, ◌+◌, ◌*◌, ◌<◌, ◌≤◌, [], ◌∷◌, ◌++◌, length, true, IfOk, OnOk};
-ghost use Rattle.gen_model.specs.Blocks.{words, relocs_at};
+ghost use Rattle.std.specs.Prelude.{◌≡◌, ◌<◌, ◌≤◌, [], ◌∷◌, ◌++◌, length, IfOk, OnOk};
+ghost use Rattle.gen_model.specs.Blocks.{words, of_word, relocs_at};
 ghost use Rattle.object_gen.specs.Given.{Fits};
 
 use code_model::lists::{CodeWords, Relocs};
 use code_model::parts::{RelKind, Reloc};
 use gen_model::block::Block;
 use std::alloc::{AllocError, Global};
+
+/// The kernel's entry `emit`, which an application calls with a number in R12.
+const EMIT: u16 = 0xF024;
 
 /// Code words and their relocations.
 #[derive(Drop)]
@@ -44,7 +47,7 @@ impl Source {
     fn relocated(&mut self, kind: RelKind, word: u16) -> Result<(), AllocError>
         requires { length self.old.code < 8192 }
         ensures code { OnOk result (self.new.code ≡ self.old.code ++ word ∷ []) }
-        ensures relocs { OnOk result (self.new.relocs ≡ self.old.relocs ++ record { in_code = true; kind = kind; offset = 2 * length self.old.code } ∷ []) }
+        ensures relocs { OnOk result (self.new.relocs ≡ self.old.relocs ++ of_word (length self.old.code) kind ∷ []) }
     {
         let offset = 2 * self.code.len() as u16;
         self.relocs.push(Reloc {
@@ -91,7 +94,7 @@ impl Source {
             Block::Emit { from } => {
                 self.word(0x400C + 256 * from as u16)?;
                 self.word(0x12B0)?;
-                self.word(0xF024)
+                self.word(EMIT)
             }
             Block::Restart => {
                 self.word(0x4030)?;
