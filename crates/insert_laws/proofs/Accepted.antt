@@ -1,5 +1,5 @@
 -- An object with guards is accepted: whether a unit starts at a place is known, since each of its starts is a piece's.
-use Rattle.std.proofs.Common.{◌≡◌, ℕ, ◌+◌, ◌*◌, ◌<◌, ◌≤◌, ◌⊎◌, inl, inr, List, [], ◌∷◌, ◌++◌, length, refl, sym, subst, ap, ◌∙◌, arith}
+use Rattle.std.proofs.Common.{◌≡◌, ℕ, ◌+◌, ◌*◌, ◌<◌, ◌≤◌, ◌⊎◌, inl, inr, List, [], ◌∷◌, ◌++◌, length, sym, subst, ap, ◌∙◌, arith}
 use Rattle.std.proofs.lemmas.List.{append-nil}
 use Rattle.msp_encode.specs.Laws.{LegalByCases}
 use Rattle.msp_decode.specs.Function.{ReadingLaw}
@@ -20,7 +20,7 @@ use Rattle.insert_laws.specs.Laws.{PiecesStand, NothingRefused, IsAcceptable, In
 use Rattle.insert_laws.specs.Shapes.{IsGuard, IsServed, Shaped, IsFreeForm}
 use Rattle.insert_laws.proofs.GuardWords.{guard_length}
 use Rattle.insert_laws.proofs.Guarding.{span, span_append, span_cons, piece_least, size_span}
-use Rattle.insert_laws.proofs.UnitStarts.{served_guarded, unit_start, starts_at}
+use Rattle.insert_laws.proofs.UnitStarts.{served_guarded, unit_start}
 use Rattle.insert_laws.proofs.Roles.{Role, IsFree, IsOwn, Serves, role_of}
 use Rattle.insert_laws.proofs.Placed.{pieces_stand}
 use Rattle.insert_laws.proofs.FormRules.{free_standing, words_are, shaped}

@@ -1,4 +1,3 @@
-use Rattle.code_model.specs.declared.object.Object.{Object}
 use Rattle.insert_laws.specs.Laws.{IsAcceptable}
 use Rattle.placed_unit_laws.specs.Ends.{UnitsEnd, CallsPush, UnitsStand, SourcesHide}
 use Rattle.check_inserter.proofs.Answering.{of_answer, one_answer}
