@@ -1,5 +1,6 @@
 -- An object has one answer.
 use Rattle.std.proofs.Common.{◌≡◌, ◌≢◌, ℕ, ◌*◌, ◌≤◌, ◌<◌, List, [], ◌∷◌, ◌++◌, ◌⊎◌, inl, inr, length, Result, Ok, Err, refl, sym, ap, ◌∙◌, arith}
+use Rattle.std.specs.Prelude.{IfOk}
 use Rattle.std.proofs.lemmas.List.{append_assoc, length-append}
 use Rattle.code_model.specs.declared.object.Object.{Object}
 use Rattle.object_form.specs.Spelling.{text_of, object_bytes}
@@ -160,6 +161,12 @@ not_inserted o q k x i (IsHit g) = i.clean k x g.first.hit
 not_inserted o q k x i (IsBig e b) = not_both o q x i b.passes
 
 -- ---- answers
+
+-- what holds of the object with guards holds of the one that is answered
+pub of_answer : (o : Object) (P : Object → Type 0) → ((q : Object) → IsInserted o q → P q) → (r : Result Object InsertFault) → IsAnswer o r → IfOk r P
+of_answer o P holds (Ok q) is = holds q is
+of_answer o P holds (Err (At k x)) is = tt
+of_answer o P holds (Err Memory) is = tt
 
 same_bytes : (p q : Object) → fields p ≡ fields q → object_bytes p ≡ object_bytes q
 unfolding object_bytes

@@ -8,6 +8,8 @@ ghost use Rattle.insert_model.specs.declared.fault.InsertFault.{InsertFault};
 ghost use Rattle.insert_model.specs.Faults.{NoHit, IsAnswer, SameAnswer};
 ghost use Rattle.code_model.specs.Fields.{fields};
 ghost use Rattle.insert_model.specs.Source.{lines};
+ghost use Rattle.insert_laws.specs.Laws.{IsAcceptable};
+ghost use Rattle.placed_unit_laws.specs.Ends.{UnitsEnd, CallsPush, UnitsStand, SourcesHide};
 ghost use Rattle.check_inserter.specs.Read.{IsSource};
 ghost use Rattle.check_inserter.specs.Places.{IsLaid};
 
@@ -18,23 +20,40 @@ use crate::source::read_lines;
 use crate::starts::starts;
 use code_laws::one_verdict;
 use code_model::object::Object;
-use insert_laws::verdict_accepts;
+use insert_laws::{inserted_is_accepted, verdict_accepts};
 use insert_model::fault::InsertFault;
 use insert_model::line::Line;
 use object_form::laws::one_object_has_a_text;
+use placed_unit_laws::{call_pushes, source_place_hidden, unit_ends, unit_stands};
 use std::alloc::Global;
 
 /// The object with guards for an object without, or the first fault of the source object: where an instruction isn't spelled
 /// that alone, else the least offset and there the least kind, and only where nothing else is wrong that it would be too
-/// large. `Memory` may come at any time. The checker accepts the object: each verdict on it is an acceptance.
+/// large. `Memory` may come at any time.
+///
+/// The object is accepted: there are unit starts with which the definition accepts it, and each verdict on it is an acceptance. Wherever
+/// it is placed, the words of the unit of each source instruction stand where the place map says. From any context there the unit's
+/// run, without an interrupt, ends in one of three ways: at the next unit, the target's or a named entry, with all but R4 and R5 as
+/// the source instruction leaves it; at the entry that takes a return, a computed jump or a computed call over; or, exactly where its
+/// check fails, at the entry for that, with nothing written. A call pushes the address of the next unit.
 pub fn insert(alloc: Global, o: &Object) -> Result<Object, InsertFault>
     ensures right { IsAnswer o.now result }
     ensures only { (answer : Result Object InsertFault) → IsAnswer o.now answer → SameAnswer result answer }
-    ensures accepted { IfOk result (λ q. (v : Verdict) → IsVerdict q v → IsAcceptance v) }
+    ensures accepted { IfOk result (λ q. IsAcceptable q) }
+    ensures verdicts { IfOk result (λ q. (v : Verdict) → IsVerdict q v → IsAcceptance v) }
+    ensures units { IfOk result (λ q. UnitsEnd o.now q) }
+    ensures pushes { IfOk result (λ q. CallsPush o.now q) }
+    ensures stand { IfOk result (λ q. UnitsStand o.now q) }
+    ensures anywhere { IfOk result (λ q. SourcesHide o.now q) }
 {
     one_verdict();
     one_object_has_a_text();
+    inserted_is_accepted();
     verdict_accepts();
+    unit_ends();
+    call_pushes();
+    unit_stands();
+    source_place_hidden();
     inserted(alloc, o)
 }
 

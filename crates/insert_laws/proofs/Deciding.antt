@@ -8,7 +8,7 @@ use Rattle.code_model.specs.Verdicts.{AllSpelled}
 use Rattle.code_laws.specs.Laws.{NextStart, StartsApart}
 use Rattle.insert_laws.specs.Source.{StartsDecided}
 
-abbrev Decided : List ℕ → ℕ → Type 0
+abbrev pub Decided : List ℕ → ℕ → Type 0
 Decided code t = Start code t ⊎ (Start code t → ⊥)
 
 -- an instruction has a word at least
@@ -44,7 +44,7 @@ module _ (next : NextStart) (apart : StartsApart) (o : Object) (spelled : AllSpe
     | inr same ↦ let e : from ≡ t = omega arith in inl (subst (Start o.code) e f)
   ]
 
-  decided : Decided o.code t
+  pub decided : Decided o.code t
   decided = elim (cases_lt 0 (length o.code)) [
     | inl some ↦ walk t 0 (record { count = 0; reached = refl; below = some }) (omega arith) (omega arith)
     | inr none ↦ inr (λ h. let below : t < length o.code = h.below in omega arith)

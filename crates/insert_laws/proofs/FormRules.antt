@@ -183,7 +183,7 @@ module _ (one : OneStands) (reads : ReadingLaw) (legal : LegalByCases) (unique :
     where
       by : (x : List Piece) (p : Piece) (z : List Piece) → Role IsFreeForm (pieces (fields o)) x p z → IsReti p.instr → ⊥
       by x p z (IsFree f s) r = f.no_reti r
-      by x p z (IsOwn a g u y s b is h e ex) r = member_reti u p y (own_reti g (u ++ p ∷ y) is) r
+      by x p z (IsOwn a g u y s b front is h e ex) r = member_reti u p y (own_reti g (u ++ p ∷ y) is) r
       by x p z (Serves a g gs s is h e ex) r = served_reti g p.destination p.instr (form_of g p h) r
 
   on_role : (at : ℕ) (j : Instr) (n : ℕ) → Start q.code at → Stands q.code at j n → (Own q at → ⊥) → (P : Type 0)
@@ -194,7 +194,7 @@ module _ (one : OneStands) (reads : ReadingLaw) (legal : LegalByCases) (unique :
     where
       by : (x : List Piece) (p : Piece) (z : List Piece) → Role IsFreeForm (pieces (fields o)) x p z → at ≡ span x → j ≡ standing (place_map (fields o)) p → P
       by x p z (IsFree f s) place same = free p same f
-      by x p z (IsOwn a g u y s b is h e ex) place same = absurd (own (own_at at x p a g u y s b is h e ex place))
+      by x p z (IsOwn a g u y s b front is h e ex) place same = absurd (own (own_at at x p a g u y s b is h e ex place))
       by x p z (Serves a g gs s is h e ex) place same = served p same g h (served_at at x p z a g gs is h e ex place)
 
   no_pc : (at : ℕ) → (Own q at → ⊥) → BreaksAt rule.Pc q at → ⊥
@@ -240,7 +240,7 @@ module _ (one : OneStands) (reads : ReadingLaw) (legal : LegalByCases) (unique :
       by : (x : List Piece) (p : Piece) (z : List Piece) → Role IsFreeForm (pieces (fields o)) x p z → pieces (fields o) ≡ x ++ p ∷ z → at ≡ span x → b.instr ≡ standing (place_map (fields o)) p → ⊥
       by x p z (IsFree f s) are place same =
           f.sr (reg_back (place_map (fields o)) p 2 (subst (λ (j : Instr). WritesReg j 2) same b.breaks.0)) (λ c. b.breaks.1 (subst (code.ChangesFlags q at) (sym same) (flags_on at x p z are place c)))
-      by x p z (IsOwn a g u y s b' is h e ex) are place same = own (own_at at x p a g u y s b' is h e ex place)
+      by x p z (IsOwn a g u y s b' front is h e ex) are place same = own (own_at at x p a g u y s b' is h e ex place)
       by x p z (Serves a g gs s is h e ex) are place same =
           let r = served_reg g p.destination p.instr 2 (omega arith) (form_of g p h) (reg_back (place_map (fields o)) p 2 (subst (λ (j : Instr). WritesReg j 2) same b.breaks.0)) in omega (arith, r.1)
 

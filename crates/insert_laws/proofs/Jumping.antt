@@ -227,7 +227,7 @@ module _ (one : OneStands) (reads : ReadingLaw) (legal : LegalByCases) (unique :
   of_role at x p z c k (IsFree f s) e place own' same =
       let w : LineOf bytes (lines (fields o)) x p z = line_of bytes (lines (fields o)) x p z e in
       on_line at c k w.front w.line w.back w.less w.more p w.are w.unit_is (place ∙ ap span w.earlier) same (f.jumps c k same)
-  of_role at x p z c k (IsOwn a g u y s b is h e' ex) e place own' same = absurd (own' (own_at one reads legal unique decides o q i at x p a g u y s b is h e' ex place))
+  of_role at x p z c k (IsOwn a g u y s b front is h e' ex) e place own' same = absurd (own' (own_at one reads legal unique decides o q i at x p a g u y s b is h e' ex place))
   of_role at x p z c k (Serves a g gs s is h e' ex) e place own' same = absurd (served_jump g p c k same h)
 
   by_form : (at : ℕ) (go : ℕ → ℕ) (j : Instr) (r s : Option RelKind) → ((c : Cond) (k : ℤ) → j ≡ instr.Jump c k → IsJumpTarget q at k) → JumpsAstray q at (moved_instr go r s j) → ⊥

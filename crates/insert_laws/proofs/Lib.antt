@@ -23,5 +23,7 @@ pub mod Ending
 pub mod Jumping
 pub mod Accepting
 pub mod Deciding
+pub mod Bitmaps
+pub mod Accepted
 pub mod LineUnits
 pub mod PlaceBounds

@@ -32,7 +32,7 @@ no_cut (n ∷ x) r z e = cc
 
 pub data Role (F : Piece → Type 0) (xs x : List Piece) (r : Piece) (z : List Piece) : Type 0 where
   IsFree : F r → Shaped F x → Role F xs x r z
-  IsOwn : (a : List Piece) (g : GuardKind) (u y : List Piece) (p : Piece) (b : List Piece) → IsGuard g (u ++ r ∷ y) → IsServed g p → xs ≡ a ++ ((u ++ r ∷ y) ++ p ∷ b) → x ≡ a ++ u → Role F xs x r z
+  IsOwn : (a : List Piece) (g : GuardKind) (u y : List Piece) (p : Piece) (b : List Piece) → Shaped F a → IsGuard g (u ++ r ∷ y) → IsServed g p → xs ≡ a ++ ((u ++ r ∷ y) ++ p ∷ b) → x ≡ a ++ u → Role F xs x r z
   Serves : (a : List Piece) (g : GuardKind) (gs : List Piece) → Shaped F a → IsGuard g gs → IsServed g r → xs ≡ a ++ (gs ++ r ∷ z) → x ≡ a ++ gs → Role F xs x r z
 
 -- where a cut of a guard with what it guards lies
@@ -55,8 +55,8 @@ lies (m ∷ gs) p ps (n ∷ x) r z e =
 
 role_after : (F : Piece → Type 0) (front xs x : List Piece) (r : Piece) (z : List Piece) → ((ys : List Piece) → Shaped F ys → Shaped F (front ++ ys)) → Role F xs x r z → Role F (front ++ xs) (front ++ x) r z
 role_after F front xs x r z on (IsFree f s) = IsFree f (on x s)
-role_after F front xs x r z on (IsOwn a g u y p b is h e ex) =
-    IsOwn (front ++ a) g u y p b is h (ap (λ (ys : List Piece). front ++ ys) e ∙ sym (append_assoc front a ((u ++ r ∷ y) ++ p ∷ b))) (ap (λ (ys : List Piece). front ++ ys) ex ∙ sym (append_assoc front a u))
+role_after F front xs x r z on (IsOwn a g u y p b s is h e ex) =
+    IsOwn (front ++ a) g u y p b (on a s) is h (ap (λ (ys : List Piece). front ++ ys) e ∙ sym (append_assoc front a ((u ++ r ∷ y) ++ p ∷ b))) (ap (λ (ys : List Piece). front ++ ys) ex ∙ sym (append_assoc front a u))
 role_after F front xs x r z on (Serves a g gs s is h e ex) =
     Serves (front ++ a) g gs (on a s) is h (ap (λ (ys : List Piece). front ++ ys) e ∙ sym (append_assoc front a (gs ++ r ∷ z))) (ap (λ (ys : List Piece). front ++ ys) ex ∙ sym (append_assoc front a gs))
 
@@ -76,7 +76,7 @@ role_of F xs x r z (Guards _ g gs p ps are is h rest) e = by (lies gs p ps x r z
     on ys s = Guards ((gs ++ p ∷ []) ++ ys) g gs p ys (append_assoc gs (p ∷ []) ys) is h s
 
     by : Lies gs p ps x r z → ((more : List Piece) → ps ≡ more ++ r ∷ z → Role F ps more r z) → Role F xs x r z
-    by (Inside y f) later = IsOwn [] g x y p ps (subst (IsGuard g) f is) h (are ∙ ap (λ (ys : List Piece). ys ++ p ∷ ps) f) refl
+    by (Inside y f) later = IsOwn [] g x y p ps (Ends [] refl) (subst (IsGuard g) f is) h (are ∙ ap (λ (ys : List Piece). ys ++ p ∷ ps) f) refl
     by (Behind f s t) later = Serves [] g gs (Ends [] refl) is (subst (IsServed g) (sym s) h) (are ∙ (λ j. gs ++ sym s j ∷ sym t j)) f
     by (After more f t) later =
         let front : x ≡ (gs ++ p ∷ []) ++ more = f ∙ sym (append_assoc gs (p ∷ []) more) in

@@ -8,7 +8,7 @@ use Rattle.code_model.specs.declared.rules.Rule.TheVariants as rule
 use Rattle.code_model.specs.Guards.{UnitStart}
 use Rattle.code_model.specs.Rules.{Refuses}
 use Rattle.code_model.specs.declared.verdict.Verdict.{Verdict}
-use Rattle.code_model.specs.Verdicts.{AllSpelled, IsVerdict, IsAcceptance}
+use Rattle.code_model.specs.Verdicts.{AllSpelled, IsAccepted, IsVerdict, IsAcceptance}
 use Rattle.code_model.specs.declared.parts.RelKind.{RelKind}
 use Rattle.code_model.specs.Relocs.{HasReloc, Unrelocated}
 use Rattle.insert_model.specs.declared.piece.Word.{Word}
@@ -101,3 +101,11 @@ NothingRefused = (o q : Object) → IsInserted o q → (at : ℕ) (r : Rule) →
 -- so each verdict of it is an acceptance
 abbrev pub VerdictAccepts : Type 0
 VerdictAccepts = (o q : Object) → IsInserted o q → (v : Verdict) → IsVerdict q v → IsAcceptance v
+
+-- the definition accepts an object, with some unit starts
+abbrev pub IsAcceptable : Object → Type 0
+IsAcceptable q = (units : List ℕ) × IsAccepted q units
+
+-- so it does each object with guards
+abbrev pub InsertedIsAccepted : Type 0
+InsertedIsAccepted = (o q : Object) → IsInserted o q → IsAcceptable q

@@ -1,7 +1,7 @@
 //! Laws of objects with guards, for the layers above: each is used by calling it.
 #![tactic(auto)]
 
-ghost use Rattle.insert_laws.specs.Laws.{StartsArePieces, RelocsArePieces, FormRulesPass, StartsAreUnits, EntryRulePasses, TargetRulePasses, EndRulePasses, JumpRulePasses, NothingRefused, VerdictAccepts};
+ghost use Rattle.insert_laws.specs.Laws.{StartsArePieces, RelocsArePieces, FormRulesPass, StartsAreUnits, EntryRulePasses, TargetRulePasses, EndRulePasses, JumpRulePasses, NothingRefused, VerdictAccepts, InsertedIsAccepted};
 ghost use Rattle.insert_laws.specs.Source.{SpellingLaw, StartsDecided};
 ghost use Rattle.insert_laws.specs.Lines.{CodeIsPieces, LinesAreClean, LinesHaveUnits, PlacesWithin};
 
@@ -106,6 +106,21 @@ pub fn nothing_refused()
 pub fn verdict_accepts()
     ensures { VerdictAccepts }
 {
+    nothing_refused();
+}
+
+/// The definition accepts each object with guards: nothing is refused, and whether a unit starts at a place is known, so there are unit
+/// starts with which it is accepted.
+pub fn inserted_is_accepted()
+    ensures { InsertedIsAccepted }
+{
+    one_stands();
+    reading_law();
+    legal_by_cases();
+    one_instruction();
+    first_word_decides();
+    next_start();
+    starts_apart();
     nothing_refused();
 }
 

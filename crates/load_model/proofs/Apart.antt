@@ -1,12 +1,10 @@
 -- Marks, code and region stand beside the tables.
-use Rattle.std.proofs.Common.{◌≡◌, ℕ, ◌+◌, ◌-◌, ◌/◌, ◌%◌, ◌<◌, ◌≤◌, ◌⊎◌, List, length, get_or, sym, ap, ◌∙◌, inl, inr, arith}
+use Rattle.std.proofs.Common.{◌≡◌, ℕ, ◌+◌, ◌-◌, ◌/◌, ◌%◌, ◌<◌, ◌≤◌, ◌⊎◌, List, length, get_or, sym, ap, ◌∙◌, inr, arith}
 use Rattle.std.specs.Int.{bit_at}
 use Rattle.kernel_model.specs.Kernel.{Kernel}
-use Rattle.kernel_model.specs.Layout.{kernel_of, outside}
+use Rattle.kernel_model.specs.Layout.{outside}
 use Rattle.kernel_model.specs.Queues.{Leaves}
-use Rattle.place_model.specs.declared.places.Regions.{Regions}
 use Rattle.place_model.specs.Marking.{IsCodeWord, IsMarkBit}
-use Rattle.load_model.specs.Loading.{Loadable, Loaded}
 use Rattle.load_model.specs.Laws.{TablesFirstLaw, TablesLastLaw}
 
 abbrev pub OutsideLaw : Type 0

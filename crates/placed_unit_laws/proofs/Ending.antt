@@ -12,15 +12,16 @@ use Rattle.insert_model.specs.Units.{static_bytes, unit_of, unit}
 use Rattle.unit_laws.specs.Rows.{Halts}
 use Rattle.placed_unit_laws.specs.Placed.{unit_at, unit_behind}
 use Rattle.placed_unit_laws.specs.Checks.{Check, Unchecked, check_of, check_of_two, check_of_one, check_of_instr, Fails, entry_of, before_check, handed}
-use Rattle.placed_unit_laws.specs.Ends.{IsAtUnit, EndsBy, UnitEnds, Halted, Done, UnitStands, UnitEndsLaw, UnitStandsLaw}
+use Rattle.placed_unit_laws.specs.Ends.{EndsBy, UnitEnds, Halted, Done, UnitStands, UnitEndsLaw, UnitStandsLaw}
 use Rattle.placed_unit_laws.specs.Given.{RowLaws}
+use Rattle.placed_unit_laws.proofs.Here.{IsHere, here_of, stands_here}
 use Rattle.placed_unit_laws.proofs.Pieces.{Stands}
 use Rattle.placed_unit_laws.proofs.Results.{Row}
 use Rattle.placed_unit_laws.proofs.TwoUnits.{two-row}
 use Rattle.placed_unit_laws.proofs.Calls.{one-row}
 use Rattle.placed_unit_laws.proofs.Jumps.{jump-row}
 
-module _ (g : RowLaws) (o : Object) (d : Domain) (low top : ℕ) (m r : List ℕ) (l : Line) (a : IsAtUnit o d low top m r l) (st : UnitStands o d m l) where
+module _ (g : RowLaws) (o : Object) (d : Domain) (low top : ℕ) (m r : List ℕ) (l : Line) (a : IsHere o d low top m r l) (st : UnitStands o d m l) where
   abbrev bytes : ℕ
   bytes = static_bytes (fields o)
 
@@ -51,4 +52,5 @@ module _ (g : RowLaws) (o : Object) (d : Domain) (low top : ℕ) (m r : List ℕ
       ends Unchecked (instr.Jump c k) (check-is (instr.Jump c k) e) e (jump-row g o d low top m r l a st c k st.clean e (stands (instr.Jump c k) e))
 
 pub unit-ends : RowLaws → UnitStandsLaw → UnitEndsLaw
-unit-ends g stand o d low top m r l a = by-instr g o d low top m r l a (stand o d low top m r l a) l.instr refl
+unit-ends g stand o q i d low top m r l e at =
+    let here : IsHere o d low top m r l = here_of o q i d low top m r l e at in by-instr g o d low top m r l here (stands_here stand o d low top m r l here) l.instr refl

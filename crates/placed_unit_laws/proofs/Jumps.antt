@@ -25,8 +25,9 @@ use Rattle.machine_model.specs.Fetching.{IsFetched}
 use Rattle.unit_laws.specs.Rows.{branch, Follows}
 use Rattle.placed_unit_laws.specs.Placed.{unit_address, unit_at, unit_behind, word_in_place, source_does, instr_does}
 use Rattle.placed_unit_laws.specs.Checks.{Unchecked}
-use Rattle.placed_unit_laws.specs.Ends.{IsAtUnit, Names, Lands, EndsWell, UnitStands}
+use Rattle.placed_unit_laws.specs.Ends.{Names, Lands, EndsWell, UnitStands}
 use Rattle.placed_unit_laws.specs.Given.{RowLaws}
+use Rattle.placed_unit_laws.proofs.Here.{IsHere}
 use Rattle.placed_unit_laws.proofs.Pieces.{Stands, head, end}
 use Rattle.placed_unit_laws.proofs.Targets.{jump-start, jump-offset, jump-goes}
 use Rattle.placed_unit_laws.proofs.Results.{Result, at-first, behind-even, code-word}
@@ -39,7 +40,7 @@ same-effect e = ap (λ (c : List ℕ). record { context = c; written = e.written
 own-effect : (m r : List ℕ) (first past : ℕ) (e : Effect) → RunsUnit m first past r e → Follows m r first past e
 own-effect m r first past e h = record { x = reg e.context 4; y = reg e.context 5; runs = subst (RunsUnit m first past r) (sym (same-effect e)) h }
 
-module _ (g : RowLaws) (o : Object) (d : Domain) (low top : ℕ) (m r : List ℕ) (l : Line) (a : IsAtUnit o d low top m r l) (st : UnitStands o d m l) (c : Cond) (k : ℤ) (clean : IsCleanLine o l) (line : l.instr ≡ instr.Jump c k) where
+module _ (g : RowLaws) (o : Object) (d : Domain) (low top : ℕ) (m r : List ℕ) (l : Line) (a : IsHere o d low top m r l) (st : UnitStands o d m l) (c : Cond) (k : ℤ) (clean : IsCleanLine o l) (line : l.instr ≡ instr.Jump c k) where
   abbrev first : ℕ
   first = unit_at o d l
 
@@ -85,8 +86,8 @@ module _ (g : RowLaws) (o : Object) (d : Domain) (low top : ℕ) (m r : List ℕ
   does = ap (instr_does o d m r l) line
 
   leads : (b : Bool) → holds c (reg r 2) ≡ b → Lands o d l (reg (set_reg r 0 (if b then there else past)) 0)
-  leads true e = subst (Lands o d l) (sym ((g.pc_moves r there a.context goal.small).there ∙ omega (arith, goal.even))) goal.lands
-  leads false e = inl ((g.pc_moves r past a.context (omega (arith, st.below))).there ∙ omega (arith, behind-even g o d low top m r l a st))
+  leads true e = subst (Lands o d l) (sym ((g.pc_moves r there a.at.context goal.small).there ∙ omega (arith, goal.even))) goal.lands
+  leads false e = inl ((g.pc_moves r past a.at.context (omega (arith, st.below))).there ∙ omega (arith, behind-even g o d low top m r l a st))
 
   ends : RunsUnit m first past r (silent (set_reg r 0 (if holds c (reg r 2) then there else past))) → EndsWell o d m r l
   ends h = record {

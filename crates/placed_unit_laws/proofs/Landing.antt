@@ -14,8 +14,9 @@ use Rattle.insert_model.specs.Faults.{IsStartOffset, IsSourceJump, IsSourceCall}
 use Rattle.unit_laws.specs.Running.{IsInside}
 use Rattle.unit_laws.specs.Rows.{ended, branch}
 use Rattle.placed_unit_laws.specs.Placed.{word_in_place, unit_address, unit_at, unit_behind}
-use Rattle.placed_unit_laws.specs.Ends.{IsAtUnit, Names, IsTargetUnit, Lands, UnitStands}
+use Rattle.placed_unit_laws.specs.Ends.{Names, IsTargetUnit, Lands, UnitStands}
 use Rattle.placed_unit_laws.specs.Given.{RowLaws}
+use Rattle.placed_unit_laws.proofs.Here.{IsHere}
 use Rattle.placed_unit_laws.proofs.Targets.{jump-entry, call-entry}
 use Rattle.placed_unit_laws.proofs.Results.{address-even, address-low, code-word}
 
@@ -26,7 +27,7 @@ pub record IsGoal (o : Object) (d : Domain) (l : Line) (v : ℕ) : Type 0 where
   pub lands : Lands o d l v
   pub outside : IsInside (unit_at o d l) (unit_behind o d l) v → ⊥
 
-module _ (g : RowLaws) (o : Object) (d : Domain) (low top : ℕ) (m r : List ℕ) (l : Line) (a : IsAtUnit o d low top m r l) (st : UnitStands o d m l) where
+module _ (g : RowLaws) (o : Object) (d : Domain) (low top : ℕ) (m r : List ℕ) (l : Line) (a : IsHere o d low top m r l) (st : UnitStands o d m l) where
   -- the unit of a start
   pub start-goal : (x : ℕ) → Names l.at l.instr x → IsStartOffset o.code x → IsGoal o d l (unit_address o d x)
   unfolding IsStartOffset IsTargetUnit
@@ -57,9 +58,9 @@ module _ (g : RowLaws) (o : Object) (d : Domain) (low top : ℕ) (m r : List ℕ
   pub branch-leads : (v : ℕ) → v < 65536 → v % 2 ≡ 0 → reg (ended (unit_behind o d l) m r (branch v) 2).context 0 ≡ v
   branch-leads v s e =
       let past = unit_behind o d l in
-      (g.goes_to m (set_reg r 0 (past - 2 * 2)) v (g.pc_moves r (past - 2 * 2) a.context (omega (arith, st.below))).context s).branches ∙ omega (arith, e)
+      (g.goes_to m (set_reg r 0 (past - 2 * 2)) v (g.pc_moves r (past - 2 * 2) a.at.context (omega (arith, st.below))).context s).branches ∙ omega (arith, e)
 
   pub call-leads : (v : ℕ) → v < 65536 → v % 2 ≡ 0 → reg (ended (unit_behind o d l) m r (instr.One Call Wide (src.Immediate v)) 2).context 0 ≡ v
   call-leads v s e =
       let past = unit_behind o d l in
-      (g.goes_to m (set_reg r 0 (past - 2 * 2)) v (g.pc_moves r (past - 2 * 2) a.context (omega (arith, st.below))).context s).calls ∙ omega (arith, e)
+      (g.goes_to m (set_reg r 0 (past - 2 * 2)) v (g.pc_moves r (past - 2 * 2) a.at.context (omega (arith, st.below))).context s).calls ∙ omega (arith, e)

@@ -1,3 +1,4 @@
+pub mod Here
 pub mod Fetching
 pub mod Clean
 pub mod Targets

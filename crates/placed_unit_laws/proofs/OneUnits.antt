@@ -34,8 +34,9 @@ use Rattle.unit_laws.specs.Guarded.{IsCellOperand}
 use Rattle.unit_laws.specs.Rows.{GoesOn, SrcFree, ended, Follows, Hands, IsAtStore, IsIn, IsOut}
 use Rattle.placed_unit_laws.specs.Placed.{unit_at, unit_behind, word_in_place, placed_src, placed_instr, placed, source_does, instr_does}
 use Rattle.placed_unit_laws.specs.Checks.{OfStore, OfGrowth}
-use Rattle.placed_unit_laws.specs.Ends.{IsAtUnit, EndsWell, UnitStands}
+use Rattle.placed_unit_laws.specs.Ends.{EndsWell, UnitStands}
 use Rattle.placed_unit_laws.specs.Given.{RowLaws}
+use Rattle.placed_unit_laws.proofs.Here.{IsHere}
 use Rattle.placed_unit_laws.proofs.Fetching.{count-place, src-count, few-src, src-fits, own-instr}
 use Rattle.placed_unit_laws.proofs.Pieces.{Stands, cut, head, end, growth-stands, growth-size, store-stands, store-size}
 use Rattle.placed_unit_laws.proofs.Clean.{IsOneLine, src-placed, src-avoids, steps-placed, steps-pops, one-fits, one-source, one-pops-not}
@@ -54,7 +55,7 @@ changes-goes-on Call w s e f = let q : false ≡ true = e in absurd (cc)
 at-r4-fits : (op : Op1) (w : Width) (s : Src) → InstrFits (instr.One op w s) → InstrFits (instr.One op w (src.Indirect 4))
 at-r4-fits op w s f = ((omega arith, ((λ e. omega (arith, e)), (λ e. omega (arith, e)), (λ e. omega (arith, e)))), f.1, tt)
 
-module _ (g : RowLaws) (o : Object) (d : Domain) (low top : ℕ) (m r : List ℕ) (l : Line) (a : IsAtUnit o d low top m r l) (st : UnitStands o d m l) (op : Op1) (w : Width) (s : Src) (is : IsOneLine o l op w s) where
+module _ (g : RowLaws) (o : Object) (d : Domain) (low top : ℕ) (m r : List ℕ) (l : Line) (a : IsHere o d low top m r l) (st : UnitStands o d m l) (op : Op1) (w : Width) (s : Src) (is : IsOneLine o l op w s) where
   abbrev first : ℕ
   first = unit_at o d l
 
@@ -107,10 +108,10 @@ module _ (g : RowLaws) (o : Object) (d : Domain) (low top : ℕ) (m r : List ℕ
       (g.own m r first past here size (at-first g o d low top m r l a st) f.0 (end o d m (first + 2 * size) past f.1) (λ i. omega (arith, i.1, leads-behind g o d low top m r l a st here size goes tiny)))
 
   lo-word : d.lo < 65536
-  lo-word = omega (arith, a.placed.statics, a.placed.hi_high)
+  lo-word = omega (arith, a.at.placed.statics, a.at.placed.hi_high)
 
   hi-word : d.hi < 65536
-  hi-word = omega (arith, a.placed.hi_high)
+  hi-word = omega (arith, a.at.placed.hi_high)
 
   -- behind a store guard
   pub change-row : (n x : ℕ) (k : Option RelKind) → changes op ≡ true → IsIndexed n → IsCellOperand s_here n (word_in_place o d x k)
@@ -125,7 +126,7 @@ module _ (g : RowLaws) (o : Object) (d : Domain) (low top : ℕ) (m r : List ℕ
       let z = end o d m (first + 28) past (subst (λ (q : ℕ). Stands o d m q past []) (omega arith) f.1) in
       let goes : GoesOn here = changes-goes-on op w s_here e free-source in
       let v = word_in_place o d x k in
-      let at : IsAtStore m r first past n v d.lo d.hi = record { at = at-first g o d low top m r l a st; words = words; register = i; index = omega (arith, words.1.1.1.0, word-small m (first + 6) a.memory); lo_word = lo-word; hi_word = hi-word } in
+      let at : IsAtStore m r first past n v d.lo d.hi = record { at = at-first g o d low top m r l a st; words = words; register = i; index = omega (arith, words.1.1.1.0, word-small m (first + 6) a.at.memory); lo_word = lo-word; hi_word = hi-word } in
       let law = g.change m r first past n v d.lo d.hi op w s_here size at f.0 z e cell (omega arith) few in
       checked g o d low top m r l a st (OfStore n x k) r None (IsIn d.lo d.hi (sum_of v (reg r n))) (IsOut d.lo d.hi (sum_of v (reg r n))) (Follows m r first past (ended past m r here size)) law
       (of-store d.lo d.hi (sum_of v (reg r n))) (λ q. q) (λ q. q) (goes-behind g o d low top m r l a st here size source-is goes (omega (arith, few)))
@@ -146,7 +147,7 @@ module _ (g : RowLaws) (o : Object) (d : Domain) (low top : ℕ) (m r : List ℕ
       let z = end o d m (first + 14 + 2 * size) past f.1 in
       let law = g.growth m r first past here size (at-first g o d low top m r l a st) c.0 f.0 (omega (arith, z)) (omega arith) (src-avoids s_here free-source) out in
       checked g o d low top m r l a st OfGrowth r None (word_at m 0x0200 ≤ reg r 1) (reg r 1 < word_at m 0x0200) (Follows m r first past (ended past m r here size)) law (of-growth (word_at m 0x0200) (reg r 1))
-      (λ q. omega (arith, q, a.limit)) (λ q. omega (arith, q, a.limit)) (λ q. ends (ended past m r here size) q refl)
+      (λ q. omega (arith, q, a.at.limit)) (λ q. omega (arith, q, a.at.limit)) (λ q. ends (ended past m r here size) q refl)
 
   -- a computed call
   pub callee-row : op ≡ Call → Stands o d m first past (calling_value s (own l).source) → Result o d low top m r l OfGrowth (after_source Wide s_here r) (Some (0xF006, s))
@@ -166,7 +167,7 @@ module _ (g : RowLaws) (o : Object) (d : Domain) (low top : ℕ) (m r : List ℕ
       let wide : w ≡ Wide = call-wide w (subst (λ (p : Op1). InstrFits (instr.One p w s)) e (one-fits o l op w s is)).1 in
       let same : source_does o d m r l ≡ ended past m r (instr.One Call Wide s_here) size = source-is ∙ (λ j. ended past m r (instr.One (e j) (wide j) s_here) size) in
       checked g o d low top m r l a st OfGrowth (after_source Wide s_here r) (Some (0xF006, s)) (word_at m 0x0200 ≤ reg r 1) (reg r 1 < word_at m 0x0200) (Hands m r first past (ended past m r (instr.One Call Wide s_here) size) 0xF006 (source_value Wide s_here 0 m r)) law
-      (of-growth (word_at m 0x0200) (reg r 1)) (λ q. omega (arith, q, a.limit)) (λ q. omega (arith, q, a.limit)) (subst (λ (y : Effect). Hands m r first past y 0xF006 (source_value Wide s_here 0 m r)) (sym same))
+      (of-growth (word_at m 0x0200) (reg r 1)) (λ q. omega (arith, q, a.at.limit)) (λ q. omega (arith, q, a.at.limit)) (subst (λ (y : Effect). Hands m r first past y 0xF006 (source_value Wide s_here 0 m r)) (sym same))
     where
       into-words : length (src_words s_here ++ []) ≡ length (src_words s_here)
       into-words = omega (arith, length-append (src_words s_here) [])

@@ -30,8 +30,9 @@ use Rattle.unit_laws.specs.Guards.{WordsAt, pop_words}
 use Rattle.unit_laws.specs.Rows.{GoesOn, DstFree, ended, pop_r4, Follows, Hands}
 use Rattle.placed_unit_laws.specs.Placed.{unit_at, unit_behind, placed_dst, source_does}
 use Rattle.placed_unit_laws.specs.Checks.{OfPop, handed}
-use Rattle.placed_unit_laws.specs.Ends.{IsAtUnit, UnitStands}
+use Rattle.placed_unit_laws.specs.Ends.{UnitStands}
 use Rattle.placed_unit_laws.specs.Given.{RowLaws}
+use Rattle.placed_unit_laws.proofs.Here.{IsHere}
 use Rattle.placed_unit_laws.proofs.Fetching.{count-place, dst-count}
 use Rattle.placed_unit_laws.proofs.Pieces.{Stands, cut, head, end, pop-stands, pop-size}
 use Rattle.placed_unit_laws.proofs.Clean.{IsTwoLine, dst-placed, src-avoids, dst-avoids, two-fits, two-target, reads-no-pc, moves-to-pc}
@@ -100,7 +101,7 @@ pc-moves o l op w s t is h = by op refl
 
 -- ---- rows
 
-module _ (g : RowLaws) (o : Object) (d : Domain) (low top : ℕ) (m r : List ℕ) (l : Line) (a : IsAtUnit o d low top m r l) (st : UnitStands o d m l) (op : Op2) (w : Width) (t : Dst) (is : IsTwoLine o l op w (src.AutoInc 1) t) where
+module _ (g : RowLaws) (o : Object) (d : Domain) (low top : ℕ) (m r : List ℕ) (l : Line) (a : IsHere o d low top m r l) (st : UnitStands o d m l) (op : Op2) (w : Width) (t : Dst) (is : IsTwoLine o l op w (src.AutoInc 1) t) where
   abbrev first : ℕ
   first = unit_at o d l
 
@@ -137,7 +138,7 @@ module _ (g : RowLaws) (o : Object) (d : Domain) (low top : ℕ) (m r : List ℕ
       let law = g.pop m r first past source n_here (at-first g o d low top m r l a st) c.0 f.0 (omega (arith, e)) (omega arith) (src-avoids (src.AutoInc 1) goes.0, dst-avoids dst_here goes.1)
       (λ i. omega (arith, i.1, there)) in
       checked g o d low top m r l a st OfPop r None (reg r 1 ≢ word_at m 0x0202) (reg r 1 ≡ word_at m 0x0202) (Follows m r first past (ended past m r source n_here)) law (of-pop (reg r 1) (word_at m 0x0202))
-      (λ x. x ∙ a.last) (λ x. x ∙ sym a.last) (goes-behind g o d low top m r l a st source n_here does goes small)
+      (λ x. x ∙ a.at.last) (λ x. x ∙ sym a.at.last) (goes-behind g o d low top m r l a st source n_here does goes small)
 
   -- `MOV @SP+,R4` behind the guard
   pop-head : (ps : List Piece) → Stands o d m (first + 14) past (guard_piece.pop_r4 ∷ ps) → IsFetched m (first + 14) pop_r4 1 × Stands o d m (first + 16) past ps
@@ -162,7 +163,7 @@ module _ (g : RowLaws) (o : Object) (d : Domain) (low top : ℕ) (m r : List ℕ
       let small = few g o d low top m r l a st op w (src.AutoInc 1) t is in
       let law = g.pop_into m r first past op w dst_here n_here (at-first g o d low top m r l a st) c.0 b.0 fetched (omega (arith, e, from-size)) (omega arith) (dst-placed o d (own l).destination t free) in
       checked g o d low top m r l a st OfPop r None (reg r 1 ≢ word_at m 0x0202) (reg r 1 ≡ word_at m 0x0202) (Follows m r first past (ended past m r source n_here)) law (of-pop (reg r 1) (word_at m 0x0202))
-      (λ x. x ∙ a.last) (λ x. x ∙ sym a.last) (goes-behind g o d low top m r l a st source n_here does goes small)
+      (λ x. x ∙ a.at.last) (λ x. x ∙ sym a.at.last) (goes-behind g o d low top m r l a st source n_here does goes small)
 
   returns-is : IsWideMove op w → t ≡ dst.Reg 0 → source_does o d m r l ≡ ended past m r (instr.Two Mov Wide (src.AutoInc 1) (dst.Reg 0)) 1
   returns-is v e =
@@ -180,7 +181,7 @@ module _ (g : RowLaws) (o : Object) (d : Domain) (low top : ℕ) (m r : List ℕ
       let move = pc-moves o l op w (src.AutoInc 1) t is (subst (λ (y : Dst). DstIs y 0) (sym e) refl) in
       checked g o d low top m r l a st OfPop r (Some (0xF004, src.AutoInc 1)) (reg r 1 ≢ word_at m 0x0202) (reg r 1 ≡ word_at m 0x0202)
       (Hands m r first past (ended past m r (instr.Two Mov Wide (src.AutoInc 1) (dst.Reg 0)) 1) 0xF004 (source_value Wide (src.AutoInc 1) 0 m r)) law (of-pop (reg r 1) (word_at m 0x0202))
-      (λ x. x ∙ a.last) (λ x. x ∙ sym a.last) (subst (λ (y : Effect). Hands m r first past y 0xF004 (source_value Wide (src.AutoInc 1) 0 m r)) (sym (returns-is move e)))
+      (λ x. x ∙ a.at.last) (λ x. x ∙ sym a.at.last) (subst (λ (y : Effect). Hands m r first past y 0xF004 (source_value Wide (src.AutoInc 1) 0 m r)) (sym (returns-is move e)))
 
   -- the three of them
   pub popping-row : Stands o d m first past (popping op w t (own l)) → Result o d low top m r l OfPop r (handed (instr.Two op w (src.AutoInc 1) t))

@@ -19,7 +19,8 @@ use Rattle.load_model.specs.Domains.{Domain}
 use Rattle.insert_model.specs.declared.line.Line.{Line}
 use Rattle.insert_model.specs.Words.{count}
 use Rattle.placed_unit_laws.specs.Placed.{unit_address, unit_behind, placed_src, source_does}
-use Rattle.placed_unit_laws.specs.Ends.{IsAtUnit, UnitStands, UnitStandsLaw, PushedLaw}
+use Rattle.placed_unit_laws.specs.Ends.{UnitStands, UnitStandsLaw, PushedLaw}
+use Rattle.placed_unit_laws.proofs.Here.{IsHere, here_of, stands_here}
 
 -- ---- registers
 
@@ -119,18 +120,19 @@ call_size w (src.Immediate x) = omega arith
 call_size w (src.Const c) = omega arith
 
 module _ (stand : UnitStandsLaw) where
-  next_of : (o : Object) (d : Domain) (low top : ℕ) (m r : List ℕ) (l : Line) (w : Width) (s : Src) → l.instr ≡ instr.One Call w s → IsAtUnit o d low top m r l → IsNext o d l
+  next_of : (o : Object) (d : Domain) (low top : ℕ) (m r : List ℕ) (l : Line) (w : Width) (s : Src) → l.instr ≡ instr.One Call w s → IsHere o d low top m r l → IsNext o d l
   unfolding unit_address
-  next_of o d low top m r l w s e at =
-      let u : UnitStands o d m l = stand o d low top m r l at in
+  next_of o d low top m r l w s e here =
+      let u : UnitStands o d m l = stands_here stand o d low top m r l here in
       let few : count l.instr ≤ 2 = subst (λ (i : Instr). count i ≤ 2) (sym e) (call_size w s) in
       record {
         fits = u.clean.fits;
-        returns = record { even_one = omega (arith, u.even, u.behind); below = omega (arith, u.below); behind = omega (arith, few, at.placed.code_low) };
+        returns = record { even_one = omega (arith, u.even, u.behind); below = omega (arith, u.below); behind = omega (arith, few, here.at.placed.code_low) };
       }
 
   pub pushed_law : PushedLaw
   unfolding Pushes
-  pushed_law o d low top m r l w s at e =
-      let next : IsNext o d (with_instr l (instr.One Call w s)) = subst (λ (i : Instr). IsNext o d (with_instr l i)) e (next_of o d low top m r l w s e at) in
+  pushed_law o q i d low top m r l w s of at e =
+      let here : IsHere o d low top m r l = here_of o q i d low top m r l of at in
+      let next : IsNext o d (with_instr l (instr.One Call w s)) = subst (λ (i : Instr). IsNext o d (with_instr l i)) e (next_of o d low top m r l w s e here) in
       subst (λ (i : Instr). Pushes (unit_behind o d (with_instr l i)) (source_does o d m r (with_instr l i))) (sym e) (on_call o d m r l w s (omega (arith, at.context.words)) next)

@@ -14,8 +14,9 @@ use Rattle.insert_model.specs.Words.{count}
 use Rattle.unit_laws.specs.Rows.{GoesOn, ended, Follows, Halts, Checked, IsAtFirst, IsIn, IsOut}
 use Rattle.placed_unit_laws.specs.Placed.{word_in_place, unit_address, unit_at, unit_behind, source_does}
 use Rattle.placed_unit_laws.specs.Checks.{Check, Fails, entry_of, before_check}
-use Rattle.placed_unit_laws.specs.Ends.{IsAtUnit, EndsWell, EndsBy, UnitStands}
+use Rattle.placed_unit_laws.specs.Ends.{EndsWell, EndsBy, UnitStands}
 use Rattle.placed_unit_laws.specs.Given.{RowLaws}
+use Rattle.placed_unit_laws.proofs.Here.{IsHere}
 
 -- what the law says of a check, of the registers before it and of an entry that takes over
 abbrev pub Result : Object → Domain → (low top : ℕ) → (m r : List ℕ) → Line → Check → List ℕ → Option (ℕ × Src) → Type 0
@@ -53,24 +54,24 @@ of-sp limit top v = elim (cases_lt v limit) [
 
 -- ---- in a unit
 
-module _ (g : RowLaws) (o : Object) (d : Domain) (low top : ℕ) (m r : List ℕ) (l : Line) (a : IsAtUnit o d low top m r l) (st : UnitStands o d m l) where
+module _ (g : RowLaws) (o : Object) (d : Domain) (low top : ℕ) (m r : List ℕ) (l : Line) (a : IsHere o d low top m r l) (st : UnitStands o d m l) where
   pub at-first : IsAtFirst m r (unit_at o d l) (unit_behind o d l)
-  at-first = record { memory = a.memory; context = a.context; pc = a.pc; below = omega (arith, st.below) }
+  at-first = record { memory = a.at.memory; context = a.at.context; pc = a.at.pc; below = omega (arith, st.below) }
 
   pub behind-even : unit_behind o d l % 2 ≡ 0
   behind-even = omega (arith, st.behind, st.even)
 
   pub high : (x : ℕ) → 0x6000 ≤ unit_address o d x
   unfolding unit_address
-  high x = omega (arith, a.placed.code_low)
+  high x = omega (arith, a.at.placed.code_low)
 
   pub address-even : (x : ℕ) → unit_address o d x % 2 ≡ 0
   unfolding unit_address
-  address-even x = omega (arith, a.placed.code_even, (g.places o d.object a.inserted x).even)
+  address-even x = omega (arith, a.at.placed.code_even, (g.places o d.object a.inserted x).even)
 
   pub address-low : (x : ℕ) → unit_address o d x ≤ 0xE000
   unfolding unit_address
-  address-low x = omega (arith, a.placed.code_high, (g.places o d.object a.inserted x).below)
+  address-low x = omega (arith, a.at.placed.code_high, (g.places o d.object a.inserted x).below)
 
   -- a word that names code names its unit
   pub code-word : (x : ℕ) (k : Option RelKind) → k ≡ Some Code → word_in_place o d x k ≡ unit_address o d x
@@ -82,7 +83,7 @@ module _ (g : RowLaws) (o : Object) (d : Domain) (low top : ℕ) (m r : List ℕ
   leads-behind i n goes few =
       let past = unit_behind o d l in
       let h : 0x6000 ≤ past = high (2 * (l.at + count l.instr)) in
-      let moved = g.pc_moves r (past - 2 * n) a.context (omega (arith, st.below)) in
+      let moved = g.pc_moves r (past - 2 * n) a.at.context (omega (arith, st.below)) in
       g.goes_on m (set_reg r 0 (past - 2 * n)) i n moved.context goes ∙ omega (arith, moved.there, behind-even, st.below, h, few)
 
   -- a run whose effect is the source's, and that leads to the next unit, ends well

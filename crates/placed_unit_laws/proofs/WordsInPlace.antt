@@ -16,7 +16,8 @@ use Rattle.insert_laws.specs.Laws.{kind_in, RelocsStand, RelocsArePieces}
 use Rattle.insert_laws.specs.Lines.{line_words, UnitLies, LinesAreClean, CodeIsPieces, LinesHaveUnits}
 use Rattle.unit_laws.specs.Guards.{WordsAt}
 use Rattle.placed_unit_laws.specs.Placed.{unit_address, unit_at, unit_behind, word_in_place, placed_word}
-use Rattle.placed_unit_laws.specs.Ends.{IsAtUnit, UnitStands, UnitStandsLaw}
+use Rattle.placed_unit_laws.specs.Ends.{UnitStands, UnitStandsLaw}
+use Rattle.placed_unit_laws.proofs.Here.{IsHere, here_of}
 
 kind_here : (xs : List Word) (w : Word) (ys : List Word) → kind_in (xs ++ w ∷ ys) (length xs) ≡ w.kind
 kind_here [] w ys = refl
@@ -63,23 +64,24 @@ module _ (o : Object) (d : Domain) (m : List ℕ) (ws : List Word) (is : IsCodeO
 -- ---- a unit in memory
 
 module _ (clean : LinesAreClean) (have : LinesHaveUnits) (code : CodeIsPieces) (relocs : RelocsArePieces) (image : CodeImageLaw) where
-  stands_at : (o : Object) (d : Domain) (low top : ℕ) (m r : List ℕ) (l : Line) → IsAtUnit o d low top m r l → UnitLies o l → UnitStands o d m l
+  stands_at : (o : Object) (d : Domain) (low top : ℕ) (m r : List ℕ) (l : Line) → IsHere o d low top m r l → UnitLies o l → UnitStands o d m l
   unfolding unit_address
-  stands_at o d low top m r l at u =
-      let is : IsCodeOf o d.object (unit_words (pieces (fields o))) = record { code = code o d.object at.inserted; are = refl; relocs = relocs o d.object at.inserted } in
-      let placed : CodeStands d m = image d m at.placed.code_even at.code in
+  stands_at o d low top m r l here u =
+      let is : IsCodeOf o d.object (unit_words (pieces (fields o))) = record { code = code o d.object here.inserted; are = refl; relocs = relocs o d.object here.inserted } in
+      let placed : CodeStands d m = image d m here.at.placed.code_even here.at.code in
       let all : length d.object.code ≡ length u.front + (length (line_words o l) + length u.back) =
       code_length o d m (unit_words (pieces (fields o))) is placed ∙ ap length u.are ∙ length-append u.front (line_words o l ++ u.back) ∙ ap (λ (n : ℕ). length u.front + n) (length-append (line_words o l) u.back) in
       let first : unit_at o d l ≡ d.code_lo + 2 * length u.front = ap (λ (x : ℕ). d.code_lo + x) u.first in
       let behind : unit_behind o d l ≡ d.code_lo + 2 * (length u.front + length (line_words o l)) = ap (λ (x : ℕ). d.code_lo + x) u.behind in
       record {
-        clean = clean o d.object at.inserted l at.line;
+        clean = clean o d.object here.inserted l here.at.line;
         words = words_stand o d m (unit_words (pieces (fields o))) is placed u.front (line_words o l) u.back (unit_at o d l) 0 u.are (omega (arith, first));
         behind = omega (arith, first, behind);
-        even = omega (arith, first, at.placed.code_even);
-        below = omega (arith, behind, all, at.placed.code_high);
+        even = omega (arith, first, here.at.placed.code_even);
+        below = omega (arith, behind, all, here.at.placed.code_high);
         apart = λ t s h. elim (u.apart t) [ inl a ↦ omega (arith, h.0, first, a) | inr b ↦ omega (arith, h.1, behind, b) ];
       }
 
   pub unit_law : UnitStandsLaw
-  unit_law o d low top m r l at = stands_at o d low top m r l at (have o d.object at.inserted l at.line)
+  unit_law o q i d low top m r l e at =
+      let here : IsHere o d low top m r l = here_of o q i d low top m r l e at in stands_at o d low top m r l here (have o d.object here.inserted l at.line)

@@ -36,8 +36,9 @@ use Rattle.unit_laws.specs.Guarded.{IsCell, Steps}
 use Rattle.unit_laws.specs.Rows.{GoesOn, DstFree, ended, Follows, Hands, IsAtStore, IsIn, IsOut, IsWithin, IsBeyond, new_sp}
 use Rattle.placed_unit_laws.specs.Placed.{unit_at, unit_behind, word_in_place, placed_src, placed_dst, source_does}
 use Rattle.placed_unit_laws.specs.Checks.{Unchecked, OfStore, OfSp}
-use Rattle.placed_unit_laws.specs.Ends.{IsAtUnit, UnitStands}
+use Rattle.placed_unit_laws.specs.Ends.{UnitStands}
 use Rattle.placed_unit_laws.specs.Given.{RowLaws}
+use Rattle.placed_unit_laws.proofs.Here.{IsHere}
 use Rattle.placed_unit_laws.proofs.Fetching.{count-place, src-count, src-fits}
 use Rattle.placed_unit_laws.proofs.Pieces.{Stands, cut, head, end, sp-stands, sp-size, store-stands, store-size}
 use Rattle.placed_unit_laws.proofs.Clean.{IsTwoLine, dst-placed, steps-placed, steps-pops, two-fits}
@@ -114,7 +115,7 @@ word-small m at h = omega (arith, h.small (at / 2 * 2), h.small (at / 2 * 2 + 1)
 
 -- ---- a store
 
-module _ (g : RowLaws) (o : Object) (d : Domain) (low top : ℕ) (m r : List ℕ) (l : Line) (a : IsAtUnit o d low top m r l) (st : UnitStands o d m l) (op : Op2) (w : Width) (s : Src) (t : Dst) (is : IsTwoLine o l op w s t) where
+module _ (g : RowLaws) (o : Object) (d : Domain) (low top : ℕ) (m r : List ℕ) (l : Line) (a : IsHere o d low top m r l) (st : UnitStands o d m l) (op : Op2) (w : Width) (s : Src) (t : Dst) (is : IsTwoLine o l op w s t) where
   abbrev first : ℕ
   first = unit_at o d l
 
@@ -131,10 +132,10 @@ module _ (g : RowLaws) (o : Object) (d : Domain) (low top : ℕ) (m r : List ℕ
   source = here g o d low top m r l a st op w s t is
 
   lo-word : d.lo < 65536
-  lo-word = omega (arith, a.placed.statics, a.placed.hi_high)
+  lo-word = omega (arith, a.at.placed.statics, a.at.placed.hi_high)
 
   hi-word : d.hi < 65536
-  hi-word = omega (arith, a.placed.hi_high)
+  hi-word = omega (arith, a.at.placed.hi_high)
 
   through-size : length (dst_words t) ≡ 1 → length (piece_words (through_r4 op w s (own l).source)) ≡ n_here
   through-size e =
@@ -154,7 +155,7 @@ module _ (g : RowLaws) (o : Object) (d : Domain) (low top : ℕ) (m r : List ℕ
       let goes : GoesOn source = (free-source g o d low top m r l a st op w s t is, dst-placed o d (own l).destination t free) in
       let tiny = few g o d low top m r l a st op w s t is in
       let v = word_in_place o d x k in
-      let at : IsAtStore m r first past n v d.lo d.hi = record { at = at-first g o d low top m r l a st; words = words; register = i; index = omega (arith, words.1.1.1.0, word-small m (first + 6) a.memory); lo_word = lo-word; hi_word = hi-word } in
+      let at : IsAtStore m r first past n v d.lo d.hi = record { at = at-first g o d low top m r l a st; words = words; register = i; index = omega (arith, words.1.1.1.0, word-small m (first + 6) a.at.memory); lo_word = lo-word; hi_word = hi-word } in
       let law = g.store m r first past n v d.lo d.hi op w s_here (placed_dst o d (own l).destination t) n_here at fetched (omega (arith, e, through-size one)) goes.0 cell (λ q. steps (steps-placed o d (own l).source s n q)) in
       checked g o d low top m r l a st (OfStore n x k) r None (IsIn d.lo d.hi (sum_of v (reg r n))) (IsOut d.lo d.hi (sum_of v (reg r n))) (Follows m r first past (ended past m r source n_here)) law
       (of-store d.lo d.hi (sum_of v (reg r n))) (λ q. q) (λ q. q) (goes-behind g o d low top m r l a st source n_here (source-is g o d low top m r l a st op w s t is) goes tiny)
@@ -194,7 +195,7 @@ module _ (g : RowLaws) (o : Object) (d : Domain) (low top : ℕ) (m r : List ℕ
       (λ q. pops (steps-pops s 1 (steps-placed o d (own l).source s 1 q))) in
       let tiny = few g o d low top m r l a st op w s t is in
       checked g o d low top m r l a st (OfSp op w s (own l).source) (after_source w s_here r) None (IsWithin m v) (IsBeyond m v) (Follows m r first past (ended past m r (instr.Two op w s_here (dst.Reg 1)) n_here)) law (of-sp (word_at m 0x0200) (word_at m 0x0202) v)
-      (λ q. elim q [ inl x ↦ inl (omega (arith, x, a.limit)) | inr x ↦ inr (omega (arith, x, a.last)) ]) (λ q. elim q [ inl x ↦ inl (omega (arith, x, a.limit)) | inr x ↦ inr (omega (arith, x, a.last)) ])
+      (λ q. elim q [ inl x ↦ inl (omega (arith, x, a.at.limit)) | inr x ↦ inr (omega (arith, x, a.at.last)) ]) (λ q. elim q [ inl x ↦ inl (omega (arith, x, a.at.limit)) | inr x ↦ inr (omega (arith, x, a.at.last)) ])
       (λ q. goes-behind g o d low top m r l a st source n_here (source-is g o d low top m r l a st op w s t is) goes tiny (subst (λ (y : Instr). Follows m r first past (ended past m r y n_here)) same q))
 
   -- ---- PC

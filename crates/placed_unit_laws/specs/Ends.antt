@@ -33,10 +33,9 @@ use Rattle.unit_laws.specs.Rows.{Follows, Hands, Halts, SameButPc}
 use Rattle.placed_unit_laws.specs.Placed.{unit_address, unit_at, unit_behind, placed_word, placed_src, placed, source_does}
 use Rattle.placed_unit_laws.specs.Checks.{check_of, Fails, entry_of, before_check, handed}
 
--- An object with guards was placed, its code's bytes are in memory with the two limit words of a stack [low, top), and PC is at the unit
--- of a source instruction. Each context that is good for the domain is a context.
+-- A domain's object, made from o, was placed, its code's bytes are in memory with the two limit words of a stack [low, top), and PC is at
+-- the unit of a source instruction. Each context that is good for the domain is a context.
 pub record IsAtUnit (o : Object) (d : Domain) (low top : ℕ) (m r : List ℕ) (l : Line) : Type 0 where
-  pub inserted : IsInserted o d.object
   pub line : Contains (lines (fields o)) l
   pub placed : IsWellPlaced d
   pub memory : IsMemory m
@@ -94,16 +93,6 @@ pub data UnitEnds (o : Object) (d : Domain) (low top : ℕ) (m r : List ℕ) (l 
   Halted : Fails o d low top m r (check_of o l) → Halts m r (unit_at o d l) (unit_behind o d l) (entry_of (check_of o l)) (before_check o d r l (check_of o l) l.instr) → UnitEnds o d low top m r l
   Done : (Fails o d low top m r (check_of o l) → ⊥) → EndsBy o d m r l (handed l.instr) → UnitEnds o d low top m r l
 
--- ---- the laws
-
-abbrev pub UnitEndsLaw : Type 0
-UnitEndsLaw = (o : Object) (d : Domain) (low top : ℕ) (m r : List ℕ) (l : Line) → IsAtUnit o d low top m r l → UnitEnds o d low top m r l
-
--- what a call pushes is the address of the next unit
-abbrev pub PushedLaw : Type 0
-PushedLaw = (o : Object) (d : Domain) (low top : ℕ) (m r : List ℕ) (l : Line) (w : Width) (s : Src) → IsAtUnit o d low top m r l → l.instr ≡ instr.One Call w s
-    → (source_does o d m r l).written ≡ stored Wide (reg (source_does o d m r l).context 1) (unit_behind o d l)
-
 -- the words of a unit in memory
 pub record UnitStands (o : Object) (d : Domain) (m : List ℕ) (l : Line) : Type 0 where
   pub clean : IsCleanLine o l
@@ -114,9 +103,6 @@ pub record UnitStands (o : Object) (d : Domain) (m : List ℕ) (l : Line) : Type
   -- no start's unit begins within this one
   pub apart : (t : ℕ) → Start o.code t → IsInside (unit_at o d l) (unit_behind o d l) (unit_address o d (2 * t)) → ⊥
 
-abbrev pub UnitStandsLaw : Type 0
-UnitStandsLaw = (o : Object) (d : Domain) (low top : ℕ) (m r : List ℕ) (l : Line) → IsAtUnit o d low top m r l → UnitStands o d m l
-
 -- ---- where a source instruction stands
 
 -- an instruction that leads to the next one, and pushes no address
@@ -126,7 +112,36 @@ StaysInLine (instr.One op w s) = IsCall op → ⊥
 StaysInLine instr.Reti = ⊥
 StaysInLine (instr.Jump c k) = ⊥
 
--- it does the same wherever it stands, but for PC
-abbrev pub SourcePlaceLaw : Type 0
-SourcePlaceLaw = (o : Object) (d : Domain) (low top : ℕ) (m r : List ℕ) (l : Line) (p : ℕ) → IsAtUnit o d low top m r l → StaysInLine l.instr
+-- ---- what holds of an object, wherever it is placed, at the unit of each instruction of the source o
+
+-- its run ends in one of these ways
+abbrev pub UnitsEnd : (o q : Object) → Type 0
+UnitsEnd o q = (d : Domain) (low top : ℕ) (m r : List ℕ) (l : Line) → d.object ≡ q → IsAtUnit o d low top m r l → UnitEnds o d low top m r l
+
+-- what a call pushes is the address of the next unit
+abbrev pub CallsPush : (o q : Object) → Type 0
+CallsPush o q = (d : Domain) (low top : ℕ) (m r : List ℕ) (l : Line) (w : Width) (s : Src) → d.object ≡ q → IsAtUnit o d low top m r l
+    → l.instr ≡ instr.One Call w s → (source_does o d m r l).written ≡ stored Wide (reg (source_does o d m r l).context 1) (unit_behind o d l)
+
+-- its words stand where the place map says
+abbrev pub UnitsStand : (o q : Object) → Type 0
+UnitsStand o q = (d : Domain) (low top : ℕ) (m r : List ℕ) (l : Line) → d.object ≡ q → IsAtUnit o d low top m r l → UnitStands o d m l
+
+-- and the source instruction, if it leads to the next one and pushes no address, does the same wherever it stands, but for PC
+abbrev pub SourcesHide : (o q : Object) → Type 0
+SourcesHide o q = (d : Domain) (low top : ℕ) (m r : List ℕ) (l : Line) (p : ℕ) → d.object ≡ q → IsAtUnit o d low top m r l → StaysInLine l.instr
     → SameButPc (source_does o d m r l) (does m (set_reg r 0 p) (placed o d (own l)) (count l.instr))
+
+-- ---- the laws: all of it holds of the object that o has with guards
+
+abbrev pub UnitEndsLaw : Type 0
+UnitEndsLaw = (o q : Object) → IsInserted o q → UnitsEnd o q
+
+abbrev pub PushedLaw : Type 0
+PushedLaw = (o q : Object) → IsInserted o q → CallsPush o q
+
+abbrev pub UnitStandsLaw : Type 0
+UnitStandsLaw = (o q : Object) → IsInserted o q → UnitsStand o q
+
+abbrev pub SourcePlaceLaw : Type 0
+SourcePlaceLaw = (o q : Object) → IsInserted o q → SourcesHide o q

@@ -1,9 +1,9 @@
 //! Placing: the least free number of the kind, and the lowest gaps of the two pools.
 
-ghost use Rattle.std.specs.Prelude.{◌≡◌, ◌%◌, ◌+◌, ◌<◌, ◌≤◌, ◌++◌, [], ◌∷◌, length, IfOk, OnErr, IfSome, Some, Ok};
+ghost use Rattle.std.specs.Prelude.{◌≡◌, ◌%◌, ◌+◌, ◌<◌, ◌≤◌, ◌++◌, [], ◌∷◌, length, IfOk, IfErr, OnErr, IfSome, Some, Ok};
 ghost use Rattle.kernel_model.specs.Layout.{kernel_of};
 ghost use Rattle.kernel_model.specs.Queues.{Leaves};
-ghost use Rattle.place_model.specs.Placing.{domain_rows, placing, placed_among, with_places, pool_range, ranges, range_in, free_from, free_number, with_number, with_code};
+ghost use Rattle.place_model.specs.Placing.{placing, placed_among, with_places, pool_range, ranges, range_in, free_from, free_number, with_number, with_code, domain_rows, first_number, number_count, IsLeastFree, IsPlacing, IsRefusal};
 ghost use Rattle.place_model.specs.Settled.{IsSettled};
 
 use crate::rows::{APPS, DOMAINS, FREE, MODULES, domain_rows, fill};
@@ -11,21 +11,28 @@ use crate::search::place_in;
 use arrayvec::ArrayVec;
 use code_model::parts::Kind;
 use flat_mem::FlatMem;
-use place_model::laws::placings_keep_settled;
+use place_model::laws::{numbers_are_least, placings_are_lowest, placings_keep_settled};
 use place_model::places::{DomainRow, NoRoom, Pool, Range, Regions};
 
 /// Places so many bytes of code and of region, both even, the code at most 16,384 bytes: takes the least free row of the kind and the
-/// lowest gap of each pool that fits, and fills the row. Refusals, in the order slots, code, region, leave memory as it was.
+/// lowest gap of each pool that fits, and fills the row. A gap is a maximal run of addresses that no domain has. Refusals leave memory
+/// as it was, and name the first cause that stands: no row of the kind is free, no gap is as long as the code, or none is as long as
+/// the region, with the length of the longest gap.
 pub fn place(m: &mut FlatMem, kind: Kind, code_len: u16, region_len: u32) -> Result<Regions, NoRoom>
     requires code_even { code_len % 2 ≡ 0 }
     requires code_some { 2 ≤ code_len }
     requires code_most { code_len ≤ 16384 }
     requires region_even { region_len % 2 ≡ 0 }
     ensures answer { result ≡ placing (kernel_of m.old) kind code_len region_len }
+    ensures number { IfOk result (λ r. IsLeastFree (domain_rows (kernel_of m.old)) (first_number kind) (number_count kind) r.dom) }
+    ensures lowest { IfOk result (λ r. IsPlacing (kernel_of m.old) kind code_len region_len r) }
+    ensures cause { IfErr result (λ e. IsRefusal (kernel_of m.old) kind code_len region_len e) }
     ensures placed { IfOk result (λ r. Leaves m.old m.new (with_places (kernel_of m.old) r)) }
     ensures refused { OnErr result (m.new ≡ m.old) }
     ensures keeps { IsSettled m.old → IsSettled m.new }
 {
+    numbers_are_least();
+    placings_are_lowest();
     placings_keep_settled();
     let rows = domain_rows(m);
     match placed_among(rows.as_slice(), kind, code_len, region_len) {

@@ -1,12 +1,13 @@
 //! The gaps between ranges, the lowest that fits, and the longest.
 
-ghost use Rattle.std.specs.Prelude.{◌≡◌, ℕ, ◌+◌, ◌<◌, ◌≤◌, ◌++◌, [], ◌∷◌, length, cond, min, max, nat_le, IfOk};
-ghost use Rattle.place_model.specs.Gaps.{holds, taken, size, begins_from, run_end, gaps, longest, lowest, place_in};
+ghost use Rattle.std.specs.Prelude.{◌≡◌, ℕ, ◌+◌, ◌<◌, ◌≤◌, ◌++◌, [], ◌∷◌, length, cond, min, max, nat_le, IfOk, ◌↔◌, Contains};
+ghost use Rattle.place_model.specs.declared.places.Range.{Range};
+ghost use Rattle.place_model.specs.Gaps.{holds, taken, size, begins_from, run_end, gaps, longest, lowest, place_in, IsGap};
 ghost use Rattle.region_table.specs.Searching.{gaps_at, ends};
 
 use crate::rows::DOMAINS;
 use arrayvec::ArrayVec;
-use place_model::laws::places_are_lowest_gaps;
+use place_model::laws::{gaps_are_maximal_runs, places_are_lowest_gaps};
 use place_model::places::Range;
 
 /// The most gaps that the ranges of the domains leave: one before each and one behind the last.
@@ -31,10 +32,12 @@ pub fn place_in(pool: &Range, ranges: &ArrayVec<Range, DOMAINS>, need: u32) -> R
     Ok(lowest(pool.to, need, gaps.as_slice()))
 }
 
-/// The gaps that the ranges leave in a pool.
+/// The gaps that the ranges leave in a pool: the maximal runs of its addresses that no range has.
 fn gaps(pool: &Range, ranges: &ArrayVec<Range, DOMAINS>) -> ArrayVec<Range, GAPS>
-    ensures { result.items ≡ gaps pool.now ranges.now.items }
+    ensures items { result.items ≡ gaps pool.now ranges.now.items }
+    ensures runs { (g : Range) → Contains result.items g ↔ IsGap pool.now ranges.now.items g }
 {
+    gaps_are_maximal_runs();
     let taken = ranges.as_slice();
     let mut gaps = ArrayVec::new();
     push_gap(&mut gaps, pool, taken, pool.from);

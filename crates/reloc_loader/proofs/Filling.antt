@@ -1,19 +1,18 @@
 -- What the writes of loading leave together.
-use Rattle.std.proofs.Common.{◌≡◌, ℕ, ◌+◌, ◌-◌, ◌/◌, ◌%◌, ◌<◌, ◌≤◌, ◌⊎◌, List, [], ◌∷◌, length, get_or, refl, sym, ap, ◌∙◌, subst, inl, inr, arith}
-use Rattle.std.specs.Int.{bit_at}
+use Rattle.std.proofs.Common.{◌≡◌, ℕ, ◌<◌, ◌≤◌, List, [], ◌∷◌, length, get_or, refl, sym, ap, ◌∙◌, subst, inl, arith}
 use Rattle.std.specs.Prelude.{Ok, Option, None, map, ◌==◌, if◌then◌else◌, true, false}
 use Rattle.std.specs.List.{find}
 use Rattle.kernel_model.specs.declared.kinds.Kind.{Kind}
 use Rattle.kernel_model.specs.declared.kinds.Kind.TheVariants.{App, Module}
 use Rattle.kernel_model.specs.Kernel.{Kernel, function_at}
 use Rattle.kernel_model.specs.Words.{none}
-use Rattle.kernel_model.specs.Layout.{kernel_of, outside}
+use Rattle.kernel_model.specs.Layout.{kernel_of}
 use Rattle.kernel_model.specs.Queues.{Leaves}
 use Rattle.code_model.specs.declared.object.Object.{Object}
 use Rattle.code_model.specs.declared.parts.Export.{Export}
 use Rattle.place_model.specs.declared.places.Regions.{Regions}
 use Rattle.place_model.specs.Placing.{placing, with_places}
-use Rattle.place_model.specs.Marking.{IsCodeWord, IsMarkBit, Marked}
+use Rattle.place_model.specs.Marking.{IsCodeWord, Marked}
 use Rattle.place_model.specs.Settled.{IsSettledKernel, IsSettled}
 use Rattle.load_model.specs.Domains.{code_length, region_length}
 use Rattle.load_model.specs.Images.{code_image, region_image, placed_words, placed_word, placed_byte, added}

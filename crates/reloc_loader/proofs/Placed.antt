@@ -1,5 +1,5 @@
 -- The places that an object gets.
-use Rattle.std.proofs.Common.{◌≡◌, ℕ, ◌%◌, ◌<◌, List, sym, ap, ◌∙◌, subst, arith}
+use Rattle.std.proofs.Common.{◌≡◌, ℕ, ◌%◌, sym, ap, ◌∙◌, arith}
 use Rattle.std.specs.Prelude.{Result, Ok, Err, IfOk}
 use Rattle.kernel_model.specs.Kernel.{Kernel}
 use Rattle.code_model.specs.declared.object.Object.{Object}

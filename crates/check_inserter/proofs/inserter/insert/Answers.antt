@@ -1,5 +1,22 @@
-use Rattle.check_inserter.proofs.Answering.{one_answer}
+use Rattle.insert_laws.specs.Laws.{IsAcceptable}
+use Rattle.placed_unit_laws.specs.Ends.{UnitsEnd, CallsPush, UnitsStand, SourcesHide}
+use Rattle.check_inserter.proofs.Answering.{of_answer, one_answer}
 use Rattle.check_inserter.proofs.inserter.insert.Goals as goal
 
 pub returns-clause-only : goal.returns-clause-only
 returns-clause-only c answer is = one_answer c.args.o.now c.one_verdict.ensures c.one_object_has_a_text.ensures c.inserted.result answer c.inserted.ensures is
+
+pub returns-clause-accepted : goal.returns-clause-accepted
+returns-clause-accepted c = of_answer c.args.o.now IsAcceptable (c.inserted_is_accepted.ensures c.args.o.now) c.inserted.result c.inserted.ensures
+
+pub returns-clause-units : goal.returns-clause-units
+returns-clause-units c = of_answer c.args.o.now (UnitsEnd c.args.o.now) (c.unit_ends.ensures c.args.o.now) c.inserted.result c.inserted.ensures
+
+pub returns-clause-pushes : goal.returns-clause-pushes
+returns-clause-pushes c = of_answer c.args.o.now (CallsPush c.args.o.now) (c.call_pushes.ensures c.args.o.now) c.inserted.result c.inserted.ensures
+
+pub returns-clause-stand : goal.returns-clause-stand
+returns-clause-stand c = of_answer c.args.o.now (UnitsStand c.args.o.now) (c.unit_stands.ensures c.args.o.now) c.inserted.result c.inserted.ensures
+
+pub returns-clause-anywhere : goal.returns-clause-anywhere
+returns-clause-anywhere c = of_answer c.args.o.now (SourcesHide c.args.o.now) (c.source_place_hidden.ensures c.args.o.now) c.inserted.result c.inserted.ensures

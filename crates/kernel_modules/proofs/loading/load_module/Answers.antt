@@ -1,4 +1,4 @@
-use Rattle.std.proofs.Common.{◌≡◌, ℕ, List, MatchResult, refl, sym, ◌∙◌, subst, Option, None, Some}
+use Rattle.std.proofs.Common.{◌≡◌, ℕ, List, MatchResult, refl, sym, ◌∙◌, subst, None, Some}
 use Rattle.std.specs.Prelude.{Result, Ok, Err}
 use Rattle.kernel_model.specs.Layout.{kernel_of}
 use Rattle.place_model.specs.declared.places.Regions.{Regions}

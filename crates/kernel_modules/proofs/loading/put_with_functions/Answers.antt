@@ -1,7 +1,7 @@
 use Rattle.std.proofs.Common.{List, ℕ}
 use Rattle.kernel_model.specs.Layout.{kernel_of}
 use Rattle.place_model.specs.declared.places.Regions.{Regions}
-use Rattle.load_model.specs.Loading.{Loadable, Loaded, placed_row, loaded_module}
+use Rattle.load_model.specs.Loading.{Loadable, Loaded, loaded_module}
 use Rattle.kernel_modules.proofs.FunctionLemmas.{IsPlaced, is_placed, with_functions, module_settled, known_with}
 use Rattle.kernel_modules.proofs.loading.put_with_functions.Goals as goal
 

@@ -10,4 +10,4 @@ returns-clause-inside c =
     let found : c.lowest.result ≡ lowest c.args.pool.now.to c.args.need c.gaps-gaps.result.items =
     c.lowest.ensures ∙ ap (λ (l : List Range). lowest c.args.pool.now.to c.args.need l) c.as_slice-2.ensures.value in
     found_inside c.places_are_lowest_gaps.ensures.placed c.args.pool.now c.args.ranges.now.items c.gaps-gaps.result.items c.args.need c.lowest.result
-    c.requires c.if-need-eq0.false c.gaps-gaps.ensures (omega arith) found
+    c.requires c.if-need-eq0.false c.gaps-gaps.ensures.items (omega arith) found

@@ -1,4 +1,4 @@
-use Rattle.std.proofs.Common.{sym, ◌∙◌}
+use Rattle.std.proofs.Common.{sym}
 use Rattle.load_model.specs.Loading.{Loadable}
 use Rattle.reloc_loader.proofs.Filling.{loaded_placed, loaded_settled}
 use Rattle.reloc_loader.proofs.loading.loaded.Goals as goal

@@ -1,4 +1,4 @@
-use Rattle.std.proofs.Common.{◌≡◌, ℕ, ◌+◌, ◌*◌, [], subst, arith}
+use Rattle.std.proofs.Common.{◌≡◌, ℕ, ◌+◌, ◌*◌, subst, arith}
 use Rattle.load_model.specs.Domains.{Domain}
 use Rattle.reloc_loader.specs.Loading.{unmarked}
 use Rattle.reloc_loader.specs.Sections.{key_at, IsNext}

@@ -1,4 +1,4 @@
-use Rattle.std.specs.Prelude.{◌≡◌, ◌*◌, []}
+use Rattle.std.specs.Prelude.{◌≡◌, ◌*◌}
 use Rattle.std.specs.List.{flat_map}
 use Rattle.flat_mem.specs.Bytes.{patch, word_bytes}
 use Rattle.load_model.specs.Images.{placed_words}

@@ -1,4 +1,4 @@
-use Rattle.std.proofs.Common.{◌+◌, ◌*◌, ◌%◌, [], ap, arith}
+use Rattle.std.proofs.Common.{◌+◌, ◌*◌, ◌%◌, ap, arith}
 use Rattle.load_model.specs.Domains.{Domain}
 use Rattle.load_model.specs.Images.{placed_word}
 use Rattle.reloc_loader.specs.Loading.{unmarked}
