@@ -6,6 +6,7 @@
 //! placing and starting, `running` a run with its lines, and `schedule` what a script gives for the next step.
 #![tactic(auto)]
 
+pub mod laws;
 pub mod node;
 pub mod objects;
 
