@@ -12,9 +12,9 @@ use Rattle.retos_cli.specs.declared.outcome.Status.{Status}
 use Rattle.retos_cli.specs.declared.outcome.Status.TheVariants as status
 use Rattle.retos_cli.specs.declared.outcome.Refused.{Refused as Refusing}
 use Rattle.retos_cli.specs.Lines.{words_line, write_line, memory_line, read_line, refused_line}
-use Rattle.retos_cli.specs.Meaning.{IsRefused, IsPrinted, IsRefusal, IsFirstRefused, IsDone, IsOutput, Output, inputs, written, status_by, refused_answer, done_answer}
+use Rattle.retos_cli.specs.Meaning.{IsRefused, IsPrinted, IsRefusal, IsFirstRefusal, IsDone, IsOutput, Output, inputs, written, status_by, refused_answer, done_answer}
 use Rattle.retos_cli.specs.Ends.{Told, EndedBy, Finished, CutShort, CutAt, StoppedFor, Printed, line_of, status_of}
-use Rattle.retos_cli.specs.Clauses.{Call, IsOutputOf, OutputClause, RefusedClause, ReadFaultClause, NoMemoryClause, WriteFaultClause, CompleteClause, NoCommandClause, LineFor, IsUnwritten, IsReadLine, IsWriteFault, IsCut, Nothing, OfOutput, OfWrites, OfStatus, HasStatus}
+use Rattle.retos_cli.specs.Clauses.{Call, IsOutputOf, OutputClause, RefusedClause, ReadFaultClause, NoMemoryClause, WriteFaultClause, CompleteClause, NoCommandClause, LineFor, IsLeft, IsUnwritten, IsReadLine, IsWriteFault, IsCut, Nothing, OfOutput, OfWrites, OfStatus, HasStatus}
 use Rattle.retos_cli.proofs.Told.{told_map, told_all}
 
 injected : (a b : Command) → Some a ≡ Some b → a ≡ b
@@ -24,7 +24,7 @@ done-is : (c : Command) (m : Files) (x : Output) → IsOutput c m x → IsDone (
 unfolding IsDone
 done-is c m x h = h
 
-refusal-is : (c : Command) (m : Files) (r : Refusing) → IsFirstRefused m (inputs c) r → IsRefusal (Some c) m status.Refused (refused_line r)
+refusal-is : (c : Command) (m : Files) (r : Refusing) → IsFirstRefusal m c r → IsRefusal (Some c) m status.Refused (refused_line r)
 unfolding IsRefusal
 refusal-is c m r h = (refl, (r, h, refl))
 
@@ -85,24 +85,27 @@ module _ (f0 f1 : FolderState) (o0 o1 e0 e1 : SinkState) where
   -- ---- the lines
 
   refused-line-for : (c : Command) (r : Refusing) → StoppedFor c f0 f1 o0 o1 (stop.Refuse r) → LineFor (call-with (Some c)) status.Refused (refused_line r)
-  refused-line-for c r h = told_map f0.files (λ m. IsFirstRefused m (inputs c) r) (λ m. IsRefusal (Some c) m status.Refused (refused_line r)) (λ m s t. refusal-is c m r t) h.cause
+  refused-line-for c r h = told_map f0.files (λ m. IsFirstRefusal m c r) (λ m. IsRefusal (Some c) m status.Refused (refused_line r)) (λ m s t. refusal-is c m r t) h.cause
 
   read-line-for : (c : Command) (n : List ℕ) → StoppedFor c f0 f1 o0 o1 (stop.ReadFault n) → IsReadLine (call-with (Some c)) (read_line n)
-  read-line-for c n h = record { rose = h.cause.rose; name = n; last = h.cause.last; line_is = refl; reached = h.cause.reached }
+  read-line-for c n h = record { rose = h.cause.rose; name = n; last = h.cause.last; line_is = refl; is_held = h.cause.is_held; reached = h.cause.reached }
 
-  stopped-unwritten : (c : Command) (s : Stop) (given : Status) (line : List ℕ) → StoppedFor c f0 f1 o0 o1 s → LineFor (call-with (Some c)) given line → e1.bytes ≡ appended e0.bytes line → IsUnwritten (call-with (Some c)) given
-  stopped-unwritten c s given line h l w = record { out = h.out; files = h.read.files; created = h.read.created; writes = h.read.writes; line = line; line_for = l; err = w }
+  left-by : (c : Command) (s : Stop) → StoppedFor c f0 f1 o0 o1 s → IsLeft (call-with (Some c))
+  left-by c s h = record { out = h.out; files = h.read.files; created = h.read.created; writes = h.read.writes }
 
-  same-unwritten : (given : Status) (line : List ℕ) → f1 ≡ f0 → o1 ≡ o0 → LineFor (call-with None) given line → e1.bytes ≡ appended e0.bytes line → IsUnwritten (call-with None) given
-  same-unwritten given line f o l w = record {
+  same-left : f1 ≡ f0 → o1 ≡ o0 → IsLeft (call-with None)
+  same-left f o = record {
     out = o;
     files = ap (λ (s : FolderState). s.files) f;
     created = ap (λ (s : FolderState). s.created) f;
     writes = ap (λ (s : FolderState). s.write_faults) f;
-    line = line;
-    line_for = l;
-    err = w;
   }
+
+  stopped-unwritten : (c : Command) (s : Stop) (given : Status) (line : List ℕ) → StoppedFor c f0 f1 o0 o1 s → LineFor (call-with (Some c)) given line → e1.bytes ≡ appended e0.bytes line → IsUnwritten (call-with (Some c)) given
+  stopped-unwritten c s given line h l w = record { left = left-by c s h; line = line; line_for = l; err = w }
+
+  same-unwritten : (given : Status) (line : List ℕ) → f1 ≡ f0 → o1 ≡ o0 → LineFor (call-with None) given line → e1.bytes ≡ appended e0.bytes line → IsUnwritten (call-with None) given
+  same-unwritten given line f o l w = record { left = same-left f o; line = line; line_for = l; err = w }
 
   refused-whole : (c : Option Command) (o : Outcome) → Came c o → Whole (line_of o) → RefusedClause (call-with c) (status_of o)
   refused-whole (Some c) (outcome.Done true) h w = tt
@@ -179,12 +182,12 @@ module _ (f0 f1 : FolderState) (o0 o1 e0 e1 : SinkState) where
   write-whole None (outcome.Stopped stop.NoMemory) h w = tt
   write-whole None outcome.WriteFault h w = absurd h
 
-  unwritten : (c : Option Command) (given : Status) (line : List ℕ) → o1.bytes ≡ o0.bytes → f1.files ≡ f0.files → LineFor (call-with c) given line → Rose e0.faults e1.faults → GotPrefix e0.bytes e1.bytes line → IsWriteFault (call-with c)
-  unwritten c given line o f l r g = record {
+  unwritten : (c : Option Command) (given : Status) (line : List ℕ) → IsLeft (call-with c) → LineFor (call-with c) given line → Rose e0.faults e1.faults → GotPrefix e0.bytes e1.bytes line → IsWriteFault (call-with c)
+  unwritten c given line k l r g = record {
     cause = inr (inl r);
-    told = told_all f0.files (IsCut (call-with c)) (λ m s. Nothing (f ∙ s) o);
+    told = told_all f0.files (IsCut (call-with c)) (λ m s. Nothing (k.files ∙ s) (ap (λ (s : SinkState). s.bytes) k.out));
     line = line;
-    which = OfStatus given l r;
+    which = OfStatus given l r k;
     err = inr (r, g);
   }
 
@@ -195,15 +198,15 @@ module _ (f0 f1 : FolderState) (o0 o1 e0 e1 : SinkState) where
   write-cut : (c : Option Command) (o : Outcome) → Came c o → (line : List ℕ) → line_of o ≡ Some line → Rose e0.faults e1.faults → Cut o → IsWriteFault (call-with c)
   write-cut (Some c) (outcome.Done b) h line e r g = absurd (cc e)
   write-cut (Some c) outcome.BadWords h line e r g = absurd h
-  write-cut (Some c) (outcome.Stopped (stop.Refuse x)) h line e r g = unwritten (Some c) status.Refused (refused_line x) (ap (λ (s : SinkState). s.bytes) h.out) h.read.files (refused-line-for c x h) r (g (refused_line x) refl)
-  write-cut (Some c) (outcome.Stopped (stop.ReadFault n)) h line e r g = unwritten (Some c) status.ReadFault (read_line n) (ap (λ (s : SinkState). s.bytes) h.out) h.read.files (read-line-for c n h) r (g (read_line n) refl)
-  write-cut (Some c) (outcome.Stopped stop.NoMemory) h line e r g = unwritten (Some c) status.NoMemory memory_line (ap (λ (s : SinkState). s.bytes) h.out) h.read.files refl r (g memory_line refl)
+  write-cut (Some c) (outcome.Stopped (stop.Refuse x)) h line e r g = unwritten (Some c) status.Refused (refused_line x) (left-by c (stop.Refuse x) h) (refused-line-for c x h) r (g (refused_line x) refl)
+  write-cut (Some c) (outcome.Stopped (stop.ReadFault n)) h line e r g = unwritten (Some c) status.ReadFault (read_line n) (left-by c (stop.ReadFault n) h) (read-line-for c n h) r (g (read_line n) refl)
+  write-cut (Some c) (outcome.Stopped stop.NoMemory) h line e r g = unwritten (Some c) status.NoMemory memory_line (left-by c stop.NoMemory h) refl r (g memory_line refl)
   write-cut (Some c) outcome.WriteFault h line e r g = cut-by c h (inr (r, g write_line refl))
   write-cut None (outcome.Done b) h line e r g = absurd h
-  write-cut None outcome.BadWords h line e r g = unwritten None status.BadWords words_line (ap (λ (s : SinkState). s.bytes) h.1) (ap (λ (s : FolderState). s.files) h.0) (refl, refl) r (g words_line refl)
+  write-cut None outcome.BadWords h line e r g = unwritten None status.BadWords words_line (same-left h.0 h.1) (refl, refl) r (g words_line refl)
   write-cut None (outcome.Stopped (stop.Refuse x)) h line e r g = absurd h
   write-cut None (outcome.Stopped (stop.ReadFault n)) h line e r g = absurd h
-  write-cut None (outcome.Stopped stop.NoMemory) h line e r g = unwritten None status.NoMemory memory_line (ap (λ (s : SinkState). s.bytes) h.1) (ap (λ (s : FolderState). s.files) h.0) refl r (g memory_line refl)
+  write-cut None (outcome.Stopped stop.NoMemory) h line e r g = unwritten None status.NoMemory memory_line (same-left h.0 h.1) refl r (g memory_line refl)
   write-cut None outcome.WriteFault h line e r g = absurd h
 
   -- ---- completeness
@@ -216,7 +219,7 @@ module _ (f0 f1 : FolderState) (o0 o1 e0 e1 : SinkState) where
       (λ m s t. inl (record { answer = done_answer t.0; is = IsPrinted t.0 (done-is c m t.0 t.1) refl; status = same-status t.0.faulted faulted t.2 })) h.told
 
   complete-refused : (c : Command) (r : Refusing) → StoppedFor c f0 f1 o0 o1 (stop.Refuse r) → Told f0.files (Ending (Some c) status.Refused)
-  complete-refused c r h = told_map f0.files (λ m. IsFirstRefused m (inputs c) r) (Ending (Some c) status.Refused)
+  complete-refused c r h = told_map f0.files (λ m. IsFirstRefusal m c r) (Ending (Some c) status.Refused)
       (λ m s t. inl (record { answer = refused_answer status.Refused (refused_line r); is = IsRefused status.Refused (refused_line r) (refusal-is c m r t) refl; status = refl })) h.cause
 
   none-moved : Rose o0.faults o1.faults ⊎ Rose f0.write_faults f1.write_faults → Still o0.faults o1.faults → Still f0.write_faults f1.write_faults → ⊥

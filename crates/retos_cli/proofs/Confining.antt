@@ -1,38 +1,40 @@
--- The run of an application that is taken is confined.
-use Rattle.std.proofs.Common.{◌≡◌, ◌≤◌, ◌<◌, Some, None, Ok, Err, inl, inr, arith}
-use Rattle.std.proofs.lemmas.Bool.{cases_lt}
+-- The run of objects that are taken is confined.
+use Rattle.std.proofs.Common.{◌≡◌, ℕ, zero, suc, ◌≤◌, List, [], ◌∷◌, slice_get, Some, None, Ok, subst}
 use Rattle.std.specs.declared.option.Option.{Option}
 use Rattle.edge_io.specs.Known.{Files}
-use Rattle.code_model.specs.declared.object.Object.{Object}
-use Rattle.load_model.specs.Domains.{code_length, region_length}
-use Rattle.place_model.specs.declared.places.NoRoom.TheVariants.{Region}
-use Rattle.solo_model.specs.Booted.{alone, placing_alone, region_end}
-use Rattle.solo_laws.specs.Laws.{SoloLaw}
+use Rattle.code_model.specs.Verdicts.{IsAccepted}
+use Rattle.load_model.specs.Loading.{Loadable}
+use Rattle.trace_model.specs.declared.scripts.Script.{Script}
+use Rattle.node_model.specs.Nodes.{IsFitting, BootedRunLaw}
+use Rattle.retos_cli.specs.declared.command.Job.{Job}
 use Rattle.retos_cli.specs.declared.command.Command.{Command}
-use Rattle.retos_cli.specs.declared.command.Command.TheVariants.{Solo, Check, Asm, Insert}
+use Rattle.retos_cli.specs.declared.command.Command.TheVariants.{Run, Check, Asm, Insert}
+use Rattle.retos_cli.specs.declared.form.Form.{Form}
+use Rattle.retos_cli.specs.Bounds.{IsBoundedIfSome}
+use Rattle.retos_cli.specs.Commands.{command_of}
+use Rattle.retos_cli.specs.Meaning.{AreTaken, form_by}
 use Rattle.retos_cli.specs.Ends.{Told}
 use Rattle.retos_cli.specs.Clauses.{RunsConfined}
+use Rattle.retos_cli.proofs.Bounded.{command_bounded}
 use Rattle.retos_cli.proofs.Told.{told_all}
 
-abbrev pub PlacedLaw : Type 0
-PlacedLaw = (o : Object) → code_length o ≤ 32768 → 16384 < region_length o → placing_alone o ≡ Err (Region (region_length o) 16384)
+same-accepted : (a b : Loadable) → Some a ≡ Some b → IsAccepted a.object a.units → IsAccepted b.object b.units
+same-accepted a b e h = let same : a ≡ b = cc e in let P : Loadable → Type 0 = λ o. IsAccepted o.object o.units in subst P same h
 
--- an application that has room alone fits in the data pool
-pub room_is : PlacedLaw → (o : Object) → placing_alone o ≡ Ok (alone o) → region_length o ≤ 16384
-room_is law o room = elim (cases_lt 16384 (region_length o)) [
-  | inl more ↦ absurd (let refused : placing_alone o ≡ Err (Region (region_length o) 16384) = law o (omega (arith, o.form.code_most)) more in cc (room, refused))
-  | inr most ↦ most
-]
+fitting : (form : Form) (m : Files) (names : List (List ℕ)) (os : List Loadable) → AreTaken form m names os → IsFitting os
+unfolding AreTaken
+fitting form m [] [] h i o e = absurd (cc e)
+fitting form m [] (x ∷ os) h i o e = absurd h
+fitting form m (name ∷ names) [] h i o e = absurd h
+fitting form m (name ∷ names) (x ∷ os) h zero o e = same-accepted x o e h.0.fit.accepted
+fitting form m (name ∷ names) (x ∷ os) h (suc i) o e = fitting form m names os h.1 i o e
 
-fits : PlacedLaw → (o : Object) → placing_alone o ≡ Ok (alone o) → region_end o ≤ 24576
-fits law o room = omega (arith, room_is law o room)
+runs-confined : ((t : Script) → BootedRunLaw t) → (m : Files) (c : Option Command) → IsBoundedIfSome c → RunsConfined c m
+runs-confined law m None b = tt
+runs-confined law m (Some (Run job)) b = λ t os s supplied boots. law t os job.steps s (fitting (form_by job.script) m job.names os supplied.objects) b.steps boots
+runs-confined law m (Some (Check names)) b = tt
+runs-confined law m (Some (Asm from to)) b = tt
+runs-confined law m (Some (Insert from to)) b = tt
 
-runs-confined : SoloLaw → PlacedLaw → (m : Files) (c : Option Command) → RunsConfined c m
-runs-confined law placed m None = tt
-runs-confined law placed m (Some (Check names)) = tt
-runs-confined law placed m (Some (Asm from to)) = tt
-runs-confined law placed m (Some (Insert from to)) = tt
-runs-confined law placed m (Some (Solo name steps)) = λ o units taken memory boots. law o units memory steps taken.fit.suits (fits placed o taken.fit.room) taken.fit.accepted boots
-
-pub confined_clause : SoloLaw → PlacedLaw → (files : Option Files) (c : Option Command) → Told files (RunsConfined c)
-confined_clause law placed files c = told_all files (RunsConfined c) (λ m s. runs-confined law placed m c)
+pub confined_clause : ((t : Script) → BootedRunLaw t) → (files : Option Files) (words : List (List ℕ)) → Told files (RunsConfined (command_of words))
+confined_clause law files words = told_all files (RunsConfined (command_of words)) (λ m s. runs-confined law m (command_of words) (command_bounded words))

@@ -5,7 +5,8 @@ use Rattle.std.proofs.lemmas.List.{append-nil}
 use Rattle.std.proofs.lemmas.Option.{unwrap_or-slice_get}
 use Rattle.std.specs.Option.{option_map}
 use Rattle.std.specs.declared.option.Option.{Option}
-use Rattle.retos_cli.specs.Commands.{is_name, names_of, word}
+use Rattle.retos_cli.specs.Commands.{is_name, names_of}
+use Rattle.retos_cli.specs.Words.{word}
 
 -- the names so far, and those among the words that are left
 abbrev pub gathered : List (List ℕ) → List (List ℕ) → Option (List (List ℕ))

@@ -16,7 +16,7 @@ use Rattle.retos_cli.specs.Ends.{Told, Ended, OnlyRead, InputStops, CutAt, FileC
 use Rattle.retos_cli.specs.Writing.{IsPut}
 use Rattle.retos_cli.proofs.Inputs.{holds}
 use Rattle.retos_cli.proofs.Told.{told_map, told_same, told_both}
-use Rattle.retos_cli.proofs.Traces.{one_cause}
+use Rattle.retos_cli.proofs.Runs.{one_cause, command_cause}
 use Rattle.retos_cli.proofs.Sources.{put_over, cause_after, read_then}
 
 -- some object of the input has these guards
@@ -62,4 +62,4 @@ abbrev plain : List ℕ → Input
 plain name = record { name = name; form = Plain }
 
 pub insert_stopped : (f0 f1 : FolderState) (o0 o1 : SinkState) (from to : List ℕ) (s : Stop) → InputStops f0 f1 (plain from) s → OnlyRead f0 f1 → o1 ≡ o0 → Ended (Insert from to) f0 f1 o0 o1 (Stopped s)
-insert_stopped f0 f1 o0 o1 from to s h l e = record { read = l; cause = one_cause f0 f1 (plain from) s h; out = e }
+insert_stopped f0 f1 o0 o1 from to s h l e = record { read = l; cause = command_cause (Insert from to) f0 f1 s (one_cause f0 f1 (plain from) s h); out = e }

@@ -19,7 +19,7 @@ use Rattle.retos_cli.specs.declared.outcome.Why.TheVariants as why
 use Rattle.retos_cli.specs.Meaning.{Taken, Assembles, Refuses}
 use Rattle.retos_cli.specs.declared.outcome.Stop.{Stop}
 use Rattle.retos_cli.specs.Judging.{stop_of}
-use Rattle.retos_cli.specs.Ends.{Told, RefusesInput, OnlyRead, InputStops}
+use Rattle.retos_cli.specs.Ends.{Told, RefusesInput, OnlyRead, InputStops, IsHeld}
 
 pub holds : (h : Option (List ℕ)) (bytes : List ℕ) → Answers h (Ok bytes) → Some bytes ≡ h
 holds None bytes a = absurd a
@@ -62,6 +62,14 @@ long-by : (files : Option Files) (name : List ℕ) (form : Form) → AnswersOf f
 long-by None name form a = tt
 long-by (Some m) name form a = record { name_is = refl; refuses = too-long form (held m name) a }
 
+held-some : (h : Option (List ℕ)) → Answers h (Err fault.Failed) → (bytes : List ℕ) × (h ≡ Some bytes)
+held-some None a = absurd a
+held-some (Some all) a = (all, refl)
+
+held-by : (files : Option Files) (name : List ℕ) → AnswersOf files name (Err fault.Failed) → Told files (λ m. IsHeld m name)
+held-by None name a = tt
+held-by (Some m) name a = held-some (held m name) a
+
 pub unread_stops : (f0 f1 : FolderState) (name : List ℕ) (form : Form) (e : InputFault) (s : Stop) → AnswersOf f0.files name (Err e) → ReadLeaves f0 f1 name (input_failed {T = List ℕ} (Err e)) → s ≡ stop_of name e
     → InputStops f0 f1 (record { name = name; form = form }) s
 unread_stops f0 f1 name form e s a r w = let P : Stop → Type 0 = λ t. InputStops f0 f1 (record { name = name; form = form }) t in subst P (sym w) (unread-by f0 f1 name form e a r)
@@ -69,7 +77,7 @@ unread_stops f0 f1 name form e s a r w = let P : Stop → Type 0 = λ t. InputSt
     unread-by : (f0 f1 : FolderState) (name : List ℕ) (form : Form) (e : InputFault) → AnswersOf f0.files name (Err e) → ReadLeaves f0 f1 name (input_failed {T = List ℕ} (Err e)) → InputStops f0 f1 (record { name = name; form = form }) (stop_of name e)
     unread-by f0 f1 name form fault.Absent a r = absent-by f0.files name form a
     unread-by f0 f1 name form fault.TooLong a r = long-by f0.files name form a
-    unread-by f0 f1 name form fault.Failed a r = record { name_is = refl; rose = r.rose refl; last = r.last }
+    unread-by f0 f1 name form fault.Failed a r = record { name_is = refl; is_held = held-by f0.files name a; rose = r.rose refl; last = r.last }
     unread-by f0 f1 name form fault.Memory a r = tt
 
 pub assembled_told : (files : Option Files) (name bytes text : List ℕ) (o : Object) → AnswersOf files name (Ok bytes) → text ≡ bytes → length bytes ≤ 1048576 → assembled text ≡ Ok (fields o) → Told files (λ m. Assembles (held m name) o)

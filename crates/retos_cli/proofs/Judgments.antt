@@ -9,13 +9,13 @@ use Rattle.code_model.specs.declared.verdict.Verdict.TheVariants as verdict
 use Rattle.asm_model.specs.declared.fault.AsmKind.{AsmKind}
 use Rattle.asm_model.specs.FirstPass.{fault}
 use Rattle.asm_model.specs.Assembled.{assembled}
+use Rattle.trace_model.specs.Grammar.{script_of}
 use Rattle.insert_model.specs.declared.fault.InsertKind.{InsertKind}
 use Rattle.insert_model.specs.Faults.{IsFault}
 use Rattle.retos_cli.specs.declared.form.Form.{Form}
-use Rattle.retos_cli.specs.declared.form.Form.TheVariants.{Source, Plain, Checked, Runnable}
+use Rattle.retos_cli.specs.declared.form.Form.TheVariants.{Source, Plain, Checked, Application, Script as Scripted}
 use Rattle.retos_cli.specs.declared.outcome.Why.TheVariants as why
-use Rattle.retos_cli.specs.Meaning.{AsksObject, AsksCheck, Refuses, Suits, Runs, LacksRoom}
-use Rattle.place_model.specs.declared.places.NoRoom.{NoRoom}
+use Rattle.retos_cli.specs.Meaning.{AsksObject, AsksCheck, Refuses, Suits}
 
 pub refuses_unsuited : (form : Form) (o : Object) → AsksCheck form → length (object_bytes o) ≤ 1048576 → (Suits form o → ⊥) → Refuses form (Some (object_bytes o)) why.NotApplication
 unfolding Refuses
@@ -25,13 +25,10 @@ pub refuses_check : (form : Form) (o : Object) (rule place : ℕ) → AsksCheck 
 unfolding Refuses
 refuses_check form o rule place a l s v = (a, o, (refl, l), s, v)
 
-pub refuses_yet : (form : Form) (o : Object) (units : List ℕ) → AsksCheck form → length (object_bytes o) ≤ 1048576 → Suits form o → IsAccepted o units → (Runs form o → ⊥) → Refuses form (Some (object_bytes o)) why.NotYet
-unfolding Refuses
-refuses_yet form o units k l s a n = (k, o, units, (refl, l), s, a, n)
-
 asks-object : (form : Form) → AsksCheck form → AsksObject form
 asks-object Checked a = tt
-asks-object Runnable a = tt
+asks-object Application a = tt
+asks-object Scripted a = absurd a
 asks-object Plain a = absurd a
 asks-object Source a = absurd a
 
@@ -47,10 +44,10 @@ pub refuses_form : (form : Form) (text : List ℕ) (kind : FormKind) (at : ℕ) 
 unfolding Refuses
 refuses_form form text k at a l e = (asks-object form a, text, refl, l, e)
 
-pub refuses_room : (form : Form) (o : Object) (units : List ℕ) (cause : NoRoom) → AsksCheck form → length (object_bytes o) ≤ 1048576 → Suits form o → IsAccepted o units → Runs form o → LacksRoom form o cause → Refuses form (Some (object_bytes o)) (why.Room cause)
-unfolding Refuses
-refuses_room form o units cause k l s a r n = (k, o, units, (refl, l), s, a, r, n)
-
 pub refuses_line : (source : List ℕ) (line : ℕ) (k : AsmKind) → length source ≤ 1048576 → assembled source ≡ Err (fault line k) → Refuses Source (Some source) (why.Line line k)
 unfolding Refuses
 refuses_line source line k l e = (refl, source, refl, l, e)
+
+pub refuses_script : (text : List ℕ) (line : ℕ) → length text ≤ 1048576 → script_of text ≡ Err line → Refuses Scripted (Some text) (why.Script line)
+unfolding Refuses
+refuses_script text line l e = (refl, text, refl, l, e)

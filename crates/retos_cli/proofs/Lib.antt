@@ -1,13 +1,14 @@
+pub mod Bounded
 pub mod Clausal
+pub mod Confining
 pub mod Counting
-pub mod Forms
 pub mod Gathered
 pub mod Gathering
 pub mod Guarding
 pub mod Inputs
 pub mod Joined
 pub mod Judgments
+pub mod Pieces
+pub mod Runs
 pub mod Sources
 pub mod Told
-pub mod Traces
-pub mod Confining

@@ -7,7 +7,7 @@ use Rattle.edge_io.specs.Causes.{Rose}
 use Rattle.code_model.specs.declared.object.Object.{Object}
 use Rattle.object_form.specs.Spelling.{object_bytes}
 use Rattle.retos_cli.specs.declared.command.Command.{Command}
-use Rattle.retos_cli.specs.declared.command.Command.TheVariants.{Solo, Check, Asm, Insert}
+use Rattle.retos_cli.specs.declared.command.Command.TheVariants.{Run, Check, Asm, Insert}
 use Rattle.retos_cli.specs.declared.form.Form.TheVariants.{Source}
 use Rattle.retos_cli.specs.declared.outcome.Outcome.{Outcome}
 use Rattle.retos_cli.specs.declared.outcome.Outcome.TheVariants.{Done, BadWords, Stopped, WriteFault}
@@ -18,7 +18,7 @@ use Rattle.retos_cli.specs.Meaning.{Input, Output, Assembles, IsOutput, written}
 use Rattle.retos_cli.specs.Ends.{Told, Ended, OnlyRead, InputStops, CutAt, FileCut, MayRun}
 use Rattle.retos_cli.specs.Writing.{IsPut}
 use Rattle.retos_cli.proofs.Told.{told_map, told_same, told_both}
-use Rattle.retos_cli.proofs.Traces.{one_cause}
+use Rattle.retos_cli.proofs.Runs.{one_cause, command_cause}
 
 pub may_create_after : (a b : Option (List ℕ)) (name : List ℕ) → b ≡ a → MayCreate a name → MayCreate b name
 may_create_after a b name e m = let P : Option (List ℕ) → Type 0 = λ c. MayCreate c name in subst P (sym e) m
@@ -69,7 +69,7 @@ abbrev sourced : List ℕ → Input
 sourced name = record { name = name; form = Source }
 
 pub asm_stopped : (f0 f1 : FolderState) (o0 o1 : SinkState) (from to : List ℕ) (s : Stop) → InputStops f0 f1 (sourced from) s → OnlyRead f0 f1 → o1 ≡ o0 → Ended (Asm from to) f0 f1 o0 o1 (Stopped s)
-asm_stopped f0 f1 o0 o1 from to s h l e = record { read = l; cause = one_cause f0 f1 (sourced from) s h; out = e }
+asm_stopped f0 f1 o0 o1 from to s h l e = record { read = l; cause = command_cause (Asm from to) f0 f1 s (one_cause f0 f1 (sourced from) s h); out = e }
 
 -- where no name was created any command may run
 pub may_run_fresh : (c : Option Command) (created : Option (List ℕ)) → created ≡ None → MayRun c created
@@ -77,7 +77,7 @@ may_run_fresh c created e = let P : Option (List ℕ) → Type 0 = λ n. MayRun 
   where
     by-command : (c : Option Command) → MayRun c None
     by-command None = tt
-    by-command (Some (Solo name steps)) = tt
+    by-command (Some (Run job)) = tt
     by-command (Some (Check names)) = tt
     by-command (Some (Asm from to)) = tt
     by-command (Some (Insert from to)) = tt

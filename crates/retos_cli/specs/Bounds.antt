@@ -1,12 +1,18 @@
 -- The numbers of a command are in their ranges.
-use Rattle.std.specs.Prelude.{◌≤◌, None, Some}
+use Rattle.std.specs.Prelude.{◌≤◌, length, None, Some}
 use Rattle.std.specs.declared.option.Option.{Option}
+use Rattle.retos_cli.specs.declared.command.Job.{Job}
 use Rattle.retos_cli.specs.declared.command.Command.{Command}
-use Rattle.retos_cli.specs.declared.command.Command.TheVariants.{Solo, Check, Asm, Insert}
+use Rattle.retos_cli.specs.declared.command.Command.TheVariants.{Run, Check, Asm, Insert}
+
+-- at most 10,000,000 steps of at most 16 objects
+pub record IsBoundedJob (job : Job) : Type 0 where
+  pub steps : job.steps ≤ 10000000
+  pub few : length job.names ≤ 16
 
 abbrev pub IsBounded : Command → Type 0
-IsBounded (Solo name steps) = steps ≤ 10000000
-IsBounded (Check names) = Unit {0}
+IsBounded (Run job) = IsBoundedJob job
+IsBounded (Check names) = length names ≤ 16
 IsBounded (Asm from to) = Unit {0}
 IsBounded (Insert from to) = Unit {0}
 

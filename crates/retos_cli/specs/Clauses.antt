@@ -3,19 +3,20 @@ use Rattle.std.specs.Prelude.{◌≡◌, ℕ, ◌⊎◌, List, Some, None}
 use Rattle.std.specs.declared.option.Option.{Option}
 use Rattle.edge_io.specs.Known.{Files, FolderState, SinkState, appended, held, GotPrefix}
 use Rattle.edge_io.specs.Causes.{Rose, Still}
-use Rattle.code_model.specs.declared.object.Object.{Object}
 use Rattle.retos_cli.specs.declared.command.Command.{Command}
-use Rattle.retos_cli.specs.declared.command.Command.TheVariants.{Solo, Check, Asm, Insert}
-use Rattle.retos_cli.specs.declared.form.Form.TheVariants.{Runnable}
+use Rattle.retos_cli.specs.declared.command.Command.TheVariants.{Run, Check, Asm, Insert}
 use Rattle.retos_cli.specs.declared.outcome.Status.{Status}
 use Rattle.retos_cli.specs.declared.outcome.Status.TheVariants.{Done, Refused, BadWords, ReadFault, WriteFault, NoMemory, Faulted}
 use Rattle.retos_cli.specs.Commands.{command_of}
 use Rattle.retos_cli.specs.Lines.{words_line, write_line, memory_line, read_line}
-use Rattle.retos_cli.specs.Meaning.{Answer, IsAnswer, IsRefusal, Output, IsDone, status_by, inputs, written, IsReached, Taken}
-use Rattle.retos_cli.specs.Ends.{Told, CutAt}
-use Rattle.solo_model.specs.Running.{booted}
-use Rattle.solo_model.specs.Booted.{IsBootMemory}
-use Rattle.solo_laws.specs.Sound.{AllConfined}
+use Rattle.retos_cli.specs.Meaning.{Answer, IsAnswer, IsRefusal, Output, IsDone, status_by, inputs, written, IsReached, IsSupplied}
+use Rattle.retos_cli.specs.Ends.{Told, CutAt, IsHeld}
+use Rattle.retos_cli.specs.declared.command.Job.{Job}
+use Rattle.load_model.specs.Loading.{Loadable}
+use Rattle.trace_model.specs.declared.scripts.Script.{Script}
+use Rattle.node_model.specs.Systems.{System}
+use Rattle.node_model.specs.Booting.{booted}
+use Rattle.node_model.specs.Nodes.{IsSoundRun}
 
 -- a call of the top: the command that its words are, and the folder, out and err before and after
 pub record Call : Type 0 where
@@ -58,6 +59,7 @@ pub record IsReadLine (call : Call) (line : List ℕ) : Type 0 where
   pub name : List ℕ
   pub last : call.f1.last_failed ≡ Some name
   pub line_is : line ≡ read_line name
+  pub is_held : Told call.f0.files (λ m. IsHeld m name)
   pub reached : Told call.f0.files (λ m. ReachedBy call.command m name)
 
 abbrev pub LineFor : Call → Status → List ℕ → Type 0
@@ -69,12 +71,16 @@ LineFor call BadWords line = (call.command ≡ None) × (line ≡ words_line)
 LineFor call ReadFault line = IsReadLine call line
 LineFor call NoMemory line = line ≡ memory_line
 
--- out and the folder's files, created name and count of write faults are unchanged, and err got the status's line
-pub record IsUnwritten (call : Call) (given : Status) : Type 0 where
+-- out and the folder's files, created name and count of write faults are unchanged
+pub record IsLeft (call : Call) : Type 0 where
   pub out : call.o1 ≡ call.o0
   pub files : call.f1.files ≡ call.f0.files
   pub created : call.f1.created ≡ call.f0.created
   pub writes : call.f1.write_faults ≡ call.f0.write_faults
+
+-- the same, and err got the status's line
+pub record IsUnwritten (call : Call) (given : Status) : Type 0 where
+  pub left : IsLeft call
   pub line : List ℕ
   pub line_for : LineFor call given line
   pub err : call.e1.bytes ≡ appended call.e0.bytes line
@@ -94,10 +100,10 @@ NoMemoryClause call _ = Unit {0}
 
 -- ---- status 4
 
--- the line on err, and why it may be this one
+-- The line on err, and why it may be this one. Behind the line of another status out and the folder are as they were
 pub data IsCutLine (call : Call) (line : List ℕ) : Type 0 where
   OfWrites : line ≡ write_line → Rose call.o0.faults call.o1.faults ⊎ Rose call.f0.write_faults call.f1.write_faults → IsCutLine call line
-  OfStatus : (given : Status) → LineFor call given line → Rose call.e0.faults call.e1.faults → IsCutLine call line
+  OfStatus : (given : Status) → LineFor call given line → Rose call.e0.faults call.e1.faults → IsLeft call → IsCutLine call line
 
 -- the files are as before and nothing is on out, or the output was cut short
 pub data IsCut (call : Call) (m : Files) : Type 0 where
@@ -140,14 +146,17 @@ NoCommandClause call given = call.command ≡ None → (given ≡ BadWords) ⊎ 
 
 -- ---- confinement
 
--- where the words run an application that is taken, each system of the run from its memory at boot is sound, and each record is confined by
--- the system before it
+-- Where a run has all its inputs and there is room for its objects: at every number of steps up to the run's end the system is sound,
+-- each record is confined by the system before it and keeps the others, and a fault leaves its row faulted
+abbrev pub IsConfinedJob : Files → Job → Type 0
+IsConfinedJob m job = (t : Script) (os : List Loadable) (s : System) → IsSupplied m job t os → booted os ≡ Ok s → IsSoundRun job.steps t s
+
 abbrev pub RunsConfined : Option Command → Files → Type 0
 RunsConfined None m = Unit {0}
+RunsConfined (Some (Run job)) m = IsConfinedJob m job
 RunsConfined (Some (Check names)) m = Unit {0}
 RunsConfined (Some (Asm from to)) m = Unit {0}
 RunsConfined (Some (Insert from to)) m = Unit {0}
-RunsConfined (Some (Solo name steps)) m = (o : Object) (units : List ℕ) → Taken Runnable (held m name) o units → (memory : List ℕ) → IsBootMemory o units memory → AllConfined o units steps (booted o memory)
 
 abbrev pub ConfinedClause : Call → Type 0
 ConfinedClause call = Told call.f0.files (RunsConfined call.command)

@@ -1,9 +1,11 @@
 -- The words of the commands.
-use Rattle.std.specs.Prelude.{ℕ, ◌+◌, ◌-◌, ◌*◌, ◌==◌, Bool, ◌&&◌, not, nat_le, nat_lt, bytes_eq, List, [], ◌∷◌, length, drop, slice_index, slice_get, unwrap_or, codes, Some, None, if◌then◌else◌}
+use Rattle.std.specs.Prelude.{ℕ, ◌+◌, ◌-◌, ◌*◌, ◌==◌, Bool, ◌&&◌, not, nat_le, nat_lt, bytes_eq, List, [], ◌∷◌, length, drop, slice_index, codes, Some, None, if◌then◌else◌}
 use Rattle.std.specs.Option.{option_map, option_and_then}
 use Rattle.std.specs.declared.option.Option.{Option}
+use Rattle.retos_node.specs.declared.node.Show.{Show}
+use Rattle.retos_cli.specs.Words.{word}
 use Rattle.retos_cli.specs.declared.command.Command.{Command}
-use Rattle.retos_cli.specs.declared.command.Command.TheVariants.{Solo, Check, Asm, Insert}
+use Rattle.retos_cli.specs.declared.command.Command.TheVariants.{Run, Check, Asm, Insert}
 
 -- a name has 1 to 255 bytes and doesn't begin with a dash
 abbrev pub is_name : List ℕ → Bool
@@ -29,13 +31,46 @@ digits_value n (b ∷ bs) = if nat_le 48 b && nat_le b 57 && nat_le n 10000000 t
 abbrev pub steps_of : List ℕ → Option ℕ
 steps_of w = if slice_index w 0 == 48 then None else digits_value 0 w
 
-abbrev pub word : List (List ℕ) → ℕ → List ℕ
-word words at = unwrap_or (slice_get words at) []
+-- ---- options: `--all` directly behind the first word
+
+abbrev pub is_all : List ℕ → Bool
+is_all w = bytes_eq w (codes "--all")
+
+abbrev pub show_of : List (List ℕ) → Show
+show_of words = record { all = is_all (word words 1) }
+
+-- where the words behind the options begin
+abbrev pub behind_options : List (List ℕ) → ℕ
+behind_options words = if is_all (word words 1) then 2 else 1
+
+-- ---- each command
+
+-- a run of one application without a script
+abbrev pub solo_job : Show → List ℕ → ℕ → Command
+solo_job show name steps = Run (record { show = show; script = None; steps = steps; names = name ∷ [] })
+
+-- an application and a number of steps, from this word on
+abbrev pub solo_from : ℕ → List (List ℕ) → Option Command
+solo_from at words =
+    if length words == at + 2 then option_and_then (λ name. option_map (solo_job (show_of words) name) (steps_of (word words (at + 1)))) (name_of (word words at))
+    else None
 
 abbrev pub solo_of : List (List ℕ) → Option Command
-solo_of words =
-    if length words == 3 then option_and_then (λ name. option_map (λ steps. Solo name steps) (steps_of (word words 2))) (name_of (word words 1))
+solo_of words = solo_from (behind_options words) words
+
+-- a run of objects under a script
+abbrev pub run_job : Show → List ℕ → ℕ → List (List ℕ) → Command
+run_job show script steps names = Run (record { show = show; script = Some script; steps = steps; names = names })
+
+-- a script, a number of steps and 1 to 16 names, from this word on
+abbrev pub run_from : ℕ → List (List ℕ) → Option Command
+run_from at words =
+    if nat_le (at + 3) (length words) && nat_le (length words) (at + 18)
+    then option_and_then (λ script. option_and_then (λ steps. option_map (run_job (show_of words) script steps) (names_of (drop (at + 2) words))) (steps_of (word words (at + 1)))) (name_of (word words at))
     else None
+
+abbrev pub run_of : List (List ℕ) → Option Command
+run_of words = run_from (behind_options words) words
 
 -- 1 to 16 names
 abbrev pub check_of : List (List ℕ) → Option Command
@@ -58,5 +93,6 @@ insert_of words =
 unfoldable pub command_of : List (List ℕ) → Option Command
 command_of words =
     if bytes_eq (word words 0) (codes "solo") then solo_of words
+    else (if bytes_eq (word words 0) (codes "run") then run_of words
     else (if bytes_eq (word words 0) (codes "check") then check_of words else (if bytes_eq (word words 0) (codes "asm") then asm_of words
-    else (if bytes_eq (word words 0) (codes "insert") then insert_of words else None)))
+    else (if bytes_eq (word words 0) (codes "insert") then insert_of words else None))))

@@ -1,5 +1,5 @@
 -- What a command came to, and what stands then.
-use Rattle.std.specs.Prelude.{◌≡◌, ℕ, ◌<◌, ◌≤◌, ◌⊎◌, Bool, List, ◌++◌, length, Some, None}
+use Rattle.std.specs.Prelude.{◌≡◌, ℕ, ◌<◌, ◌≤◌, ◌⊎◌, Bool, List, [], ◌++◌, length, Some, None}
 use Rattle.std.specs.FinMap.{insert}
 use Rattle.std.specs.declared.option.Option.{Option}
 use Rattle.std.specs.declared.result.Result.{Result}
@@ -8,7 +8,7 @@ use Rattle.edge_io.specs.Known.{Files, FolderState, SinkState, appended, held, G
 use Rattle.edge_io.specs.Causes.{Rose}
 use Rattle.code_model.specs.declared.object.Object.{Object}
 use Rattle.retos_cli.specs.declared.command.Command.{Command}
-use Rattle.retos_cli.specs.declared.command.Command.TheVariants.{Solo, Check, Asm, Insert}
+use Rattle.retos_cli.specs.declared.command.Command.TheVariants.{Run, Check, Asm, Insert}
 use Rattle.retos_cli.specs.declared.outcome.Stop.{Stop}
 use Rattle.retos_cli.specs.declared.outcome.Stop.TheVariants.{Refuse, ReadFault, NoMemory}
 use Rattle.retos_cli.specs.declared.outcome.Outcome.{Outcome}
@@ -16,9 +16,13 @@ use Rattle.retos_cli.specs.declared.outcome.Outcome.TheVariants.{Done, BadWords,
 use Rattle.retos_cli.specs.declared.outcome.Refused.{Refused}
 use Rattle.retos_cli.specs.declared.outcome.Status.{Status}
 use Rattle.retos_cli.specs.declared.outcome.Status.TheVariants as status
-use Rattle.retos_cli.specs.declared.form.Form.TheVariants.{Source, Plain}
+use Rattle.retos_cli.specs.declared.form.Form.{Form}
+use Rattle.retos_cli.specs.declared.form.Form.TheVariants.{Source, Plain, Script as Scripted}
+use Rattle.load_model.specs.Loading.{Loadable}
+use Rattle.trace_model.specs.declared.scripts.Script.{Script}
+use Rattle.retos_cli.specs.declared.command.Job.{Job}
 use Rattle.retos_cli.specs.Lines.{words_line, write_line, memory_line, read_line, refused_line}
-use Rattle.retos_cli.specs.Meaning.{Input, Output, Refuses, Taken, Assembles, Guards, IsFirstRefused, IsReached, IsOutput, inputs, written, status_by}
+use Rattle.retos_cli.specs.Meaning.{Input, Output, Refuses, Taken, Assembles, Guards, Scripts, AreTaken, IsScriptOf, IsSupplied, IsFirstRefused, IsFirstRefusal, IsReached, IsOutput, inputs, job_inputs, named_inputs, behind_script, written, status_by}
 
 -- a fact about the files, where they are told
 abbrev pub Told : Option Files → (Files → Type 0) → Type 0
@@ -37,9 +41,14 @@ pub record RefusesInput (m : Files) (input : Input) (r : Refused) : Type 0 where
   pub name_is : r.name ≡ input.name
   pub refuses : Refuses input.form (held m input.name) r.why
 
+-- the name is held
+abbrev pub IsHeld : Files → List ℕ → Type 0
+IsHeld m name = (bytes : List ℕ) × (held m name ≡ Some bytes)
+
 -- the read of this input failed in this call
 pub record FailedAt (f0 f1 : FolderState) (input : Input) (failed : List ℕ) : Type 0 where
   pub name_is : failed ≡ input.name
+  pub is_held : Told f0.files (λ m. IsHeld m failed)
   pub rose : Rose f0.read_faults f1.read_faults
   pub last : f1.last_failed ≡ Some failed
 
@@ -64,7 +73,14 @@ abbrev pub PlainEnds : FolderState → FolderState → List ℕ → Result Objec
 PlainEnds f0 f1 name (Ok q) = Told f0.files (λ m. (o : Object) × Guards (held m name) o q)
 PlainEnds f0 f1 name (Err stop) = InputStops f0 f1 (record { name = name; form = Plain }) stop
 
+-- what reading one script came to
+abbrev pub TextEnds : FolderState → FolderState → List ℕ → Result Script Stop → Type 0
+TextEnds f0 f1 name (Ok t) = Told f0.files (λ m. Scripts (held m name) t)
+TextEnds f0 f1 name (Err stop) = InputStops f0 f1 (record { name = name; form = Scripted }) stop
+
+-- the read of an input failed in this call, before which nothing is refused
 pub record FailedRead (all : List Input) (f0 f1 : FolderState) (failed : List ℕ) : Type 0 where
+  pub is_held : Told f0.files (λ m. IsHeld m failed)
   pub rose : Rose f0.read_faults f1.read_faults
   pub last : f1.last_failed ≡ Some failed
   pub reached : Told f0.files (λ m. IsReached m all failed)
@@ -74,6 +90,27 @@ abbrev pub StopCause : List Input → FolderState → FolderState → Stop → T
 StopCause all f0 f1 (Refuse r) = Told f0.files (λ m. IsFirstRefused m all r)
 StopCause all f0 f1 (ReadFault failed) = FailedRead all f0 f1 failed
 StopCause all f0 f1 NoMemory = Unit {0}
+
+-- what the script of a run came to, if one is named
+abbrev pub ScriptEnds : FolderState → FolderState → (script : Option (List ℕ)) → Result Script Stop → Type 0
+ScriptEnds f0 f1 script (Ok t) = Told f0.files (λ m. IsScriptOf m script t)
+ScriptEnds f0 f1 script (Err stop) = StopCause (behind_script script []) f0 f1 stop
+
+-- what taking objects came to
+abbrev pub ObjectsEnd : Form → FolderState → FolderState → List (List ℕ) → Result (List Loadable) Stop → Type 0
+ObjectsEnd form f0 f1 names (Ok os) = Told f0.files (λ m. AreTaken form m names os)
+ObjectsEnd form f0 f1 names (Err stop) = StopCause (named_inputs form names) f0 f1 stop
+
+-- what all inputs of a run came to
+abbrev pub SupplyEnds : FolderState → FolderState → Job → Result (Script × List Loadable) Stop → Type 0
+SupplyEnds f0 f1 job (Ok x) = Told f0.files (λ m. IsSupplied m job x.0 x.1)
+SupplyEnds f0 f1 job (Err stop) = StopCause (job_inputs job) f0 f1 stop
+
+-- why a command ends before it has written anything
+abbrev pub CommandStops : Command → FolderState → FolderState → Stop → Type 0
+CommandStops command f0 f1 (Refuse r) = Told f0.files (λ m. IsFirstRefusal m command r)
+CommandStops command f0 f1 (ReadFault failed) = FailedRead (inputs command) f0 f1 failed
+CommandStops command f0 f1 NoMemory = Unit {0}
 
 -- all was written
 pub record Finished (command : Command) (f0 f1 : FolderState) (o0 o1 : SinkState) (faulted : Bool) : Type 0 where
@@ -106,7 +143,7 @@ pub record CutShort (command : Command) (f0 f1 : FolderState) (o0 o1 : SinkState
 -- the command ended before it had written anything
 pub record StoppedFor (command : Command) (f0 f1 : FolderState) (o0 o1 : SinkState) (stop : Stop) : Type 0 where
   pub read : OnlyRead f0 f1
-  pub cause : StopCause (inputs command) f0 f1 stop
+  pub cause : CommandStops command f0 f1 stop
   pub out : o1 ≡ o0
 
 -- what a command came to
@@ -129,7 +166,7 @@ EndedBy None f0 f1 o0 o1 WriteFault = ⊥
 -- where the words are a command with an output name, no other name was created
 abbrev pub MayRun : Option Command → Option (List ℕ) → Type 0
 MayRun None created = Unit {0}
-MayRun (Some (Solo name steps)) created = Unit {0}
+MayRun (Some (Run job)) created = Unit {0}
 MayRun (Some (Check names)) created = Unit {0}
 MayRun (Some (Asm from to)) created = MayCreate created to
 MayRun (Some (Insert from to)) created = MayCreate created to

@@ -1,11 +1,11 @@
+pub mod Words
 pub mod Commands
+pub mod Bounds
 pub mod Lines
-pub mod Entries
 pub mod Meaning
 pub mod Ends
 pub mod Clauses
 pub mod Writing
 pub mod Judging
 pub mod Tracing
-pub mod Bounds
 pub mod Statuses

@@ -3,6 +3,7 @@ use Rattle.std.specs.Prelude.{ℕ, zero, suc, ◌+◌, ◌/◌, ◌%◌, List, [
 use Rattle.std.specs.Int.{bit_at}
 use Rattle.line_text.specs.Hexadecimal.{hex_word}
 use Rattle.code_model.specs.declared.object.Object.{Object}
+use Rattle.load_model.specs.Loading.{Loadable}
 use Rattle.object_form.specs.declared.fault.FormKind.{FormKind}
 use Rattle.object_form.specs.declared.fault.FormKind.TheVariants as kinds
 use Rattle.asm_model.specs.declared.fault.AsmKind.{AsmKind}
@@ -10,7 +11,7 @@ use Rattle.asm_model.specs.declared.fault.AsmKind.TheVariants as asm
 use Rattle.insert_model.specs.declared.fault.InsertKind.{InsertKind}
 use Rattle.insert_model.specs.declared.fault.InsertKind.TheVariants as guards
 use Rattle.retos_cli.specs.declared.outcome.Why.{Why}
-use Rattle.retos_cli.specs.declared.outcome.Why.TheVariants.{Absent, TooLong, Form, NotApplication, Check, NotYet, Room, Line, Insert}
+use Rattle.retos_cli.specs.declared.outcome.Why.TheVariants.{Absent, TooLong, Form, NotApplication, Check, Room, Line, Insert, Script}
 use Rattle.place_model.specs.declared.places.NoRoom.{NoRoom}
 use Rattle.place_model.specs.declared.places.NoRoom.TheVariants as rooms
 use Rattle.retos_cli.specs.declared.outcome.Refused.{Refused}
@@ -70,9 +71,9 @@ why_text TooLong = codes ": too long"
 why_text (Form kind at) = codes ": form " ++ form_word kind ++ codes " at " ++ decimal at
 why_text NotApplication = codes ": not an application"
 why_text (Check rule place) = codes ": check rule " ++ decimal rule ++ codes " at " ++ hex_word place
-why_text NotYet = codes ": not yet"
 why_text (Room cause) = room_text cause
 why_text (Line line kind) = codes ": line " ++ decimal line ++ codes ": " ++ asm_word kind
+why_text (Script line) = codes ": line " ++ decimal line ++ codes ": script"
 why_text (Insert kind at) = codes ": insert " ++ insert_word kind ++ codes " at " ++ decimal at
 
 unfoldable pub refused_line : Refused → List ℕ
@@ -86,6 +87,12 @@ marked_below units (suc k) = marked_below units k + bit_at (slice_index_or units
 -- the line of an accepted object: its code words and its units
 unfoldable pub accepted_line : List ℕ → Object → List ℕ → List ℕ
 accepted_line name o units = name ++ codes ": accepted " ++ decimal (length o.code) ++ codes " words " ++ decimal (marked_below units (length o.code)) ++ codes " units" ++ 10 ∷ []
+
+-- the lines of objects that are accepted, by their names
+unfoldable pub accepted_lines : List (List ℕ) → List Loadable → List ℕ
+accepted_lines [] os = []
+accepted_lines (name ∷ names) [] = []
+accepted_lines (name ∷ names) (o ∷ os) = accepted_line name o.object o.units ++ accepted_lines names os
 
 -- the line of an object that is assembled and written: its code words
 unfoldable pub assembled_line : List ℕ → Object → List ℕ

@@ -13,21 +13,25 @@ use Rattle.asm_model.specs.Assembled.{assembled}
 use Rattle.insert_model.specs.Faults.{IsFault, IsInserted}
 use Rattle.code_model.specs.Verdicts.{IsAccepted, IsVerdict}
 use Rattle.code_model.specs.declared.verdict.Verdict.TheVariants as verdict
-use Rattle.solo_model.specs.Running.{run, booted, count_faults}
-use Rattle.solo_model.specs.Trace.{trace_text}
+use Rattle.load_model.specs.Loading.{Loadable}
+use Rattle.trace_model.specs.declared.scripts.Script.{Script}
+use Rattle.trace_model.specs.Grammar.{script_of, empty_script}
+use Rattle.node_model.specs.Systems.{System}
+use Rattle.node_model.specs.Runs.{run, faults}
+use Rattle.node_model.specs.Booting.{booted, Refusal}
+use Rattle.node_model.specs.Nodes.{trace_text}
+use Rattle.retos_cli.specs.declared.command.Job.{Job}
 use Rattle.retos_cli.specs.declared.command.Command.{Command}
-use Rattle.retos_cli.specs.declared.command.Command.TheVariants.{Solo, Check, Asm, Insert}
+use Rattle.retos_cli.specs.declared.command.Command.TheVariants.{Run, Check, Asm, Insert}
 use Rattle.retos_cli.specs.declared.form.Form.{Form}
-use Rattle.retos_cli.specs.declared.form.Form.TheVariants.{Checked, Runnable, Source, Plain}
+use Rattle.retos_cli.specs.declared.form.Form.TheVariants.{Checked, Application, Source, Plain, Script as Scripted}
 use Rattle.retos_cli.specs.declared.outcome.Why.{Why}
 use Rattle.retos_cli.specs.declared.outcome.Why.TheVariants as why
 use Rattle.retos_cli.specs.declared.outcome.Refused.{Refused}
 use Rattle.retos_cli.specs.declared.outcome.Status.{Status}
 use Rattle.retos_cli.specs.declared.outcome.Status.TheVariants as status
-use Rattle.retos_cli.specs.Lines.{words_line, refused_line, accepted_line, assembled_line, inserted_line}
-use Rattle.retos_cli.specs.Entries.{IsRunnable}
-use Rattle.place_model.specs.declared.places.NoRoom.{NoRoom}
-use Rattle.solo_model.specs.Booted.{alone, placing_alone, IsBootMemory}
+use Rattle.retos_cli.specs.Words.{word}
+use Rattle.retos_cli.specs.Lines.{words_line, refused_line, accepted_lines, assembled_line, inserted_line}
 
 -- ---- one input
 
@@ -41,51 +45,31 @@ IsTextOf held o = (held ≡ Some (object_bytes o)) × (length (object_bytes o) �
 -- the input is to be an object
 abbrev pub AsksObject : Form → Type 0
 AsksObject Checked = Unit {0}
-AsksObject Runnable = Unit {0}
+AsksObject Application = Unit {0}
 AsksObject Plain = Unit {0}
 AsksObject Source = ⊥
+AsksObject Scripted = ⊥
 
 -- the input is to be an object that the checker accepts
 abbrev pub AsksCheck : Form → Type 0
 AsksCheck Checked = Unit {0}
-AsksCheck Runnable = Unit {0}
+AsksCheck Application = Unit {0}
 AsksCheck Plain = ⊥
 AsksCheck Source = ⊥
+AsksCheck Scripted = ⊥
 
--- what is asked before the check. No object is a source, and one that is to get guards isn't checked
+-- what is asked before the check. No object is a text of lines, and one that is to get guards isn't checked
 abbrev pub Suits : Form → Object → Type 0
 Suits Checked o = Unit {0}
-Suits Runnable o = o.kind ≡ kind.App
+Suits Application o = o.kind ≡ kind.App
 Suits Source o = ⊥
 Suits Plain o = ⊥
-
--- what is asked behind it
-abbrev pub Runs : Form → Object → Type 0
-Runs Checked o = Unit {0}
-Runs Source o = ⊥
-Runs Plain o = ⊥
-Runs Runnable o = IsRunnable o
-
--- there is room for it, alone
-abbrev pub HasRoom : Form → Object → Type 0
-HasRoom Checked o = Unit {0}
-HasRoom Source o = ⊥
-HasRoom Plain o = ⊥
-HasRoom Runnable o = placing_alone o ≡ Ok (alone o)
-
--- there is none, and why
-abbrev pub LacksRoom : Form → Object → NoRoom → Type 0
-LacksRoom Checked o cause = ⊥
-LacksRoom Source o cause = ⊥
-LacksRoom Plain o cause = ⊥
-LacksRoom Runnable o cause = placing_alone o ≡ Err cause
+Suits Scripted o = ⊥
 
 -- the object is one that the command takes
 pub record IsFit (form : Form) (o : Object) (units : List ℕ) : Type 0 where
   pub suits : Suits form o
   pub accepted : IsAccepted o units
-  pub runs : Runs form o
-  pub room : HasRoom form o
 
 -- the input is an accepted object that the command takes
 pub record Taken (form : Form) (held : Option (List ℕ)) (o : Object) (units : List ℕ) : Type 0 where
@@ -104,17 +88,25 @@ pub record Guards (held : Option (List ℕ)) (o q : Object) : Type 0 where
   pub text : IsTextOf held o
   pub gives : IsInserted o q
 
--- The input is refused for this. A source is refused for a line alone, an object that is to get guards for its text or for what the
--- inserter finds, and an object that is checked for its text or for the others; what isn't held or is too long is none of them
+-- the input is a text that stands for this script
+pub record Scripts (held : Option (List ℕ)) (t : Script) : Type 0 where
+  pub text : List ℕ
+  pub held_is : held ≡ Some text
+  pub short : length text ≤ most_bytes
+  pub gives : script_of text ≡ Ok t
+
+-- The input is refused for this. A source and a script are refused for a line alone, an object that is to get guards for its text or
+-- for what the inserter finds, and an object that is checked for its text, its kind or its check; what isn't held or is too long is
+-- none of them. Room is asked for once all inputs are taken
 unfoldable pub Refuses : Form → Option (List ℕ) → Why → Type 0
 Refuses form held why.Absent = held ≡ None
 Refuses form held why.TooLong = (bytes : List ℕ) × (held ≡ Some bytes) × (most_bytes < length bytes)
 Refuses form held (why.Form k at) = AsksObject form × (bytes : List ℕ) × (held ≡ Some bytes) × (length bytes ≤ most_bytes) × (first_form_fault bytes ≡ Some (record { kind = k; offset = at }))
 Refuses form held why.NotApplication = AsksCheck form × (o : Object) × IsTextOf held o × (Suits form o → ⊥)
 Refuses form held (why.Check rule place) = AsksCheck form × (o : Object) × IsTextOf held o × Suits form o × IsVerdict o (verdict.Refused rule place)
-Refuses form held why.NotYet = AsksCheck form × (o : Object) × (units : List ℕ) × IsTextOf held o × Suits form o × IsAccepted o units × (Runs form o → ⊥)
-Refuses form held (why.Room cause) = AsksCheck form × (o : Object) × (units : List ℕ) × IsTextOf held o × Suits form o × IsAccepted o units × Runs form o × LacksRoom form o cause
+Refuses form held (why.Room cause) = ⊥
 Refuses form held (why.Line line k) = (form ≡ Source) × (bytes : List ℕ) × (held ≡ Some bytes) × (length bytes ≤ most_bytes) × (assembled bytes ≡ Err (fault line k))
+Refuses form held (why.Script line) = (form ≡ Scripted) × (bytes : List ℕ) × (held ≡ Some bytes) × (length bytes ≤ most_bytes) × (script_of bytes ≡ Err line)
 Refuses form held (why.Insert k at) = (form ≡ Plain) × (o : Object) × IsTextOf held o × IsFault o k at
 
 -- ---- the inputs of a command
@@ -123,21 +115,35 @@ pub record Input : Type 0 where
   pub name : List ℕ
   pub form : Form
 
-abbrev pub checked_inputs : List (List ℕ) → List Input
-checked_inputs [] = []
-checked_inputs (name ∷ names) = record { name = name; form = Checked } ∷ checked_inputs names
+-- a run under a script takes all objects, one without takes an application
+abbrev pub form_by : (script : Option (List ℕ)) → Form
+form_by None = Application
+form_by (Some script) = Checked
+
+abbrev pub named_inputs : Form → List (List ℕ) → List Input
+named_inputs form [] = []
+named_inputs form (name ∷ names) = record { name = name; form = form } ∷ named_inputs form names
+
+abbrev pub behind_script : (script : Option (List ℕ)) → List Input → List Input
+behind_script None others = others
+behind_script (Some name) others = record { name = name; form = Scripted } ∷ others
+
+-- the script, if one is named, and then the objects
+abbrev pub job_inputs : Job → List Input
+job_inputs job = behind_script job.script (named_inputs (form_by job.script) job.names)
 
 abbrev pub inputs : Command → List Input
-inputs (Solo name steps) = record { name = name; form = Runnable } ∷ []
-inputs (Check names) = checked_inputs names
+inputs (Run job) = job_inputs job
+inputs (Check names) = named_inputs Checked names
 inputs (Asm from to) = record { name = from; form = Source } ∷ []
 inputs (Insert from to) = record { name = from; form = Plain } ∷ []
 
 abbrev pub IsTakenAs : Form → Option (List ℕ) → Type 0
 IsTakenAs Checked held = (o : Object) × (units : List ℕ) × Taken Checked held o units
-IsTakenAs Runnable held = (o : Object) × (units : List ℕ) × Taken Runnable held o units
+IsTakenAs Application held = (o : Object) × (units : List ℕ) × Taken Application held o units
 IsTakenAs Source held = (o : Object) × Assembles held o
 IsTakenAs Plain held = (o : Object) × (q : Object) × Guards held o q
+IsTakenAs Scripted held = (t : Script) × Scripts held t
 
 unfoldable pub IsTaken : Files → Input → Type 0
 IsTaken m input = IsTakenAs input.form (held m input.name)
@@ -154,6 +160,49 @@ unfoldable pub IsReached : Files → List Input → List ℕ → Type 0
 IsReached m [] name = ⊥
 IsReached m (input ∷ others) name = (name ≡ input.name) ⊎ (IsTaken m input × IsReached m others name)
 
+-- ---- the objects of several inputs, and their room
+
+-- the inputs of these names are these objects
+unfoldable pub AreTaken : Form → Files → List (List ℕ) → List Loadable → Type 0
+AreTaken form m [] [] = Unit {0}
+AreTaken form m [] (o ∷ os) = ⊥
+AreTaken form m (name ∷ names) [] = ⊥
+AreTaken form m (name ∷ names) (o ∷ os) = Taken form (held m name) o.object o.units × AreTaken form m names os
+
+-- the named script, or the empty one
+abbrev pub IsScriptOf : Files → (script : Option (List ℕ)) → Script → Type 0
+IsScriptOf m None t = t ≡ empty_script
+IsScriptOf m (Some name) t = Scripts (held m name) t
+
+-- all inputs of a run are taken: its script and its objects
+pub record IsSupplied (m : Files) (job : Job) (t : Script) (os : List Loadable) : Type 0 where
+  pub script : IsScriptOf m job.script t
+  pub objects : AreTaken (form_by job.script) m job.names os
+
+-- of these objects the one that is refused is the first for which there is no room
+pub record IsUnplaced (os : List Loadable) (names : List (List ℕ)) (r : Refused) : Type 0 where
+  pub refusal : Refusal
+  pub refused : booted os ≡ Err refusal
+  pub named : r.name ≡ word names refusal.object
+  pub cause : r.why ≡ why.Room refusal.cause
+
+-- all inputs of a run are taken, and for one of its objects there is no room
+pub record LacksRoom (m : Files) (job : Job) (r : Refused) : Type 0 where
+  pub script : Script
+  pub objects : List Loadable
+  pub supplied : IsSupplied m job script objects
+  pub unplaced : IsUnplaced objects job.names r
+
+abbrev pub LacksRoomIn : Files → Command → Refused → Type 0
+LacksRoomIn m (Run job) r = LacksRoom m job r
+LacksRoomIn m (Check names) r = ⊥
+LacksRoomIn m (Asm from to) r = ⊥
+LacksRoomIn m (Insert from to) r = ⊥
+
+-- a command's first refusal: the first input that is refused, or else the first object for which there is no room
+abbrev pub IsFirstRefusal : Files → Command → Refused → Type 0
+IsFirstRefusal m command r = IsFirstRefused m (inputs command) r ⊎ LacksRoomIn m command r
+
 -- ---- outputs
 
 -- what a command that nothing refuses writes: to out, and to a file with a name; and whether a run faulted
@@ -167,27 +216,32 @@ abbrev pub written : Files → Option (List ℕ × List ℕ) → Files
 written m None = m
 written m (Some file) = insert m file.0 file.1
 
--- the trace of an accepted application, from memory at boot
-pub record IsSoloOutput (m : Files) (name : List ℕ) (steps : ℕ) (x : Output) : Type 0 where
-  pub object : Object
-  pub units : List ℕ
-  pub taken : Taken Runnable (held m name) object units
-  pub memory : List ℕ
-  pub boots : IsBootMemory object units memory
-  pub trace : x.out ≡ trace_text object memory steps
+-- the trace of a run from a system
+abbrev pub job_text : Job → Script → List Loadable → System → List ℕ
+job_text job t os s = trace_text job.show.all false (length os) t s (run job.steps t s)
+
+-- whether a record of the run is a fault
+abbrev pub has_faulted : Job → Script → System → Bool
+has_faulted job t s = nat_lt 0 (faults (run job.steps t s))
+
+-- the trace of the objects, which all have room, under the script
+pub record IsRunOutput (m : Files) (job : Job) (x : Output) : Type 0 where
+  pub script : Script
+  pub objects : List Loadable
+  pub supplied : IsSupplied m job script objects
+  pub system : System
+  pub boots : booted objects ≡ Ok system
+  pub trace : x.out ≡ job_text job script objects system
   pub file_is : x.file ≡ None
-  pub faulted_is : x.faulted ≡ nat_lt 0 (count_faults (run steps (booted object memory)).records)
+  pub faulted_is : x.faulted ≡ has_faulted job script system
 
--- the line of an accepted object, and the lines of the others
-pub record IsAcceptedLine (m : Files) (name line : List ℕ) : Type 0 where
-  pub object : Object
-  pub units : List ℕ
-  pub taken : Taken Checked (held m name) object units
-  pub line_is : line ≡ accepted_line name object units
-
-unfoldable pub AreAcceptedLines : Files → List (List ℕ) → List ℕ → Type 0
-AreAcceptedLines m [] out = out ≡ []
-AreAcceptedLines m (name ∷ names) out = (line : List ℕ) × (rest : List ℕ) × IsAcceptedLine m name line × AreAcceptedLines m names rest × (out ≡ line ++ rest)
+-- a line for each object
+pub record IsCheckOutput (m : Files) (names : List (List ℕ)) (x : Output) : Type 0 where
+  pub objects : List Loadable
+  pub taken : AreTaken Checked m names objects
+  pub lines : x.out ≡ accepted_lines names objects
+  pub file_is : x.file ≡ None
+  pub faulted_is : x.faulted ≡ false
 
 -- the object of a source, under the output's name, and its line
 pub record IsAsmOutput (m : Files) (from to : List ℕ) (x : Output) : Type 0 where
@@ -207,8 +261,8 @@ pub record IsInsertOutput (m : Files) (from to : List ℕ) (x : Output) : Type 0
   pub faulted_is : x.faulted ≡ false
 
 unfoldable pub IsOutput : Command → Files → Output → Type 0
-IsOutput (Solo name steps) m x = IsSoloOutput m name steps x
-IsOutput (Check names) m x = AreAcceptedLines m names x.out × (x.file ≡ None) × (x.faulted ≡ false)
+IsOutput (Run job) m x = IsRunOutput m job x
+IsOutput (Check names) m x = IsCheckOutput m names x
 IsOutput (Asm from to) m x = IsAsmOutput m from to x
 IsOutput (Insert from to) m x = IsInsertOutput m from to x
 
@@ -233,7 +287,7 @@ done_answer x = record { out = x.out; err = []; status = status_by x.faulted }
 -- the first refusal, as a status and a line
 unfoldable pub IsRefusal : Option Command → Files → Status → List ℕ → Type 0
 IsRefusal None m s line = (s ≡ status.BadWords) × (line ≡ words_line)
-IsRefusal (Some command) m s line = (s ≡ status.Refused) × ((r : Refused) × IsFirstRefused m (inputs command) r × (line ≡ refused_line r))
+IsRefusal (Some command) m s line = (s ≡ status.Refused) × ((r : Refused) × IsFirstRefusal m command r × (line ≡ refused_line r))
 
 unfoldable pub IsDone : Option Command → Files → Output → Type 0
 IsDone None m x = ⊥

@@ -1,25 +1,25 @@
 //! The command `check`.
 
-ghost use Rattle.std.specs.Prelude.{◌≡◌, ◌<◌, length, OnOk, OnErr, MatchResult};
-ghost use Rattle.retos_cli.specs.Commands.{word};
-ghost use Rattle.retos_cli.specs.declared.command.Command.TheVariants.{Check};
+ghost use Rattle.std.specs.Prelude.{◌≡◌, ◌<◌, ◌≤◌, length, slice_get, Some, OnOk, OnErr};
 ghost use Rattle.edge_io.specs.Known.{appended, GotPrefix};
 ghost use Rattle.edge_io.specs.Causes.{HasCause};
-ghost use Rattle.retos_cli.specs.Judging.{count_of, counted_lines, counted_line, AreCounted, CountEnds};
-ghost use Rattle.retos_cli.specs.Meaning.{checked_inputs};
-ghost use Rattle.retos_cli.specs.Ends.{Ended, OnlyRead, StopCause, Told};
+ghost use Rattle.load_model.specs.Loading.{Loadable};
+ghost use Rattle.retos_cli.specs.Words.{word};
+ghost use Rattle.retos_cli.specs.declared.command.Command.TheVariants.{Check};
+ghost use Rattle.retos_cli.specs.Ends.{Ended};
+ghost use Rattle.retos_cli.specs.Lines.{accepted_line, accepted_lines};
 
 use super::command::Names;
-use super::counted::{Counted, count};
+use super::counted::count_units;
 use super::form::Form;
-use super::input::take;
+use super::input::take_all;
 use super::lines::of_accepted;
-use super::outcome::{Outcome, Stop};
+use super::outcome::Outcome;
 use edge_io::folder::Folder;
-use edge_io::name::Name;
 use edge_io::sink::Sink;
 use edge_io::whole::{SinkFault, write_all};
 use line_text::line::Line;
+use retos_node::ObjectList;
 use std::alloc::Global;
 
 /// Checks the objects of these names, and prints a line for each where all are accepted.
@@ -29,10 +29,11 @@ pub fn check_all<F: Folder, O: Sink>(
     names: &Names,
     out: &mut O,
 ) -> Outcome
+    requires { length names.now ≤ 16 }
     ensures { Ended (Check names.now) (F.state files.old) (F.state files.new) (O.state out.old) (O.state out.new) result }
 {
-    match gather(alloc, files, names) {
-        Ok(counts) => match print_lines(names, counts.as_slice(), out) {
+    match take_all(alloc, files, names, Form::Checked) {
+        Ok(objects) => match print_lines(names, &objects, out) {
             Ok(()) => Outcome::Done(false),
             Err(_) => Outcome::WriteFault,
         },
@@ -40,62 +41,16 @@ pub fn check_all<F: Folder, O: Sink>(
     }
 }
 
-/// The counts of all objects, or why one ends the command.
-fn gather<F: Folder>(alloc: Global, files: &mut F, names: &Names) -> Result<Vec<Counted>, Stop>
-    ensures read { OnlyRead (F.state files.old) (F.state files.new) }
-    ensures ends { MatchResult result (λ counts. Told (F.state files.old).files (λ m. AreCounted m names.now counts.items)) (λ stop. StopCause (checked_inputs names.now) (F.state files.old) (F.state files.new) stop) }
-{
-    let mut counts = Vec::new(alloc);
-    let mut at = 0;
-    'inputs: while at < names.len() {
-        match take_counted(alloc, files, names, at) {
-            Ok(counted) => match counts.push(counted) {
-                Ok(()) => {}
-                Err(_) => return Err(Stop::NoMemory),
-            },
-            Err(stop) => return Err(stop),
-        }
-        at += 1;
-    }
-    Ok(counts)
-}
-
-/// Takes the object of the name at a place, and counts it.
-fn take_counted<F: Folder>(
-    alloc: Global,
-    files: &mut F,
-    names: &Names,
-    at: usize,
-) -> Result<Counted, Stop>
-    requires { at < length names.now }
-    ensures read { OnlyRead (F.state files.old) (F.state files.new) }
-    ensures ends { CountEnds (F.state files.old) (F.state files.new) (word names.now at) result }
-{
-    match take(alloc, files, name_at(names, at), Form::Checked) {
-        Ok((object, units)) => Ok(count(&object, &units)),
-        Err(stop) => Err(stop),
-    }
-}
-
-fn name_at(names: &Names, at: usize) -> &Name
-    requires { at < length names.now }
-    ensures { result.now ≡ word names.now at }
-{
-    match names.get(at) {
-        Some(name) => name,
-        None => unreachable!(),
-    }
-}
-
-/// Prints a line for each name with its counts.
-fn print_lines<O: Sink>(names: &Names, counts: &[Counted], out: &mut O) -> Result<(), SinkFault>
-    ensures whole { OnOk result ((O.state out.new).bytes ≡ appended (O.state out.old).bytes (counted_lines names.now counts.now)) }
-    ensures prefix { OnErr result (GotPrefix (O.state out.old).bytes (O.state out.new).bytes (counted_lines names.now counts.now)) }
+/// Prints a line for each name with its object.
+fn print_lines<O: Sink>(names: &Names, objects: &ObjectList, out: &mut O) -> Result<(), SinkFault>
+    ensures whole { OnOk result ((O.state out.new).bytes ≡ appended (O.state out.old).bytes (accepted_lines names.now objects.now)) }
+    ensures prefix { OnErr result (GotPrefix (O.state out.old).bytes (O.state out.new).bytes (accepted_lines names.now objects.now)) }
     ensures cause { HasCause (O.state out.old).faults (O.state out.new).faults result }
 {
     let mut at = 0;
-    'lines: while at < names.len() && at < counts.len() {
-        match print_line(names, counts, at, out) {
+    'lines: while at < names.len() && at < objects.len() {
+        let line = line_at(names, objects, at);
+        match write_all(out, line.as_slice()) {
             Ok(()) => {}
             Err(fault) => return Err(fault),
         }
@@ -104,38 +59,13 @@ fn print_lines<O: Sink>(names: &Names, counts: &[Counted], out: &mut O) -> Resul
     Ok(())
 }
 
-/// Prints the line of the name at a place.
-fn print_line<O: Sink>(
-    names: &Names,
-    counts: &[Counted],
-    at: usize,
-    out: &mut O,
-) -> Result<(), SinkFault>
+/// The line of the name and the object at a place.
+fn line_at(names: &Names, objects: &ObjectList, at: usize) -> Line
     requires name { at < length names.now }
-    requires count { at < length counts.now }
-    ensures whole { OnOk result ((O.state out.new).bytes ≡ appended (O.state out.old).bytes (counted_line (word names.now at) (count_of counts.now at))) }
-    ensures prefix { OnErr result (GotPrefix (O.state out.old).bytes (O.state out.new).bytes (counted_line (word names.now at) (count_of counts.now at))) }
-    ensures cause { HasCause (O.state out.old).faults (O.state out.new).faults result }
+    requires object { at < length objects.now }
+    ensures { (o : Loadable) → slice_get objects.now at ≡ Some o → result ≡ accepted_line (word names.now at) o.object o.units }
 {
-    let line = line_at(names, counts, at);
-    write_all(out, line.as_slice())
-}
-
-fn line_at(names: &Names, counts: &[Counted], at: usize) -> Line
-    requires name { at < length names.now }
-    requires count { at < length counts.now }
-    ensures { result ≡ counted_line (word names.now at) (count_of counts.now at) }
-{
-    let counted = count_at(counts, at);
-    of_accepted(name_at(names, at), counted.words, counted.units)
-}
-
-fn count_at(counts: &[Counted], at: usize) -> Counted
-    requires { at < length counts.now }
-    ensures { result ≡ count_of counts.now at }
-{
-    match counts.get(at) {
-        Some(counted) => *counted,
-        None => unreachable!(),
-    }
+    let object = objects.object(at);
+    let units = count_units(object, objects.marks(at));
+    of_accepted(names.at(at), object.code.len() as u32, units)
 }

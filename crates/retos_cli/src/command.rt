@@ -1,9 +1,10 @@
 //! The commands that words are.
 
-ghost use Rattle.std.specs.Prelude.{◌≡◌, ℕ, List, [], ◌∷◌, ◌++◌, length, slice_get, OnOk, OnErr};
-ghost use Rattle.std.specs.Option.{option_copied};
+ghost use Rattle.std.specs.Prelude.{◌≡◌, ◌<◌, ℕ, List, [], ◌∷◌, ◌++◌, length, OnOk, OnErr};
+ghost use Rattle.retos_cli.specs.Words.{word};
 
 use edge_io::name::Name;
+use retos_node::Show;
 use std::alloc::{AllocError, Global};
 use std::marker::Model;
 
@@ -45,19 +46,33 @@ impl Names {
         self.items.len()
     }
 
-    /// The name at a place, counted from 0. None exactly at or past the end.
-    pub fn get(&self, at: usize) -> Option<&Name>
-        ensures { option_copied result ≡ slice_get self.now at }
+    /// The name at a place, counted from 0.
+    pub fn at(&self, at: usize) -> &Name
+        requires { at < length self.now }
+        ensures { result.now ≡ word self.now at }
     {
-        self.items.get(at)
+        &self.items[at]
     }
+}
+
+/// A run: of 1 to 16 objects under a script, or of one application without a script.
+#[derive(Drop)]
+pub struct Job {
+    /// What is printed beside the lines that are always printed.
+    pub show: Show,
+    /// The script's name. None: no line is raised and no choice made, and the one object is an application.
+    pub script: Option<Name>,
+    /// How many steps are made at most.
+    pub steps: u32,
+    /// The objects, in the order in which they are placed.
+    pub names: Names,
 }
 
 /// A command with its names and numbers.
 #[derive(Drop)]
 pub enum Command {
-    /// Runs one application alone for at most so many steps.
-    Solo { name: Name, steps: u32 },
+    /// Runs objects.
+    Run(Job),
     /// Checks 1 to 16 objects.
     Check { names: Names },
     /// Assembles a source text, and writes the object.

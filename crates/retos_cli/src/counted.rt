@@ -1,4 +1,4 @@
-//! What is counted of an accepted object.
+//! How many units an accepted object has.
 
 ghost use Rattle.std.specs.Prelude.{◌≡◌, ◌≤◌, length};
 ghost use Rattle.retos_cli.specs.Lines.{marked_below};
@@ -6,23 +6,11 @@ ghost use Rattle.retos_cli.specs.Lines.{marked_below};
 use code_model::marks::Marks;
 use code_model::object::Object;
 
-/// How many code words and units an object has, at most 8,192 of each.
-#[derive(Clone, Copy, PartialEq, Eq, Debug, Drop)]
-pub struct Counted {
-    pub words: u32,
-    pub units: u32,
-}
-
-/// The counts of an object with these unit starts.
-pub fn count(o: &Object, units: &Marks) -> Counted
-    ensures words { result.words ≡ length o.now.code }
-    ensures units { result.units ≡ marked_below units.now (length o.now.code) }
+/// The units of an object with these unit starts, at most 8,192.
+pub fn count_units(o: &Object, units: &Marks) -> u32
+    ensures { result ≡ marked_below units.now (length o.now.code) }
 {
-    let words = o.code.len();
-    Counted {
-        words: words as u32,
-        units: count_marks(units, words),
-    }
+    count_marks(units, o.code.len())
 }
 
 /// How many of the first words are marked.

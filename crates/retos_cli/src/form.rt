@@ -3,12 +3,14 @@
 /// What an input is for.
 #[derive(Clone, Copy, PartialEq, Eq, Debug, Drop)]
 pub enum Form {
-    /// An object to check.
+    /// An object to check, or to run under a script.
     Checked,
-    /// An application to run.
-    Runnable,
+    /// An application to run alone.
+    Application,
     /// A source text to assemble.
     Source,
     /// An object that is to get guards.
     Plain,
+    /// The script of a run.
+    Script,
 }

@@ -1,13 +1,13 @@
-//! Taking an input: reading it, and the object of its text, checked.
+//! Taking inputs: reading one, and the object of its text, checked, or the script that its text stands for.
 
-ghost use Rattle.std.specs.Prelude.{◌≡◌, ◌≤◌, ◌↔◌, length, IsTrue, IfOk, MatchOption};
-ghost use Rattle.code_model.specs.Verdicts.{AllSpelled};
+ghost use Rattle.std.specs.Prelude.{◌≡◌, ◌≤◌, ◌↔◌, length, IsTrue, IfOk};
 ghost use Rattle.object_form.specs.Spelling.{object_bytes};
-ghost use Rattle.retos_cli.specs.Meaning.{AsksCheck, Suits, Runs, HasRoom, LacksRoom, IsFit};
-ghost use Rattle.retos_cli.specs.Judging.{IsJudged, stop_of};
-ghost use Rattle.retos_cli.specs.Ends.{InputEnds, OnlyRead};
+ghost use Rattle.trace_model.specs.Scripts.{IsScript};
+ghost use Rattle.retos_cli.specs.Meaning.{AsksCheck, Suits, IsFit};
+ghost use Rattle.retos_cli.specs.Judging.{IsJudged, IsRead, stop_of};
+ghost use Rattle.retos_cli.specs.Ends.{InputEnds, ObjectsEnd, TextEnds, OnlyRead};
 
-use super::entries::is_runnable;
+use super::command::Names;
 use super::form::Form;
 use super::outcome::{Refused, Stop, Why};
 use code_model::marks::Marks;
@@ -18,17 +18,11 @@ use edge_io::name::Name;
 use edge_io::whole::{InputFault, read_all};
 use object_form::fault::FormFault;
 use object_form::reading::read_object;
-use place_model::places::NoRoom;
-use solo_model::laws::alone_is_placed;
-use solo_run::boot::region_stop;
+use read_script::read_script;
+use retos_node::{ObjectList, Script};
 use static_checker::{Verdict, check};
 use std::alloc::Global;
-
-/// The first address of the data pool.
-const DATA_POOL_START: u16 = 0x2000;
-
-/// The bytes of the data pool.
-const DATA_POOL_BYTES: u32 = 16_384;
+use trace_model::scripts::ScriptFault;
 
 /// Why a text isn't taken.
 #[derive(Drop)]
@@ -37,9 +31,36 @@ pub enum Judged {
     NoMemory,
 }
 
-/// Takes an input: the object of its text with the marks of its unit starts, or why it ends the command.
-pub fn take<F: Folder>(
+/// Takes the inputs of these names one after another: their objects with the marks of their unit starts, or why one ends the command.
+pub fn take_all<F: Folder>(
     alloc: Global,
+    files: &mut F,
+    names: &Names,
+    form: Form,
+) -> Result<ObjectList, Stop>
+    requires asked { AsksCheck form }
+    requires few { length names.now ≤ 16 }
+    ensures ends { ObjectsEnd form (F.state files.old) (F.state files.new) names.now result }
+    ensures many { IfOk result (λ objects. length objects ≡ length names.now) }
+    ensures read { OnlyRead (F.state files.old) (F.state files.new) }
+{
+    let mut objects = ObjectList::new(alloc);
+    let mut at = 0;
+    'inputs: while at < names.len() {
+        match take(alloc, files, names.at(at), form) {
+            Ok((object, marks)) => match objects.push(object, marks) {
+                Ok(()) => {}
+                Err(_) => return Err(Stop::NoMemory),
+            },
+            Err(stop) => return Err(stop),
+        }
+        at += 1;
+    }
+    Ok(objects)
+}
+
+/// Takes an input: the object of its text with the marks of its unit starts, or why it ends the command.
+fn take<F: Folder>(    alloc: Global,
     files: &mut F,
     name: &Name,
     form: Form,
@@ -95,7 +116,7 @@ fn judge(alloc: Global, text: &[u8], form: Form) -> Result<(Object, Marks), Judg
 }
 
 /// The object with its marks where it is taken, or why not.
-#[tactic(auto, using(crate::proofs::Judgments::refuses_unsuited, crate::proofs::Judgments::refuses_check, crate::proofs::Judgments::refuses_yet, crate::proofs::Judgments::refuses_room))]
+#[tactic(auto, using(crate::proofs::Judgments::refuses_unsuited, crate::proofs::Judgments::refuses_check))]
 fn judge_object(object: Object, form: Form) -> Result<(Object, Marks), Judged>
     requires size { length (object_bytes object) ≤ 1048576 }
     requires asked { AsksCheck form }
@@ -106,63 +127,53 @@ fn judge_object(object: Object, form: Form) -> Result<(Object, Marks), Judged>
     }
     match check(&object) {
         Verdict::Refused { rule, place } => Err(Judged::Refused(Why::Check { rule, place })),
-        Verdict::Accepted(marks) => {
-            if !runs(form, &object) {
-                return Err(Judged::Refused(Why::NotYet));
-            }
-            match lacking(form, &object) {
-                None => Ok((object, marks)),
-                Some(cause) => Err(Judged::Refused(Why::Room(cause))),
-            }
-        }
+        Verdict::Accepted(marks) => Ok((object, marks)),
     }
 }
 
-/// Whether the object is one that the command asks for: an application, where it is to run.
+/// Whether the object is one that the command asks for: an application, where it is to run alone.
 fn suits(form: Form, o: &Object) -> bool
     ensures { IsTrue result ↔ Suits form o.now }
 {
     match form {
         Form::Checked => true,
-        Form::Runnable => match o.kind {
+        Form::Application => match o.kind {
             Kind::App => true,
             Kind::Module => false,
         },
-        Form::Source | Form::Plain => false,
+        Form::Source | Form::Plain | Form::Script => false,
     }
 }
 
-/// Whether the object is of a form that runs, where it is to run.
-fn runs(form: Form, o: &Object) -> bool
-    requires { AllSpelled o.now }
-    ensures { IsTrue result ↔ Runs form o.now }
+/// Takes the script of this name, or tells why it ends the command.
+pub fn take_script<F: Folder>(alloc: Global, files: &mut F, name: &Name) -> Result<Script, Stop>
+    ensures ends { TextEnds (F.state files.old) (F.state files.new) name.now result }
+    ensures rules { IfOk result IsScript }
+    ensures read { OnlyRead (F.state files.old) (F.state files.new) }
 {
-    match form {
-        Form::Checked => true,
-        Form::Runnable => is_runnable(o),
-        Form::Source | Form::Plain => false,
+    match read_all(alloc, files, name) {
+        Ok(text) => match script_in(alloc, text.as_slice()) {
+            Ok(script) => Ok(script),
+            Err(Judged::Refused(why)) => Err(Stop::Refuse(Refused {
+                name: name.copied(),
+                why,
+            })),
+            Err(Judged::NoMemory) => Err(Stop::NoMemory),
+        },
+        Err(fault) => Err(unread(name, fault)),
     }
 }
 
-/// Why there is no room for the object, where it is to run. None where there is.
-fn lacking(form: Form, o: &Object) -> Option<NoRoom>
-    requires { AsksCheck form }
-    ensures { MatchOption result (HasRoom form o.now) (λ cause. LacksRoom form o.now cause) }
+/// The script that a text stands for, or why the text is refused.
+#[tactic(auto, using(crate::proofs::Judgments::refuses_script))]
+fn script_in(alloc: Global, text: &[u8]) -> Result<Script, Judged>
+    requires { length text.now ≤ 1048576 }
+    ensures script { IsRead text.now result }
+    ensures rules { IfOk result IsScript }
 {
-    alone_is_placed();
-    match form {
-        Form::Checked => None,
-        Form::Source | Form::Plain => unreachable!(),
-        Form::Runnable => {
-            let need = (region_stop(o) - DATA_POOL_START) as u32;
-            if need <= DATA_POOL_BYTES {
-                None
-            } else {
-                Some(NoRoom::Region {
-                    need,
-                    gap: DATA_POOL_BYTES,
-                })
-            }
-        }
+    match read_script(alloc, text) {
+        Ok(script) => Ok(script),
+        Err(ScriptFault::At { line }) => Err(Judged::Refused(Why::Script { line })),
+        Err(ScriptFault::Memory) => Err(Judged::NoMemory),
     }
 }

@@ -8,7 +8,6 @@ pub mod assembling;
 pub mod checking;
 pub mod command;
 pub mod counted;
-pub mod entries;
 pub mod form;
 pub mod input;
 pub mod inserting;
@@ -19,3 +18,5 @@ pub mod report;
 pub mod running;
 pub mod top;
 pub mod writing;
+
+pub use read_script::read_script;

@@ -130,9 +130,9 @@ fn push_why(line: &mut Line, why: &Why)
         Why::Form { kind, at } => push_form(line, *kind, *at),
         Why::NotApplication => line.push_text(b": not an application"),
         Why::Check { rule, place } => push_check(line, *rule as u32, *place),
-        Why::NotYet => line.push_text(b": not yet"),
         Why::Room(cause) => push_room(line, cause),
         Why::Line { line: at, kind } => push_fault(line, *at, *kind),
+        Why::Script { line: at } => push_script(line, *at),
         Why::Insert { kind, offset } => push_insert(line, *kind, *offset),
     }
 }
@@ -188,6 +188,16 @@ fn push_fault(line: &mut Line, at: u32, kind: AsmKind)
     line.push_decimal(at);
     line.push_text(b": ");
     line.push_text(asm_word(kind));
+}
+
+fn push_script(line: &mut Line, at: u32)
+    requires { length line.old ≤ 262 }
+    ensures text { line.new ≡ line.old ++ (codes ": line " ++ decimal at ++ codes ": script") }
+    ensures size { length line.new ≤ 340 }
+{
+    line.push_text(b": line ");
+    line.push_decimal(at);
+    line.push_text(b": script");
 }
 
 fn push_insert(line: &mut Line, kind: InsertKind, at: u32)

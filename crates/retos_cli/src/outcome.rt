@@ -24,7 +24,7 @@ pub enum Status {
     WriteFault,
     /// No memory was found.
     NoMemory,
-    /// Done, and an application faulted.
+    /// Done, and an application or a module faulted.
     Faulted,
 }
 
@@ -58,12 +58,12 @@ pub enum Why {
     NotApplication,
     /// The checker refuses it by this rule at this offset.
     Check { rule: u8, place: u16 },
-    /// An application of a form that isn't run yet.
-    NotYet,
     /// There is no room for it.
     Room(NoRoom),
     /// A source text with this first fault: on which line, counted from 1, and what is wrong. Line 0 is for what is missing as a whole.
     Line { line: u32, kind: AsmKind },
+    /// A script with this first line that breaks a rule, counted from 1.
+    Script { line: u32 },
     /// An object that can't get its guards: what is wrong first, and at which offset of bytes.
     Insert { kind: InsertKind, offset: u32 },
 }
@@ -87,7 +87,7 @@ pub enum Stop {
 /// What words come to.
 #[derive(Drop)]
 pub enum Outcome {
-    /// All was written; whether an application faulted.
+    /// All was written; whether an application or a module faulted.
     Done(bool),
     BadWords,
     Stopped(Stop),

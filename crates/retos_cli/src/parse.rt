@@ -1,12 +1,13 @@
 //! The words of a command line, read as a command.
 
-ghost use Rattle.std.specs.Prelude.{◌≡◌, ◌+◌, ◌<◌, ◌≤◌, List, [], length, drop, true, false, IfOk, IfSome, MatchOption};
-ghost use Rattle.retos_cli.specs.Bounds.{IsBoundedIfSome};
-ghost use Rattle.retos_cli.specs.Commands.{command_of, is_name, name_of, names_of, steps_of, digits_value, solo_of, check_of, asm_of, insert_of, word};
+ghost use Rattle.std.specs.Prelude.{◌≡◌, ◌+◌, ◌<◌, ◌≤◌, List, [], length, drop, true, false, IfOk, MatchOption};
+ghost use Rattle.retos_cli.specs.Commands.{command_of, is_all, is_name, name_of, names_of, steps_of, digits_value, show_of, behind_options, solo_of, run_of, check_of, asm_of, insert_of};
+ghost use Rattle.retos_cli.specs.Words.{word};
 
-use super::command::{Command, Names};
+use super::command::{Command, Job, Names};
 use edge_io::name::Name;
 use edge_io::words::Words;
+use retos_node::Show;
 use std::alloc::{AllocError, Global};
 
 /// The greatest number of steps.
@@ -18,12 +19,13 @@ const OBJECTS_MAX: usize = 16;
 /// The command that the words are. None exactly where they are none.
 #[tactic(auto, unfolding(crate::specs::Commands::command_of))]
 pub fn read_command(alloc: Global, words: &Words) -> Result<Option<Command>, AllocError>
-    ensures read { IfOk result (λ command. command ≡ command_of words.now) }
-    ensures bounded { IfOk result (λ command. IsBoundedIfSome command) }
+    ensures { IfOk result (λ command. command ≡ command_of words.now) }
 {
     let first = word_at(words, 0);
     if first == b"solo".as_slice() {
-        Ok(solo(words))
+        solo(alloc, words)
+    } else if first == b"run".as_slice() {
+        run(alloc, words)
     } else if first == b"check".as_slice() {
         check(alloc, words)
     } else if first == b"asm".as_slice() {
@@ -45,39 +47,93 @@ fn word_at(words: &Words, at: usize) -> &[u8]
     }
 }
 
-fn solo(words: &Words) -> Option<Command>
-    ensures read { result ≡ solo_of words.now }
-    ensures bounded { IsBoundedIfSome result }
+/// Whether a word is the option that shows every step.
+fn is_all(word: &[u8]) -> bool
+    ensures { result ≡ is_all word.now }
 {
-    if words.len() != 3 {
-        return None;
+    word == b"--all".as_slice()
+}
+
+/// What the options say, which stand directly behind the first word.
+fn show_of(words: &Words) -> Show
+    ensures { result ≡ show_of words.now }
+{
+    Show {
+        all: is_all(word_at(words, 1)),
     }
-    match name(word_at(words, 1)) {
-        Some(name) => match steps(word_at(words, 2)) {
-            Some(steps) => Some(Command::Solo { name, steps }),
-            None => None,
+}
+
+/// Where the words behind the options begin.
+fn behind_options(words: &Words) -> usize
+    ensures place { result ≡ behind_options words.now }
+    ensures size { result ≤ 2 }
+{
+    if is_all(word_at(words, 1)) { 2 } else { 1 }
+}
+
+fn solo(alloc: Global, words: &Words) -> Result<Option<Command>, AllocError>
+    ensures { IfOk result (λ command. command ≡ solo_of words.now) }
+{
+    let at = behind_options(words);
+    if words.len() != at + 2 {
+        return Ok(None);
+    }
+    match name(word_at(words, at)) {
+        Some(name) => match steps(word_at(words, at + 1)) {
+            Some(steps) => {
+                let mut names = Names::new(alloc);
+                names.push(name)?;
+                Ok(Some(Command::Run(Job {
+                    show: show_of(words),
+                    script: None,
+                    steps,
+                    names,
+                })))
+            }
+            None => Ok(None),
         },
-        None => None,
+        None => Ok(None),
+    }
+}
+
+fn run(alloc: Global, words: &Words) -> Result<Option<Command>, AllocError>
+    ensures { IfOk result (λ command. command ≡ run_of words.now) }
+{
+    let at = behind_options(words);
+    if words.len() < at + 3 || words.len() > at + 2 + OBJECTS_MAX {
+        return Ok(None);
+    }
+    match name(word_at(words, at)) {
+        Some(script) => match steps(word_at(words, at + 1)) {
+            Some(steps) => match names(alloc, words, at + 2)? {
+                Some(names) => Ok(Some(Command::Run(Job {
+                    show: show_of(words),
+                    script: Some(script),
+                    steps,
+                    names,
+                }))),
+                None => Ok(None),
+            },
+            None => Ok(None),
+        },
+        None => Ok(None),
     }
 }
 
 fn check(alloc: Global, words: &Words) -> Result<Option<Command>, AllocError>
-    ensures read { IfOk result (λ command. command ≡ check_of words.now) }
-    ensures bounded { IfOk result (λ command. IsBoundedIfSome command) }
+    ensures { IfOk result (λ command. command ≡ check_of words.now) }
 {
     if words.len() < 2 || words.len() > OBJECTS_MAX + 1 {
         return Ok(None);
     }
-    match names(alloc, words) {
-        Ok(Some(names)) => Ok(Some(Command::Check { names })),
-        Ok(None) => Ok(None),
-        Err(e) => Err(e),
+    match names(alloc, words, 1)? {
+        Some(names) => Ok(Some(Command::Check { names })),
+        None => Ok(None),
     }
 }
 
 fn asm(words: &Words) -> Option<Command>
-    ensures read { result ≡ asm_of words.now }
-    ensures bounded { IsBoundedIfSome result }
+    ensures { result ≡ asm_of words.now }
 {
     if words.len() != 3 {
         return None;
@@ -92,8 +148,7 @@ fn asm(words: &Words) -> Option<Command>
 }
 
 fn insert(words: &Words) -> Option<Command>
-    ensures read { result ≡ insert_of words.now }
-    ensures bounded { IsBoundedIfSome result }
+    ensures { result ≡ insert_of words.now }
 {
     if words.len() != 3 {
         return None;
@@ -118,14 +173,14 @@ fn name(bytes: &[u8]) -> Option<Name>
     Name::from_slice(bytes)
 }
 
-/// The words behind the first, where all are names.
+/// The words from a place on, where all are names.
 #[tactic(auto, using(crate::proofs::Gathered::gathered_all, crate::proofs::Gathered::gathered_one, crate::proofs::Gathered::gathered_none))]
-fn names(alloc: Global, words: &Words) -> Result<Option<Names>, AllocError>
-    requires { 1 ≤ length words.now }
-    ensures { IfOk result (λ names. names ≡ names_of (drop 1 words.now)) }
+fn names(alloc: Global, words: &Words, from: usize) -> Result<Option<Names>, AllocError>
+    requires { from ≤ length words.now }
+    ensures { IfOk result (λ names. names ≡ names_of (drop from words.now)) }
 {
     let mut names = Names::new(alloc);
-    for at in 1..words.len() {
+    for at in from..words.len() {
         match name(word_at(words, at)) {
             Some(name) => names.push(name)?,
             None => return Ok(None),
@@ -136,8 +191,7 @@ fn names(alloc: Global, words: &Words) -> Result<Option<Names>, AllocError>
 
 /// A number of steps: decimal, from 1 to 10000000, without sign or leading zero.
 fn steps(bytes: &[u8]) -> Option<u32>
-    ensures read { result ≡ steps_of bytes.now }
-    ensures bounded { IfSome result (λ n. n ≤ 10000000) }
+    ensures { result ≡ steps_of bytes.now }
 {
     if bytes.is_empty() || bytes[0] == b'0' {
         return None;
@@ -146,8 +200,7 @@ fn steps(bytes: &[u8]) -> Option<u32>
 }
 
 fn digits(bytes: &[u8]) -> Option<u32>
-    ensures read { result ≡ digits_value 0 bytes.now }
-    ensures bounded { IfSome result (λ n. n ≤ 10000000) }
+    ensures { result ≡ digits_value 0 bytes.now }
 {
     let mut value: u32 = 0;
     for byte in bytes {

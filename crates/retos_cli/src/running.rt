@@ -1,64 +1,148 @@
-//! The command `solo`.
+//! The commands `run` and `solo`.
 
-ghost use Rattle.std.specs.Prelude.{◌≡◌, ◌≤◌};
-ghost use Rattle.solo_model.specs.Running.{booted};
-ghost use Rattle.retos_cli.specs.Ends.{Ended};
-ghost use Rattle.retos_cli.specs.declared.command.Command.TheVariants.{Solo};
-ghost use Rattle.retos_cli.specs.Tracing.{Traced, RanOn};
+ghost use Rattle.std.specs.Prelude.{◌≡◌, ◌≤◌, length, None, IfOk};
+ghost use Rattle.node_model.specs.Booting.{booted};
+ghost use Rattle.node_model.specs.Nodes.{Boots, IsSoundNode};
+ghost use Rattle.retos_node.specs.Parts.{parts};
+ghost use Rattle.trace_model.specs.Grammar.{empty_script};
+ghost use Rattle.trace_model.specs.Scripts.{IsScript};
+ghost use Rattle.retos_cli.specs.Bounds.{IsBoundedJob};
+ghost use Rattle.retos_cli.specs.Ends.{Ended, ScriptEnds, SupplyEnds, OnlyRead};
+ghost use Rattle.retos_cli.specs.Meaning.{form_by, AsksCheck};
+ghost use Rattle.retos_cli.specs.Tracing.{RunEnds, faults_of};
+ghost use Rattle.retos_cli.specs.declared.command.Command.TheVariants.{Run};
 
+use super::command::Job;
 use super::form::Form;
-use super::input::take;
-use super::outcome::{Outcome, Stop};
-use code_model::object::Object;
+use super::input::{take_all, take_script};
+use super::outcome::{Outcome, Refused, Stop, Why};
 use edge_io::folder::Folder;
 use edge_io::name::Name;
 use edge_io::sink::Sink;
-use solo_model::laws::alone_is_placed;
-use solo_run::run::{print_placement, run_to_end};
-use solo_run::solo::Solo as Node;
+use retos_node::{Ats, BootFault, End, Everys, Node, ObjectList, Script};
 use std::alloc::Global;
 
-/// Runs the application of this name alone for at most so many steps, and prints its trace.
-pub fn run_solo<F: Folder, O: Sink>(
+/// Runs the objects of a job under its script, and prints the trace.
+pub fn run_job<F: Folder, O: Sink>(
     alloc: Global,
     files: &mut F,
-    name: &Name,
-    steps: u32,
+    job: &Job,
     out: &mut O,
 ) -> Outcome
-    requires { steps ≤ 10000000 }
-    ensures { Ended (Solo name.now steps) (F.state files.old) (F.state files.new) (O.state out.old) (O.state out.new) result }
+    requires { IsBoundedJob job.now }
+    ensures { Ended (Run job.now) (F.state files.old) (F.state files.new) (O.state out.old) (O.state out.new) result }
 {
-    alone_is_placed();
-    match take(alloc, files, name, Form::Runnable) {
-        Ok((object, marks)) => match Node::boot(alloc, &object, &marks) {
-            Ok(solo) => trace(solo, &object, steps, out),
-            Err(_) => Outcome::Stopped(Stop::NoMemory),
-        },
+    match supply(alloc, files, job) {
+        Ok((script, objects)) => run_supplied(alloc, job, &script, &objects, out),
         Err(stop) => Outcome::Stopped(stop),
     }
 }
 
-/// Prints the trace of a booted application.
-fn trace<O: Sink>(solo: Node, o: &Object, steps: u32, out: &mut O) -> Outcome
-    requires booted { solo ≡ booted o.now solo.memory }
-    requires bound { steps ≤ 10000000 }
-    ensures { Traced o.now solo.memory steps (O.state out.old) (O.state out.new) result }
+/// Takes all inputs of a job: its script and its objects, or why one ends the command.
+fn supply<F: Folder>(alloc: Global, files: &mut F, job: &Job) -> Result<(Script, ObjectList), Stop>
+    requires { length job.now.names ≤ 16 }
+    ensures ends { SupplyEnds (F.state files.old) (F.state files.new) job.now result }
+    ensures rules { IfOk result (λ x. IsScript x.0) }
+    ensures many { IfOk result (λ x. length x.1 ≡ length job.now.names) }
+    ensures read { OnlyRead (F.state files.old) (F.state files.new) }
 {
-    match print_placement(o, out) {
-        Ok(()) => run_on(solo, steps, out),
+    match script_for(alloc, files, &job.script) {
+        Ok(script) => match take_all(alloc, files, &job.names, form_for(&job.script)) {
+            Ok(objects) => Ok((script, objects)),
+            Err(stop) => Err(stop),
+        },
+        Err(stop) => Err(stop),
+    }
+}
+
+/// The named script, or the empty one.
+fn script_for<F: Folder>(
+    alloc: Global,
+    files: &mut F,
+    script: &Option<Name>,
+) -> Result<Script, Stop>
+    ensures ends { ScriptEnds (F.state files.old) (F.state files.new) script.now result }
+    ensures rules { IfOk result IsScript }
+    ensures read { OnlyRead (F.state files.old) (F.state files.new) }
+{
+    match script {
+        Some(name) => take_script(alloc, files, name),
+        None => Ok(no_script(alloc)),
+    }
+}
+
+/// The script in which nothing happens.
+fn no_script(alloc: Global) -> Script
+    ensures empty { result ≡ empty_script }
+    ensures rules { IsScript result }
+{
+    Script {
+        ats: Ats::new(alloc),
+        everys: Everys::new(),
+        mix: None,
+    }
+}
+
+/// What the objects of a job are for.
+fn form_for(script: &Option<Name>) -> Form
+    ensures form { result ≡ form_by script.now }
+    ensures asked { AsksCheck result }
+{
+    match script {
+        Some(_) => Form::Checked,
+        None => Form::Application,
+    }
+}
+
+/// Boots the objects and runs them, or tells which has no room.
+fn run_supplied<O: Sink>(
+    alloc: Global,
+    job: &Job,
+    script: &Script,
+    objects: &ObjectList,
+    out: &mut O,
+) -> Outcome
+    requires bounded { job.now.steps ≤ 10000000 }
+    requires script { IsScript script.now }
+    requires many { length objects.now ≡ length job.now.names }
+    ensures { RunEnds job.now script.now objects.now (O.state out.old) (O.state out.new) result }
+{
+    match Node::boot(alloc, objects, job.show) {
+        Ok(node) => trace(node, job, script, objects, out),
+        Err(BootFault::NoRoom { object, cause }) => Outcome::Stopped(Stop::Refuse(Refused {
+            name: job.names.at(object as usize).copied(),
+            why: Why::Room(cause),
+        })),
+        Err(BootFault::Memory) => Outcome::Stopped(Stop::NoMemory),
+    }
+}
+
+/// Runs a booted node, and prints its trace.
+fn trace<O: Sink>(
+    mut node: Node,
+    job: &Job,
+    script: &Script,
+    objects: &ObjectList,
+    out: &mut O,
+) -> Outcome
+    requires boots { Boots (parts node) objects.now (booted objects.now) }
+    requires sound { IsSoundNode (parts node) objects.now }
+    requires fresh { node.steps ≡ 0 }
+    requires shows { node.show ≡ job.now.show }
+    requires bounded { job.now.steps ≤ 10000000 }
+    requires script { IsScript script.now }
+    ensures { RunEnds job.now script.now objects.now (O.state out.old) (O.state out.new) result }
+{
+    match node.run(script, job.steps, objects, out) {
+        Ok(end) => Outcome::Done(faults_of(end) > 0),
         Err(_) => Outcome::WriteFault,
     }
 }
 
-/// Runs a node that has made no step, and prints the lines of its run.
-fn run_on<O: Sink>(mut solo: Node, steps: u32, out: &mut O) -> Outcome
-    requires fresh { solo.steps ≡ 0 }
-    requires bound { steps ≤ 10000000 }
-    ensures { RanOn solo steps (O.state out.old) (O.state out.new) result }
+fn faults_of(end: End) -> u32
+    ensures { result ≡ faults_of end }
 {
-    match run_to_end(&mut solo, steps, out) {
-        Ok(faulted) => Outcome::Done(faulted),
-        Err(_) => Outcome::WriteFault,
+    match end {
+        End::Limit { faults, .. } | End::Quiet { faults, .. } => faults,
     }
 }

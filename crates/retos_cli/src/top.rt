@@ -13,12 +13,11 @@ use super::inserting::insert_file;
 use super::outcome::{Outcome, Status, Stop};
 use super::parse::read_command;
 use super::report::report;
-use super::running::run_solo;
+use super::running::run_job;
 use edge_io::folder::Folder;
 use edge_io::sink::Sink;
 use edge_io::words::Words;
-use solo_laws::booted_is_confined;
-use solo_model::laws::alone_is_placed;
+use retos_node::laws::booted_runs_are_sound;
 use std::alloc::Global;
 
 /// Does what the words say: reads and writes `files`, prints to `out`, and says on `err` why it doesn't. The status is what the
@@ -40,8 +39,7 @@ pub fn retos<F: Folder, O: Sink, E: Sink>(
     ensures no_command { NoCommandClause (call_of F.state O.state E.state words.now files.old files.new out.old out.new err.old err.new) result }
     ensures confined { ConfinedClause (call_of F.state O.state E.state words.now files.old files.new out.old out.new err.old err.new) }
 {
-    booted_is_confined();
-    alone_is_placed();
+    booted_runs_are_sound();
     let outcome = run(alloc, words, files, out);
     report(&outcome, err)
 }
@@ -69,7 +67,7 @@ fn carry_out<F: Folder, O: Sink>(
     ensures { Ended command.now (F.state files.old) (F.state files.new) (O.state out.old) (O.state out.new) result }
 {
     match command {
-        Command::Solo { name, steps } => run_solo(alloc, files, name, *steps, out),
+        Command::Run(job) => run_job(alloc, files, job, out),
         Command::Check { names } => check_all(alloc, files, names, out),
         Command::Asm { from, to } => assemble_file(alloc, files, from, to, out),
         Command::Insert { from, to } => insert_file(alloc, files, from, to, out),

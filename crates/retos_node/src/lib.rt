@@ -8,6 +8,7 @@
 
 mod calls;
 mod entries;
+pub mod laws;
 mod lines;
 mod locks;
 mod modules;

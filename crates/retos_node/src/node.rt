@@ -69,6 +69,7 @@ impl Node {
     pub fn boot(alloc: Global, objects: &ObjectList, show: Show) -> Result<Node, BootFault>
         ensures booted { IfOk result (λ node. Boots (parts node) objects.now (booted objects.now)) }
         ensures fresh { IfOk result (λ node. (node.steps ≡ 0) × (node.show ≡ show)) }
+        ensures sound { IfOk result (λ node. IsSoundNode (parts node) objects.now) }
         ensures refused { IfErr result (λ fault. IsBootFault objects.now fault) }
     {
         let _ = alloc;

@@ -18,6 +18,12 @@ fn solo_runs_accepted_applications(rt: HostRuntime) -> Result<(), Fail> {
             status: 6,
         },
         Case {
+            line: "solo e.o 100",
+            out: "a0 6000 602A 2000 2010\n7 a0.t0 emit 0005\n13 a0.t0 exit last\nend quiet 13 emits 1 faults 0\n",
+            err: "",
+            status: 0,
+        },
+        Case {
             line: "solo low.o 100",
             out: "a0 6000 6024 2000 2010\n8 a0.t0 fault store 1FFF\nend quiet 8 emits 0 faults 1\n",
             err: "",
@@ -40,12 +46,6 @@ fn solo_runs_accepted_applications(rt: HostRuntime) -> Result<(), Fail> {
 #[test]
 fn what_is_refused_is_named(rt: HostRuntime) -> Result<(), Fail> {
     let cases = [
-        Case {
-            line: "solo e.o 9",
-            out: "",
-            err: "retos: e.o: not yet\n",
-            status: 1,
-        },
         Case {
             line: "solo u.o 9",
             out: "",

@@ -1,8 +1,8 @@
 //! Rows: commands over files and streams in memory, with what each has to leave on out and on err, and its status.
 //!
 //! Nothing but tests stands here. They call `retos` (`retos_cli`) alone, so that crate isn't proved a second time for them.
-//! `command_rows` has words, refusals and failing devices, `check_rows`, `solo_rows`, `asm_rows` and `insert_rows` a command
-//! each, `system_rows` the system's own files. What they leave comes from outside of the program.
+//! `command_rows` has words, refusals and failing devices, `check_rows`, `solo_rows`, `run_rows`, `asm_rows` and `insert_rows` a
+//! command each, `system_rows` the system's own files. What they leave comes from outside of the program.
 #![tactic(auto)]
 
 #[cfg(test)]
@@ -13,6 +13,8 @@ mod check_rows;
 mod command_rows;
 #[cfg(test)]
 mod insert_rows;
+#[cfg(test)]
+mod run_rows;
 #[cfg(test)]
 mod solo_rows;
 #[cfg(test)]

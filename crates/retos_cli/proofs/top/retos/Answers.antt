@@ -39,4 +39,4 @@ returns-clause-no_command g c =
     (command_of c.args.words.now) c.run-outcome.result c.report.result c.run-outcome.ensures c.report.ensures
 
 pub returns-clause-confined : goal.returns-clause-confined
-returns-clause-confined g c = confined_clause c.booted_is_confined.ensures c.alone_is_placed.ensures.refused (g.F.Folder.state c.args.files.now).files (command_of c.args.words.now)
+returns-clause-confined g c = confined_clause c.booted_runs_are_sound.ensures (g.F.Folder.state c.args.files.now).files c.args.words.now

@@ -1,9 +1,0 @@
-use Rattle.std.proofs.Common.{◌-◌, length}
-use Rattle.retos_cli.proofs.Gathering.{Gathering}
-use Rattle.retos_cli.proofs.checking.gather.Given as goal
-
-abbrev pub invariant-inputs : goal.invariant-inputs
-invariant-inputs g l = Gathering (g.F.Folder.state l.initial.files) (g.F.Folder.state l.files) l.names l.counts.items l.at
-
-abbrev pub decreases-inputs : goal.decreases-inputs
-decreases-inputs g l = length l.names - l.at

@@ -1,4 +1,0 @@
-pub mod Entries
-pub mod Stepping
-pub mod Kernels
-pub mod Booting

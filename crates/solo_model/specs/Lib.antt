@@ -1,3 +1,0 @@
-pub mod Booted
-pub mod Running
-pub mod Trace
