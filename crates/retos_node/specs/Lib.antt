@@ -1,4 +1,4 @@
 pub mod Parts
 pub mod Turns
 pub mod Codes
-pub mod Calls
+pub mod EntryPoints
