@@ -9,7 +9,7 @@ use Rattle.trace_model.specs.declared.records.Record.{Record}
 use Rattle.node_model.specs.Entries.{Call, Turn, Work, by_call, module_runs, has_row, is_for_app, is_for_module, turn_at}
 use Rattle.retos_node.specs.declared.entries.KernelCall.{KernelCall}
 use Rattle.retos_node.specs.declared.entries.KernelCall.TheVariants as call
-use Rattle.retos_node.specs.Calls.{kernel_call}
+use Rattle.retos_node.specs.EntryPoints.{kernel_call}
 use Rattle.retos_node.specs.Turns.{Turned}
 use Rattle.retos_node.proofs.RunnerLemmas.{thread_below}
 

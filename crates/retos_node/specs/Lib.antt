@@ -2,7 +2,7 @@ pub mod Parts
 pub mod Turns
 pub mod Cases
 pub mod Codes
-pub mod Calls
 pub mod Readiness
 pub mod Printing
 pub mod Underway
+pub mod EntryPoints

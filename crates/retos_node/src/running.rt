@@ -10,7 +10,7 @@ ghost use Rattle.trace_model.specs.Texts.{end_of_line};
 ghost use Rattle.node_model.specs.Systems.{System};
 ghost use Rattle.node_model.specs.Sound.{IsSound};
 ghost use Rattle.node_model.specs.Runs.{is_quiet, next, run, Run};
-ghost use Rattle.node_model.specs.Nodes.{most_steps, IsSoundNode, reason_text, IsEnd, Parts, Represents, RunLaw};
+ghost use Rattle.node_model.specs.Nodes.{most_steps, IsSoundNode, reason_text, IsEnd, Parts, Represents};
 ghost use Rattle.retos_node.specs.Parts.{parts, IsRunEnd};
 ghost use Rattle.retos_node.specs.Readiness.{IsReady};
 ghost use Rattle.retos_node.specs.Printing.{Printed, PrintedUpTo, shown_line, shown_lines};
@@ -24,7 +24,9 @@ use crate::quiet::is_quiet;
 use crate::schedule::Schedule;
 use edge_io::sink::Sink;
 use edge_io::whole::SinkFault;
+use kernel_model::laws::orderly_queues;
 use line_text::line::Line;
+use node_laws::code::memory_is_shown;
 use trace_model::scripts::Script;
 
 /// How many values were printed, and how many faults came.
@@ -69,15 +71,13 @@ impl Ended {
     }
 }
 
-/// Each run from a sound system is sound.
-pub(crate) fn run_law()
-    ensures { (t : ScriptOf) → RunLaw t }
-{}
-
 /// The lists of a node's memory are in order.
 fn queues_law()
     ensures { (n : Parts) (os : List Loadable) → IsSoundNode n os → QueuesHold n.mem }
-{}
+{
+    memory_is_shown();
+    orderly_queues();
+}
 
 /// The steps of a run, with the lines of their records.
 pub(crate) fn run_steps<S: Sink>(node: &mut Node, script: &Script, limit: u32, objects: &ObjectList, out: &mut S) -> Result<Ended, SinkFault>

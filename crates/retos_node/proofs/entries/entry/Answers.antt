@@ -1,8 +1,7 @@
-use Rattle.std.proofs.Common.{◌≡◌, ℕ, List, true, Some, sym, subst, ap, ◌∙◌}
+use Rattle.std.proofs.Common.{◌≡◌, true, sym, subst, ◌∙◌}
 use Rattle.kernel_model.specs.Layout.{kernel_of}
-use Rattle.node_model.specs.Entries.{Call, Work, has_row, turn_at}
-use Rattle.node_model.specs.Steps.{entry_at}
-use Rattle.retos_node.specs.Calls.{call_of}
+use Rattle.node_model.specs.Entries.{Call, has_row, turn_at}
+use Rattle.retos_node.specs.EntryPoints.{call_of}
 use Rattle.retos_node.specs.Turns.{DoesCall}
 use Rattle.retos_node.proofs.EntryLemmas.{same_call}
 use Rattle.retos_node.proofs.TurnLemmas.{turns_by}

@@ -2,8 +2,8 @@ use Rattle.std.proofs.Common.{ℕ, List, sym, subst}
 use Rattle.machine_model.specs.Memory.{word_at}
 use Rattle.machine_model.specs.Context.{reg}
 use Rattle.trace_model.specs.declared.records.FaultKind.TheVariants.{Return}
-use Rattle.node_model.specs.Entries.{Work, Call, Turn, by_call, faults, returning, row}
-use Rattle.retos_node.specs.Calls.{kernel_call}
+use Rattle.node_model.specs.Entries.{Work, Call, Turn, faults, returning, row}
+use Rattle.retos_node.specs.EntryPoints.{kernel_call}
 use Rattle.retos_node.specs.Turns.{Turned, work_of}
 use Rattle.retos_node.proofs.EntryLemmas.{call_turn, marked_turn, unmarked_turn}
 use Rattle.retos_node.proofs.entries.returns.Goals as goal

@@ -21,5 +21,5 @@ returns c =
     let shown : Record = told.Vector c.args.moment.step n in
     turns_by m m' r r' c.args.moment shown (vector_turn n m)
     (λ own marks. dispatched_turn m m' r r' c.args.moment shown shown own (word_at m (reg r 1)) (served n (kernel_of m) (interrupted m r))
-        (dispatches_by (λ j. j) m m1 m' r' c.args.moment (served n (kernel_of m) (interrupted m r))
-        (subst (λ (x : List ℕ). Leaves m m1 (served n (kernel_of m) x)) c.pop_context.ensures c.serve.ensures.leaves) c.run_next.ensures) refl)
+    (dispatches_by (λ j. j) m m1 m' r' c.args.moment (served n (kernel_of m) (interrupted m r))
+    (subst (λ (x : List ℕ). Leaves m m1 (served n (kernel_of m) x)) c.pop_context.ensures c.serve.ensures.leaves) c.run_next.ensures) refl)
