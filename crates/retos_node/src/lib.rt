@@ -1,9 +1,9 @@
 //! A node: applications and kernel modules on one MSP430, with threads, time, interrupts, mutexes and conditions.
 //!
 //! Read `node.rt`' contracts first: a `Node` stands for a system of `node_model` (`Represents`), and `boot`, `step` and `run` leave
-//! nodes that stand for the systems of its definitions. `objects` has the list of accepted objects that a node is given; `turns`,
-//! `calls`, `locks`, `modules` and `routines` what each entry and each vector routine does, `stepping` the cases of a step, `booting`
-//! placing and starting, `running` a run with its lines, and `schedule` what a script gives for the next step.
+//! nodes that stand for the systems of its definitions. `objects` has the list of accepted objects that a node is given; `entries`,
+//! `turns`, `calls`, `locks`, `modules` and `routines` what each entry and each vector routine does, `stepping` the cases of a
+//! step, `booting` placing and starting, `running` a run with its lines, and `schedule` what a script gives for the next step.
 #![tactic(auto)]
 
 mod calls;

@@ -65,8 +65,8 @@ fn pop_context(m: &FlatMem, r: &mut Regs)
     raise(r);
 }
 
-/// Keeps the interrupted thread, unless nothing was interrupted, and does the line's work: on line 0 time goes on, and on another all
-/// that wait for it wake. Nothing runs then.
+/// Keeps the interrupted thread, unless nothing was interrupted, and does the line's work: on line 0 time goes on, and on another
+/// all that wait for it wake. Nothing runs then.
 fn serve(m: &mut FlatMem, r: &Regs, line: u8)
     requires ready { IsReady m.old }
     requires number { line < 14 }
