@@ -6,7 +6,10 @@ use Rattle.kernel_model.specs.Words.{none, running, running_module, app_of}
 use Rattle.kernel_model.specs.Running.{ThreadRuns, DomainRuns, running_domain}
 use Rattle.kernel_model.specs.Orderly.{IsOrderly}
 use Rattle.trace_model.specs.declared.records.Record.{Record}
-use Rattle.node_model.specs.Entries.{Call, Turn, module_runs, has_row, is_for_app, is_for_module}
+use Rattle.node_model.specs.Entries.{Call, Turn, Work, by_call, module_runs, has_row, is_for_app, is_for_module, turn_at}
+use Rattle.retos_node.specs.declared.entries.KernelCall.{KernelCall}
+use Rattle.retos_node.specs.declared.entries.KernelCall.TheVariants as call
+use Rattle.retos_node.specs.EntryPoints.{kernel_call}
 use Rattle.retos_node.specs.Turns.{Turned}
 use Rattle.retos_node.proofs.RunnerLemmas.{thread_below}
 
@@ -71,3 +74,24 @@ false_turn m m' r' told b t u e h = subst (λ (x : Bool). Turned m m' r' told (c
 
 pub unmarked_turn : (m m' r' : List ℕ) (told : Record) (b : Bool) (t u : Turn) → (b ≡ true → ⊥) → Turned m m' r' told u → Turned m m' r' told (cond b t u)
 unmarked_turn m m' r' told b t u e h = false_turn m m' r' told b t u (false_by b e) h
+
+-- ---- calls
+
+pub same_call : (e f : Call) → Some e ≡ Some f → e ≡ f
+same_call e f h = cc
+
+pub call_turn : (c : KernelCall) (w : Work) → turn_at (kernel_call c) w ≡ by_call (kernel_call c) w
+call_turn call.Spawn w = refl
+call_turn call.Yield w = refl
+call_turn call.Sleep w = refl
+call_turn call.Priority w = refl
+call_turn call.Identity w = refl
+call_turn call.Ticks w = refl
+call_turn call.Lock w = refl
+call_turn call.Unlock w = refl
+call_turn call.Wait w = refl
+call_turn call.Signal w = refl
+call_turn call.Broadcast w = refl
+call_turn call.Line w = refl
+call_turn call.ModuleCall w = refl
+call_turn call.Emits w = refl

@@ -4,6 +4,9 @@ use Rattle.std.proofs.lemmas.Bool.{cases_eq, ne_eqb, eq-eqb, cond-true, cond-fal
 use Rattle.kernel_model.specs.Kernel.{Kernel, with_thread, empty_row}
 use Rattle.kernel_model.specs.Words.{none, running, running_module, app_of, none_running, waiters_of}
 use Rattle.kernel_model.specs.Running.{ThreadRuns, NoneRuns, DomainRuns, running_domain}
+use Rattle.kernel_model.specs.Layout.{kernel_of}
+use Rattle.kernel_model.specs.Locks.{RunsOn}
+use Rattle.kernel_model.specs.Queues.{Leaves}
 use Rattle.kernel_model.specs.Dispatching.{moved_to_front}
 use Rattle.kernel_model.specs.Ending.{ended, exited, is_last, is_of}
 use Rattle.kernel_model.specs.Modules.{module_ended}
@@ -12,6 +15,7 @@ use Rattle.kernel_model.specs.declared.ends.AppEnd.{AppEnd}
 use Rattle.kernel_model.specs.declared.ends.AppEnd.TheVariants.{Done, Faulted}
 use Rattle.kernel_model.specs.Orderly.{only, listed, runner, caller_of, IsOrderly}
 use Rattle.kernel_model.specs.Orderly.Spot.{Runs, Calls}
+use Rattle.kernel_threads.proofs.ChainLemmas.{leaves_as, leaves_then}
 use Rattle.thread_laws.proofs.ListEdits.{single_has}
 use Rattle.thread_laws.proofs.EndedKernel.{stopped, ended_is, is_of_same}
 use Rattle.node_model.specs.Entries.{module_runs, fault_kernel}
@@ -48,14 +52,14 @@ thread_runs_by k h d e =
 
 -- ---- nothing runs
 
-pub none_after_ended : (k : Kernel) (how : AppEnd) → running_module k ≡ none → NoneRuns (ended k (app_of (running k)) how)
+none_after_ended : (k : Kernel) (how : AppEnd) → running_module k ≡ none → NoneRuns (ended k (app_of (running k)) how)
 none_after_ended k how e =
     let a : ℕ = app_of (running k) in
     subst (λ (j : Kernel). NoneRuns j)
     (sym (ended_is k a how ∙ cond-true (is_of a (running k)) (none_running (stopped k a how)) (stopped k a how) (is_of_same a (running k) refl)))
     record { no_thread = refl; no_module = e }
 
-pub none_after_exited : (k : Kernel) → running_module k ≡ none → NoneRuns (exited k)
+none_after_exited : (k : Kernel) → running_module k ≡ none → NoneRuns (exited k)
 unfolding exited
 none_after_exited k e =
     cond_both (is_last k) (ended k (app_of (running k)) Done) (none_running (with_thread k (running k) empty_row)) NoneRuns
@@ -68,10 +72,26 @@ handed_module k a i (n ∷ ns) = refl
 pub none_after_waiting : (k : Kernel) (c i : ℕ) → running_module k ≡ none → NoneRuns (waiting_condition k c i)
 none_after_waiting k c i e = record { no_thread = refl; no_module = handed_module k (own_app k) i (waiters_of k (own_app k) i) ∙ e }
 
+-- behind an exit
+pub none_left_by_exit : (m m1 m2 : List ℕ) → ThreadRuns (kernel_of m) → RunsOn (kernel_of m) (kernel_of m1) → Leaves m1 m2 (exited (kernel_of m1))
+    → NoneRuns (kernel_of m2)
+none_left_by_exit m m1 m2 runs on left =
+    subst (λ (j : Kernel). NoneRuns j) (sym left.kernel) (none_after_exited (kernel_of m1) (on.in_module ∙ runs.no_module))
+
 -- ---- a fault
 
-pub fault_of_module : (k : Kernel) → module_runs k ≡ true → fault_kernel k ≡ moved_to_front (module_ended k)
-fault_of_module k e = cond-true (module_runs k) (moved_to_front (module_ended k)) (ended k (app_of (running k)) Faulted) e
+-- of a module
+pub module_fault_left : (m m1 m2 : List ℕ) → module_runs (kernel_of m) ≡ true → Leaves m m1 (module_ended (kernel_of m))
+    → Leaves m1 m2 (moved_to_front (kernel_of m1)) → Leaves m m2 (fault_kernel (kernel_of m))
+module_fault_left m m1 m2 e x y =
+    let k : Kernel = kernel_of m in
+    leaves_as m m2 (moved_to_front (module_ended k)) (fault_kernel k)
+    (sym (cond-true (module_runs k) (moved_to_front (module_ended k)) (ended k (app_of (running k)) Faulted) e))
+    (leaves_then moved_to_front m m1 m2 (module_ended k) x y)
 
-pub fault_of_app : (k : Kernel) → module_runs k ≡ false → fault_kernel k ≡ ended k (app_of (running k)) Faulted
-fault_of_app k e = cond-false (module_runs k) (moved_to_front (module_ended k)) (ended k (app_of (running k)) Faulted) e
+-- of an application
+pub none_left_by_end : (m m' : List ℕ) (t : ℕ) (how : AppEnd) → ThreadRuns (kernel_of m) → t ≡ running (kernel_of m)
+    → Leaves m m' (ended (kernel_of m) (app_of t) how) → NoneRuns (kernel_of m')
+none_left_by_end m m' t how runs is left =
+    subst (λ (j : Kernel). NoneRuns j) (sym left.kernel)
+    (subst (λ (u : ℕ). NoneRuns (ended (kernel_of m) (app_of u) how)) (sym is) (none_after_ended (kernel_of m) how runs.no_module))

@@ -2,4 +2,4 @@ pub mod Parts
 pub mod Turns
 pub mod Cases
 pub mod Codes
-pub mod Calls
+pub mod EntryPoints

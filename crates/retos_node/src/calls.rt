@@ -28,6 +28,7 @@ use trace_model::records::Record;
 // ---- threads
 
 /// The running thread ends, and hands its mutexes over.
+#[tactic(auto, using(crate::proofs::RunnerLemmas::none_left_by_exit))]
 pub fn exits(m: &mut FlatMem, r: &mut Regs, moment: Moment) -> Record
     requires settled { IsSettled m.old }
     requires runs { ThreadRuns (kernel_of m.old) }

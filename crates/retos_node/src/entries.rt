@@ -8,7 +8,7 @@ ghost use Rattle.kernel_model.specs.Words.{none, running_module};
 ghost use Rattle.place_model.specs.Settled.{IsSettled};
 ghost use Rattle.node_model.specs.Entries.{Call, by_jump, entry_address, has_row, is_for_app, is_for_module, row, turn_at};
 ghost use Rattle.node_model.specs.Steps.{entry_at};
-ghost use Rattle.retos_node.specs.Calls.{call_of, kernel_call};
+ghost use Rattle.retos_node.specs.EntryPoints.{call_of, kernel_call};
 ghost use Rattle.retos_node.specs.Turns.{Does, DoesCall, HasRow, IsReady, TurnsBy};
 
 use crate::calls::{

@@ -172,6 +172,7 @@ pub fn answer_number(answer: Result<(), Code>) -> u16
 // ---- faults
 
 /// Ends the running application, or the running module, whose caller goes to the front of its priority. Nothing runs then.
+#[tactic(auto, using(crate::proofs::RunnerLemmas::none_left_by_end))]
 fn end_running(m: &mut FlatMem)
     requires settled { IsSettled m.old }
     requires runs { DomainRuns (kernel_of m.old) }

@@ -1,4 +1,4 @@
-use Rattle.std.proofs.Common.{ℕ, Bool, List, Ok, Err, subst}
+use Rattle.std.proofs.Common.{ℕ, Bool, List, Ok, Err, ap, ◌∙◌, subst}
 use Rattle.machine_model.specs.Context.{reg, set_reg}
 use Rattle.kernel_model.specs.Kernel.{Kernel}
 use Rattle.kernel_model.specs.Words.{number_of}
@@ -21,7 +21,7 @@ returns-in-Ok c own at marks =
     (subst (λ (b : Bool). SpawnedBy c.args.m.now m1 r (spawn_code k r b) (Ok n))
     (c.mark_answers_agree.ensures c.args.m.now (reg r 12) c.in-Ok.ensures.answer.0 (own (reg r 12)) c.in-Ok.ensures.answer.1.marked (let f = marks (reg r 12) in (f.1, f.0)))
     c.in-Ok.ensures.answer.1.by_code)
-    c.set.ensures c.called-told.ensures c.go_on.ensures
+    (c.set.ensures ∙ ap (λ v. set_reg r 13 v) c.from.ensures) c.called-told.ensures c.go_on.ensures
 
 pub returns-in-Err : goal.returns-in-Err
 returns-in-Err c own at marks =
@@ -35,7 +35,7 @@ returns-in-Err c own at marks =
     (subst (λ (b : Bool). SpawnedBy c.args.m.now m1 r (spawn_code k r b) (Err c.in-Err.code))
     (c.mark_answers_agree.ensures c.args.m.now (reg r 12) c.in-Err.ensures.answer.0 (own (reg r 12)) c.in-Err.ensures.answer.1.marked (let f = marks (reg r 12) in (f.1, f.0)))
     c.in-Err.ensures.answer.1.by_code)) in
-    refused_turn c.args.m.now c.go_on.new.m r c.go_on.new.r c.args.moment c.called-told.result own at Spawn (spawn_code k r (own (reg r 12))) c.in-Err.code n
+    refused_turn c.args.m.now c.go_on-in-Err.new.m r c.go_on-in-Err.new.r c.args.moment c.called-told.result own at Spawn (spawn_code k r (own (reg r 12))) c.in-Err.code n
     (after_giving Spawn (work_of c.args.m.now r c.args.moment own at) (spawned k r) (number_of (next_thread k)))
     why.code_is c.code_number.ensures c.called-told.ensures
-    (subst (λ (x : List ℕ). DispatchesFrom x c.go_on.new.m c.go_on.new.r c.args.moment (moved_to_front (saved (kernel_of x) (set_reg r 12 n)))) why.same c.go_on.ensures)
+    (subst (λ (x : List ℕ). DispatchesFrom x c.go_on-in-Err.new.m c.go_on-in-Err.new.r c.args.moment (moved_to_front (saved (kernel_of x) (set_reg r 12 n)))) why.same c.go_on-in-Err.ensures)

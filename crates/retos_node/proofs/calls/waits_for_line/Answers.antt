@@ -1,5 +1,5 @@
-use Rattle.std.proofs.Common.{ℕ, List, Ok, Err, subst, ap, ◌∙◌, sym, arith}
-use Rattle.machine_model.specs.Context.{reg, set_reg}
+use Rattle.std.proofs.Common.{ℕ, List, Ok, Err, subst, arith}
+use Rattle.machine_model.specs.Context.{set_reg}
 use Rattle.kernel_model.specs.Kernel.{Kernel}
 use Rattle.kernel_model.specs.Layout.{kernel_of}
 use Rattle.kernel_model.specs.Waking.{line_code, waiting_line}

@@ -1,6 +1,6 @@
 use Rattle.std.proofs.Common.{sym, ap, subst}
 use Rattle.node_model.specs.Entries.{is_for_module, row}
-use Rattle.retos_node.specs.Calls.{kernel_call}
+use Rattle.retos_node.specs.EntryPoints.{kernel_call}
 use Rattle.retos_node.specs.Turns.{Does}
 use Rattle.retos_node.specs.declared.entries.KernelCall.{KernelCall}
 use Rattle.retos_node.proofs.entries.calls.Goals as goal

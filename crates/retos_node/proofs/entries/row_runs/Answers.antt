@@ -1,5 +1,5 @@
 use Rattle.kernel_model.specs.Layout.{kernel_of}
-use Rattle.retos_node.specs.Calls.{call_of}
+use Rattle.retos_node.specs.EntryPoints.{call_of}
 use Rattle.retos_node.proofs.EntryLemmas.{row_domain, row_thread, row_module}
 use Rattle.retos_node.proofs.entries.row_runs.Goals as goal
 

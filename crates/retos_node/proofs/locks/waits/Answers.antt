@@ -1,16 +1,14 @@
-use Rattle.std.proofs.Common.{◌≡◌, ◌<◌, ℕ, List, Option, length, Ok, Err, subst, ap, ◌∙◌, sym, arith}
+use Rattle.std.proofs.Common.{◌≡◌, ℕ, List, Ok, Err, subst, ap, sym, arith}
 use Rattle.machine_model.specs.Context.{reg, set_reg}
 use Rattle.kernel_model.specs.Kernel.{Kernel}
-use Rattle.kernel_model.specs.Words.{running}
 use Rattle.kernel_model.specs.Layout.{kernel_of}
 use Rattle.kernel_model.specs.Sync.{wait_code, waiting_condition}
 use Rattle.kernel_model.specs.Dispatching.{moved_to_front, saved}
 use Rattle.kernel_model.specs.Running.{NoneRuns}
-use Rattle.kernel_model.specs.declared.code.Code.{Code}
 use Rattle.kernel_sync.specs.Answers.{AnswersBy}
 use Rattle.node_model.specs.Entries.{Wait, after_leaving}
 use Rattle.retos_node.specs.Turns.{DispatchesFrom, work_of}
-use Rattle.retos_node.proofs.AnswerLemmas.{IsAllowed, IsRefused, allowed_as, refused_as, allowed_by, refused_by, left_turn, undone_turn}
+use Rattle.retos_node.proofs.AnswerLemmas.{allowed_as, refused_as, allowed_by, refused_by, left_turn, undone_turn}
 use Rattle.retos_node.proofs.RunnerLemmas.{none_after_waiting}
 use Rattle.retos_node.proofs.locks.waits.Goals as goal
 
