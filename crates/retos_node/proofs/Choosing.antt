@@ -1,44 +1,16 @@
 -- Which case a step is, by the line to accept and by PC.
-use Rattle.std.proofs.Common.{◌≡◌, ◌≢◌, ℕ, ◌+◌, ◌*◌, ◌%◌, ◌^◌, ◌<◌, ◌≤◌, ◌⊎◌, inl, inr, Bool, true, false, not, cond, eqb, List, [], ◌∷◌, Option, Some, None, refl, sym, ap, ◌∙◌, subst, arith, bit_and}
-use Rattle.std.specs.Int.{bit_at}
+use Rattle.std.proofs.Common.{◌≡◌, ◌≢◌, ℕ, ◌+◌, ◌*◌, ◌%◌, ◌<◌, ◌≤◌, ◌⊎◌, inl, inr, Bool, false, eqb, List, [], ◌∷◌, Option, Some, None, refl, ap, ◌∙◌, arith}
 use Rattle.std.specs.List.{find, AllByRecursion}
-use Rattle.std.proofs.lemmas.Bool.{true≢false, cases_eq, cond-true, cond-false, ne_eqb, eq-eqb, eqb-true, and_left, and_right, and_from, lt-leb, le-leb}
-use Rattle.std.proofs.lemmas.Nat.{and_le_l}
-use Rattle.std.proofs.lemmas.Nat.Bits.{and_pow}
+use Rattle.std.proofs.lemmas.Bool.{cases_eq, cond-false, ne_eqb}
 use Rattle.machine_model.specs.Context.{reg}
 use Rattle.kernel_model.specs.declared.kinds.Kind.TheVariants.{App}
-use Rattle.kernel_model.specs.declared.rows.SysWord.TheVariants.{Budget}
-use Rattle.kernel_model.specs.Kernel.{Kernel, word_of}
-use Rattle.kernel_model.specs.Words.{none, running_module}
-use Rattle.node_model.specs.Entries.{Call, StoreFault, StackFault, Goes, Leave, calls, entry_address, module_runs}
-use Rattle.node_model.specs.Steps.{Case, Accepts, IsIdle, Enters, Serves, OverBudget, Runs, case_of, case_by_line, case_at, case_in_code, is_over_budget, pending, highest_line, entry_at, routine_at, lines_down}
+use Rattle.kernel_model.specs.Kernel.{Kernel}
+use Rattle.kernel_model.specs.Words.{none}
+use Rattle.node_model.specs.Entries.{Call, StoreFault, StackFault, Goes, Leave, calls, entry_address}
+use Rattle.node_model.specs.Steps.{Accepts, IsIdle, Serves, case_of, case_by_line, case_at, case_in_code, entry_at, routine_at, lines_down}
 use Rattle.node_laws.proofs.Casing.{StandsAt, named, entry-least, entry-found, enters-at, find-none}
 use Rattle.node_laws.proofs.Composing.{routine-found}
 use Rattle.retos_node.specs.Cases.{line_to_accept, IsAtEntry}
-
--- ---- the line
-
-found_by : (p : ℕ → Bool) (y x : ℕ) (rest : Option ℕ) (b : Bool) → p y ≡ b → (rest ≡ Some x → p x ≡ true) → cond b (Some y) rest ≡ Some x
-    → p x ≡ true
-found_by p y x rest true h later e = let same : y ≡ x = cc in subst (λ (z : ℕ). p z ≡ true) same h
-found_by p y x rest false h later e = later e
-
-find_holds : (p : ℕ → Bool) (xs : List ℕ) (x : ℕ) → find p xs ≡ Some x → p x ≡ true
-find_holds p [] x e = absurd (cc)
-find_holds p (y ∷ ys) x e = found_by p y x (find p ys) (p y) refl (find_holds p ys x) e
-
-bit_within : (w n : ℕ) → bit_at w n ≡ 1 → 2 ^ n ≤ w
-bit_within w n e =
-    let there : bit_and w (2 ^ n) ≡ 2 ^ n = and_pow w n ∙ (ap (λ (k : ℕ). k * 2 ^ n) e ∙ omega arith) in
-    omega (arith, there, and_le_l w (2 ^ n))
-
--- an accepted line is pending
-pub accepted_bit : (k : Kernel) (n : ℕ) → highest_line k ≡ Some n → 2 ^ n ≤ pending k
-accepted_bit k n e = bit_within (pending k) n (eqb-true (bit_at (pending k) n) 1 (find_holds (λ x. eqb (bit_at (pending k) x) 1) lines_down n e))
-
-pub none_pending : (k : Kernel) (b : Bool) → pending k ≡ 0 → cond b (highest_line k) None ≡ None
-none_pending k false e = refl
-none_pending k true e = ap (λ (w : ℕ). find (λ n. eqb (bit_at w n) 1) lines_down) e
 
 -- ---- the case
 
@@ -122,30 +94,3 @@ at_entry k r none l u e =
       at = ap entry_at c.1 ∙ entry-found c.0;
       enters = by_line k r None none ∙ enters-at k (reg r 0) c.0 c.1;
     }
-
--- ---- in code
-
-runs_without : (k : Kernel) → module_runs k ≡ false → case_in_code k ≡ Runs
-runs_without k e = cond-false (is_over_budget k) OverBudget Runs (and_left (module_runs k) _ e)
-
--- no module runs, so an instruction does
-pub app_runs : (k : Kernel) (r : List ℕ) → case_of k r ≡ case_in_code k → module_runs k ≡ false → case_of k r ≡ Runs
-app_runs k r e f = e ∙ runs_without k f
-
-pub module_goes_on : (k : Kernel) (r : List ℕ) → case_of k r ≡ case_in_code k → word_of k Budget < 4096 → case_of k r ≡ Runs
-module_goes_on k r e l =
-    e ∙ cond-false (is_over_budget k) OverBudget Runs (and_right (module_runs k) _ (lt-leb 4096 (word_of k Budget) l))
-
-pub module_is_over : (k : Kernel) (r : List ℕ) → case_of k r ≡ case_in_code k → module_runs k ≡ true → 4096 ≤ word_of k Budget
-    → case_of k r ≡ OverBudget
-module_is_over k r e f l =
-    e ∙ cond-true (is_over_budget k) OverBudget Runs (and_from (module_runs k) _ f (le-leb 4096 (word_of k Budget) l))
-
-pub no_module : (k : Kernel) → running_module k ≡ none → module_runs k ≡ false
-no_module k e = ap not (eq-eqb (running_module k) none e)
-
-pub a_module : (k : Kernel) → running_module k ≢ none → module_runs k ≡ true
-a_module k n = ap not (ne_eqb (running_module k) none n)
-
-pub some_module : (k : Kernel) → module_runs k ≡ true → running_module k ≢ none
-some_module k e f = true≢false (sym e ∙ ap not (eq-eqb (running_module k) none f))

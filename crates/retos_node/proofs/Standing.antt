@@ -1,5 +1,5 @@
 -- What each case gives every system that memory and registers stand for.
-use Rattle.std.proofs.Common.{◌≡◌, ◌≢◌, ℕ, ◌+◌, ◌-◌, ◌/◌, ◌^◌, ◌<◌, Bool, true, false, cond, eqb, List, get_or, Option, Some, None, Result, Ok, Err, inl, inr, refl, sym, ap, ◌∙◌, subst, arith}
+use Rattle.std.proofs.Common.{◌≡◌, ℕ, ◌+◌, ◌-◌, ◌^◌, ◌<◌, Bool, true, false, cond, eqb, List, Option, Some, None, Result, Ok, Err, inl, inr, refl, sym, ap, ◌∙◌, subst, arith}
 use Rattle.std.specs.Prelude.{◌↔◌}
 use Rattle.std.proofs.lemmas.List.{get_or_past}
 use Rattle.msp_encode.specs.declared.instr.Instr.{Instr}
@@ -16,23 +16,22 @@ use Rattle.kernel_model.specs.Kernel.{Kernel, word_of, with_word, module_at, fre
 use Rattle.kernel_model.specs.Layout.{kernel_of}
 use Rattle.kernel_model.specs.Queues.{Leaves}
 use Rattle.kernel_model.specs.Words.{none, running, running_module, app_of, tick_number}
-use Rattle.kernel_model.specs.Running.{ThreadRuns, NoneRuns, DomainRuns, running_domain, idle_context}
+use Rattle.kernel_model.specs.Running.{NoneRuns, running_domain}
 use Rattle.kernel_model.specs.Modules.{HasKnownModules}
 use Rattle.place_model.specs.Marking.{IsOwnMark, IsMarkOf}
 use Rattle.place_model.specs.Placing.{domain_at, module_domain}
-use Rattle.place_model.specs.Settled.{IsSettled}
 use Rattle.load_model.specs.Domains.{Domain}
 use Rattle.trace_model.specs.declared.records.Record.{Record}
 use Rattle.trace_model.specs.declared.records.Record.TheVariants as told
 use Rattle.node_model.specs.Systems.{System, seen, domain_in, is_mark, is_mark_in}
-use Rattle.node_model.specs.Entries.{Call, Turn, Work, work, entry_turn, turn_at, vector_turn, has_row, nothing_happens, module_runs, who_runs}
+use Rattle.node_model.specs.Entries.{Call, Turn, Work, work, turn_at, vector_turn, has_row, nothing_happens, module_runs, who_runs}
 use Rattle.node_model.specs.Steps.{Next, Case, Accepts, IsIdle, Enters, Serves, OverBudget, Runs, by_case, by_turn, case_of, fetched, instruction, over_budget, pending, step_of, with_raised}
 use Rattle.node_model.specs.Sound.{IsSound, IsRunning, AThread, Nothing, Interrupted, IdleInterrupted, AModule}
 use Rattle.node_model.specs.Confined.{IsConfined, IsJustAccepted, IsPushed}
-use Rattle.node_model.specs.Laws.{StepLaw, IsSafe, FetchedLaw, RowlessLaw, RaisedLaw}
+use Rattle.node_model.specs.Laws.{StepLaw, FetchedLaw, RowlessLaw, RaisedLaw}
 use Rattle.node_model.specs.Nodes.{Parts, Represents, Stepped, most_steps}
 use Rattle.load_model.specs.Loading.{Loadable}
-use Rattle.node_model.specs.Code.{StandsLaw, ShownLaw, Shows, SettledLaw, KnownLaw, OwnMarkLaw, GivesNext, IsTurned, TurnStandsLaw, IsDone, IsWritten, InstructionStandsLaw, DoneWritesLaw, IsAccepting, AcceptanceStandsLaw, AcceptedWritesLaw}
+use Rattle.node_model.specs.Code.{StandsLaw, ShownLaw, Shows, SettledLaw, KnownLaw, OwnMarkLaw, GivesNext, TurnStandsLaw, IsWritten, InstructionStandsLaw, DoneWritesLaw, AcceptanceStandsLaw, AcceptedWritesLaw}
 use Rattle.node_laws.proofs.Stepping.{domain-runs}
 use Rattle.node_laws.proofs.Within.{domain-module}
 use Rattle.node_laws.proofs.Idling.{idle-is}

@@ -99,7 +99,13 @@ impl Node {
     }
 
     /// Runs under a script for at most so many steps, until it is quiet, and prints the lines, each by a write of its own.
-    pub fn run<S: Sink>(&mut self, script: &Script, limit: u32, objects: &ObjectList, out: &mut S) -> Result<End, SinkFault>
+    pub fn run<S: Sink>(
+        &mut self,
+        script: &Script,
+        limit: u32,
+        objects: &ObjectList,
+        out: &mut S,
+    ) -> Result<End, SinkFault>
         requires first { (self.old).steps ≡ 0 }
         requires limit { limit ≤ most_steps }
         requires script { IsScript script.now }

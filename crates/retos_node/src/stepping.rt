@@ -1,5 +1,6 @@
 //! A step, by its cases: lines are raised, and then an interrupt is accepted, the machine idles, an entry or a routine of the kernel
-//! takes its turn, a module's budget is spent, or the instruction at PC runs.
+//! takes its turn, a module's budget is spent, or the instruction at PC runs. Each case is a function, whose contract says what it
+//! gives each sound system that memory and registers stand for (`specs/Cases.antt`).
 
 ghost use Rattle.std.specs.Prelude.{◌≡◌, ◌≢◌, ◌+◌, ◌<◌, ◌≤◌, ◌^◌, IfSome, length, None, false, true};
 ghost use Rattle.msp_encode.specs.Spelling.{Legal, words_after};
@@ -17,15 +18,24 @@ ghost use Rattle.node_model.specs.Code.{Shows};
 ghost use Rattle.node_model.specs.Entries.{module_runs, who_runs};
 ghost use Rattle.node_model.specs.Sound.{IsSound};
 ghost use Rattle.node_model.specs.Steps.{
-  Accepts, IsIdle, OverBudget, Runs, Serves, case_in_code, case_of, pending, with_pending, with_raised,
+  Accepts,
+  IsIdle,
+  OverBudget,
+  Runs,
+  Serves,
+  case_in_code,
+  case_of,
+  pending,
+  with_pending,
+  with_raised,
 };
 ghost use Rattle.node_model.specs.Systems.{System};
 ghost use Rattle.retos_node.specs.Cases.{Gives, GivesRaised, IsAtEntry, StandsForOne, line_to_accept};
 ghost use Rattle.retos_node.specs.Turns.{HasRow, IsReady};
 
-use crate::step_laws::{acceptance_law, instruction_law, steps_are_safe};
 use crate::entries::entry;
 use crate::routines::vector;
+use crate::step_laws::{acceptance_law, instruction_law, steps_are_safe};
 use crate::turns::{Moment, budget_fault, who_runs};
 use flat_mem::FlatMem;
 use interrupts::laws::highest_found;
@@ -34,15 +44,15 @@ use interrupts::{Lines, accept};
 use kernel_tables::{SysWord, get, put};
 use kernel_threads::NONE;
 use msp_encode::instr::Instr;
+use msp_machine::Regs;
+use msp_machine::exec::exec;
+use msp_machine::fetch::fetch;
+use msp_machine::regs::{PC, SR};
 use node_laws::code::{
     memory_is_shown, modules_are_known, own_marks_are_seen, raised_is_shown, turn_stands,
 };
 use node_laws::raised_is_sound;
 use node_model::laws::{fetched_where_spelled, rowless_is_not_confined};
-use msp_machine::Regs;
-use msp_machine::exec::exec;
-use msp_machine::fetch::fetch;
-use msp_machine::regs::{PC, SR};
 use trace_model::records::{Record, Who};
 
 /// How many values the bits of a mask of lines have.
@@ -194,9 +204,7 @@ fn idle_turn(m: &FlatMem, r: &Regs, moment: Moment) -> Record
     turn_stands();
     m.is_flat();
     let _ = r;
-    Record::IdleTurn {
-        step: moment.step,
-    }
+    Record::IdleTurn { step: moment.step }
 }
 
 /// The turn of the entry at PC.
@@ -310,7 +318,13 @@ fn over_budget(m: &mut FlatMem, r: &mut Regs, moment: Moment) -> Record
 }
 
 /// A module's instruction, which is counted.
-fn counted_instruction(m: &mut FlatMem, r: &mut Regs, who: Who, count: u16, moment: Moment) -> Record
+fn counted_instruction(
+    m: &mut FlatMem,
+    r: &mut Regs,
+    who: Who,
+    count: u16,
+    moment: Moment,
+) -> Record
     requires case { case_of (kernel_of m.old) r.old ≡ Runs }
     requires who { who ≡ who_runs (kernel_of m.old) }
     requires runs { module_runs (kernel_of m.old) ≡ true }
@@ -329,9 +343,7 @@ fn counted_instruction(m: &mut FlatMem, r: &mut Regs, who: Who, count: u16, mome
             m.is_flat();
             record
         }
-        Err(_) => Record::IdleTurn {
-        step: moment.step,
-    },
+        Err(_) => Record::IdleTurn { step: moment.step },
     }
 }
 
@@ -348,20 +360,25 @@ fn instruction(m: &mut FlatMem, r: &mut Regs, who: Who, moment: Moment) -> Recor
     m.is_flat();
     match fetch(m, r.get(PC)) {
         Ok((instr, words)) => execute(m, r, &instr, words, who, moment),
-        Err(_) => Record::IdleTurn {
-        step: moment.step,
-    },
+        Err(_) => Record::IdleTurn { step: moment.step },
     }
 }
 
 /// Runs the instruction at PC, of so many words.
 #[inline(always)]
-fn execute(m: &mut FlatMem, r: &mut Regs, instr: &Instr, words: u8, who: Who, moment: Moment) -> Record
+fn execute(
+    m: &mut FlatMem,
+    r: &mut Regs,
+    instr: &Instr,
+    words: u8,
+    who: Who,
+    moment: Moment,
+) -> Record
     requires legal { Legal instr.now }
     requires size { words ≡ 1 + length (words_after instr.now) }
     ensures memory { m.new ≡ memory_after m.old (does m.old r.old instr.now words) }
     ensures context { r.new ≡ (does m.old r.old instr.now words).context }
-    ensures shown { result ≡ told.Instr moment.step who (reg r.old 0) (word_at m.old (reg r.old 0)) (does m.old r.old instr.now words).written }
+    ensures shown { let pc = reg r.old 0 in result ≡ told.Instr moment.step who pc (word_at m.old pc) (does m.old r.old instr.now words).written }
     ensures is_memory { IsMemory m.new }
 {
     let pc = r.get(PC);

@@ -1,8 +1,7 @@
-use Rattle.std.proofs.Common.{◌≡◌, ap, sym, ◌∙◌, subst, ℕ, ◌+◌, List, Option, Some}
+use Rattle.std.proofs.Common.{ap, sym, ◌∙◌, ℕ, ◌+◌}
 use Rattle.machine_model.specs.Memory.{IsMemory}
-use Rattle.machine_model.specs.Context.{reg}
 use Rattle.node_model.specs.Steps.{fetched}
-use Rattle.retos_node.proofs.Standing.{IsDoneBy, gives_instruction, gives_none, is_found, isnt_found, left_counted, left_uncounted}
+use Rattle.retos_node.proofs.Standing.{gives_instruction, gives_none, is_found, isnt_found, left_counted}
 use Rattle.retos_node.proofs.stepping.counted_instruction.Goals as goal
 
 pub returns-in-Ok : goal.returns-in-Ok

@@ -1,4 +1,4 @@
-use Rattle.std.proofs.Common.{◌≡◌, ap, sym, ◌∙◌, subst, ℕ, Option, Some}
+use Rattle.std.proofs.Common.{ap, ◌∙◌}
 use Rattle.node_model.specs.Steps.{entry_at}
 use Rattle.retos_node.proofs.Standing.{gives_entry}
 use Rattle.retos_node.proofs.stepping.enter.Goals as goal

@@ -12,7 +12,7 @@ by_case-requires c =
       stands = (
         with_raised s c.args.raised,
         raised_stands c.raised_is_sound.ensures c.args.m.now c.raise_lines.new.m c.args.r.now c.args.moment.step c.args.raised s h
-        (c.raise_lines.ensures s h.shows h.sound),
+            (c.raise_lines.ensures s h.shows h.sound),
       );
     }
 

@@ -1,10 +1,7 @@
 use Rattle.std.proofs.Common.{◌+◌, refl}
-use Rattle.node_model.specs.Code.{Shows}
-use Rattle.node_model.specs.Sound.{IsSound}
 use Rattle.node_model.specs.Systems.{System}
 use Rattle.node_model.specs.Steps.{step}
-use Rattle.node_model.specs.Nodes.{Represents, Stepped, system_of}
-use Rattle.retos_node.specs.Cases.{Stands}
+use Rattle.node_model.specs.Nodes.{Stepped, system_of}
 use Rattle.retos_node.specs.Parts.{parts}
 use Rattle.retos_node.proofs.Standing.{node_stands, stepped}
 use Rattle.retos_node.proofs.node.Node.step.Goals as goal
@@ -14,8 +11,8 @@ step-record-requires c = record {
   stands = (
     system_of (parts c.args.self.now) c.args.objects.now,
     node_stands c.memory_is_shown.ensures.shown (parts c.args.self.now) c.args.objects.now
-    (system_of (parts c.args.self.now) c.args.objects.now)
-    c.requires.sound.represents c.requires.sound.sound c.requires.few,
+        (system_of (parts c.args.self.now) c.args.objects.now)
+        c.requires.sound.represents c.requires.sound.sound c.requires.few,
   );
 }
 
