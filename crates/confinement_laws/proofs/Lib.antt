@@ -13,3 +13,4 @@ pub mod UnitLeading
 pub mod Steps
 pub mod Keeping
 pub mod InStack
+pub mod AtEntry

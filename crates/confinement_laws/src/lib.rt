@@ -16,6 +16,7 @@ ghost use Rattle.confinement_laws.specs.Kept.{
   StandsLeftLaw,
 };
 ghost use Rattle.node_model.specs.Instructions.{
+  AtEntryLaw,
   FetchLaw,
   GuardLaw,
   InstructionLaw,
@@ -121,6 +122,11 @@ pub fn region_stays()
 /// A safe context that isn't at an entry stands at a start, and an instruction is fetched there.
 pub fn good_fetches()
     ensures { FetchLaw }
+{}
+
+/// A safe context at or above F000 stands at an entry, and where a call may name it a word is on the stack.
+pub fn good_above_is_at_entry()
+    ensures { AtEntryLaw }
 {}
 
 /// Code stands as long as its bytes are the same.

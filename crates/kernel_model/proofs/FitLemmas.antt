@@ -6,7 +6,7 @@ use Rattle.kernel_model.specs.Bytes.{part, words_of, before_none, rows}
 use Rattle.kernel_model.specs.Layout.{FitsList, FitsThread, FitsMutex, Fits, app_read, module_read, function_read, thread_read, mutex_read, tables, kernel_in, kernel_of}
 use Rattle.kernel_model.proofs.BytesLemmas.{length-words_of, length-before_none, length-rows, length-part}
 
-abbrev Small : ℕ → Type 0
+abbrev pub Small : ℕ → Type 0
 Small b = b < 256
 
 below_none : (b : ℕ) → eqb b 255 ≡ false → b < 256 → b < 255
@@ -30,7 +30,7 @@ list_fits n bs e h = record {
 }
 
 -- what holds of each row's bytes
-all_rows : {X : Type 0} (read : List ℕ → X) (r : ℕ) (P : X → Type 0) → ((bs : List ℕ) → length bs ≡ r → All Small bs → P (read bs))
+pub all_rows : {X : Type 0} (read : List ℕ → X) (r : ℕ) (P : X → Type 0) → ((bs : List ℕ) → length bs ≡ r → All Small bs → P (read bs))
     → (n : ℕ) (bs : List ℕ) → length bs ≡ r * n → All Small bs → All P (rows read r n bs)
 unfolding rows
 all_rows read r P f zero bs e h = All-nil P
@@ -57,7 +57,7 @@ mutex_fits bs e h =
     let size : length (take 4 (drop 2 bs)) ≡ 4 = length-take-le 4 (drop 2 bs) (omega arith) in
     record { waiters = list_fits 4 (take 4 (drop 2 bs)) size (All-take Small 4 (drop 2 bs) (All-drop Small 2 bs h)) }
 
-part_small : (m : List ℕ) (a n : ℕ) → All Small m → All Small (part m a n)
+pub part_small : (m : List ℕ) (a n : ℕ) → All Small m → All Small (part m a n)
 unfolding part
 part_small m a n h = All-take Small n (drop a m) (All-drop Small a m h)
 

@@ -5,3 +5,4 @@ pub mod OrderlyLemmas
 pub mod OutsideLemmas
 pub mod EmptyLemmas
 pub mod KeptLemmas
+pub mod SmallLemmas

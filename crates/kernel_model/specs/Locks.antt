@@ -1,7 +1,8 @@
 -- What is promised of owners of mutexes, and of those that wait for mutexes and conditions.
 use Rattle.std.specs.Prelude.{◌≡◌, ◌≢◌, ℕ, ◌<◌, ◌⊎◌, List, [], ◌++◌, Contains}
-use Rattle.kernel_model.specs.Kernel.{Kernel, thread_at, mutex_at, condition_at}
-use Rattle.kernel_model.specs.Words.{none, ready, running, running_module, identity, owner_of, waiters_of}
+use Rattle.kernel_model.specs.Kernel.{Kernel, thread_at, app_at, mutex_at, condition_at}
+use Rattle.kernel_model.specs.Orderly.{IsLiveThread}
+use Rattle.kernel_model.specs.Words.{none, free, ready, running, running_module, identity, owner_of, waiters_of}
 
 -- thread n of application a owns mutex i
 abbrev pub IsOwner : Kernel → (a i n : ℕ) → Type 0
@@ -22,6 +23,25 @@ HasTaken k a i n = (owner_of k a i ≡ n) × ((thread_at k (identity a n)).state
 -- it came to wait for mutex i, behind all that waited before
 abbrev pub HasJoined : (before after : Kernel) → (a i n : ℕ) → Type 0
 HasJoined k k' a i n = (came : List ℕ) × (waiters_of k' a i ≡ waiters_of k a i ++ came) × Contains came n
+
+-- ---- in a kernel
+
+-- thread n of application a is live, and so is the application
+pub record IsLiveOwner (k : Kernel) (a n : ℕ) : Type 0 where
+  pub number : n < 4
+  pub alive : (thread_at k (identity a n)).state ≢ free
+  pub of_app : IsLiveThread (app_at k a) (identity a n)
+
+-- what holds of each mutex and of each condition
+pub record LocksHeld (k : Kernel) : Type 0 where
+  -- a mutex has at most one owner
+  pub one_owner : (a i n p : ℕ) → a < 8 → i < 4 → IsOwner k a i n → IsOwner k a i p → n ≡ p
+  -- which is a live thread of its application
+  pub live_owner : (a i n : ℕ) → a < 8 → i < 4 → IsOwner k a i n → IsLiveOwner k a n
+  -- and doesn't wait for it
+  pub owner_waits_not : (a i n : ℕ) → a < 8 → i < 4 → IsOwner k a i n → WaitsForMutex k a i n → ⊥
+  -- who waits for a condition waits for no mutex
+  pub waits_once : (a c i n : ℕ) → a < 8 → c < 4 → i < 4 → WaitsForCondition k a c n → WaitsForMutex k a i n → ⊥
 
 -- ---- between two kernels, where no application ends
 

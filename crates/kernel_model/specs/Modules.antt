@@ -1,5 +1,5 @@
 -- What the calls on modules do to the kernel.
-use Rattle.std.specs.Prelude.{ℕ, ◌==◌, nat_lt, ◌||◌, List, [], ◌∷◌, slice_index, Option}
+use Rattle.std.specs.Prelude.{ℕ, ◌<◌, ◌≤◌, ◌==◌, nat_lt, ◌||◌, List, [], ◌∷◌, slice_index, Option}
 use Rattle.kernel_model.specs.Kernel.{Kernel, module_at, with_module, function_at}
 use Rattle.kernel_model.specs.Words.{none, calling, running_state, running, running_module, with_running_module, with_state, saved_register}
 use Rattle.kernel_model.specs.Entries.{first_code}
@@ -9,6 +9,10 @@ use Rattle.kernel_model.specs.declared.code.Code.TheVariants.{NoFunction, Module
 
 abbrev pub ended_module : ℕ
 ended_module = 2
+
+-- each module's row is free, live or ended
+abbrev pub HasKnownModules : Kernel → Type 0
+HasKnownModules k = (i : ℕ) → i < 4 → (module_at k i).state ≤ ended_module
 
 abbrev pub enter_code : Kernel → (f : ℕ) → Option Code
 enter_code k f = first_code

@@ -27,6 +27,12 @@ pub fn memory_fits()
     ensures { (m : List ℕ) → length m ≡ 65536 → All (λ b. b < 256) m → Fits (kernel_of m) }
 {}
 
+/// The layout of a memory's kernel is as many bytes as the tables have.
+pub fn memory_kernel_bytes()
+    ensures length { (k : Kernel) → Fits k → length (layout k) ≡ 3584 }
+    ensures small { (m : List ℕ) → length m ≡ 65536 → All (λ b. b < 256) m → All (λ b. b < 256) (layout (kernel_of m)) }
+{}
+
 /// The two lists of a laid-out memory with an orderly kernel are laid out and in order.
 pub fn orderly_queues()
     ensures { (m : List ℕ) → IsLaidOut m → IsOrderly (kernel_of m) → QueuesHold m }

@@ -9,7 +9,7 @@ use Rattle.kernel_model.specs.Words.{none, live, free}
 use Rattle.kernel_model.specs.Modules.{ended_module, entered_context}
 use Rattle.kernel_model.specs.declared.rows.ModuleRow.{ModuleRow}
 use Rattle.place_model.specs.Settled.{IsSettledKernel}
-use Rattle.kernel_modules.specs.Calls.{HasKnownModules}
+use Rattle.kernel_model.specs.Modules.{HasKnownModules}
 
 -- ---- the module
 

@@ -1,3 +1,3 @@
 pub mod CallLemmas
 pub mod LeavingLemmas
-pub mod FixtureLemmas
+mod FunctionLemmas

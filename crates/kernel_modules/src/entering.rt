@@ -4,13 +4,13 @@ ghost use Rattle.std.specs.Prelude.{◌≡◌, ◌<◌, slice_index};
 ghost use Rattle.kernel_model.specs.Kernel.{function_at};
 ghost use Rattle.kernel_model.specs.Layout.{kernel_of};
 ghost use Rattle.kernel_model.specs.Dispatching.{saved};
-ghost use Rattle.kernel_model.specs.Modules.{enter_code, entered, entered_context};
+ghost use Rattle.kernel_model.specs.Modules.{HasKnownModules, enter_code, entered, entered_context};
 ghost use Rattle.kernel_model.specs.Queues.{Leaves};
 ghost use Rattle.kernel_model.specs.Running.{ThreadRuns};
 ghost use Rattle.kernel_model.specs.Words.{calling, running, with_running_module, with_state};
 ghost use Rattle.place_model.specs.Settled.{IsSettled};
 ghost use Rattle.kernel_threads.specs.Entries.{AnswersBy};
-ghost use Rattle.kernel_modules.specs.Calls.{BecomesBy, HasKnownModules};
+ghost use Rattle.kernel_modules.specs.Calls.{BecomesBy};
 
 use crate::Code;
 use flat_mem::FlatMem;

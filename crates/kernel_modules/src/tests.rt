@@ -1,14 +1,20 @@
 //! What calls of two modules leave of a caller and of the registers, worked out by hand.
 
 mod fixture;
+mod texts;
 
 use crate::*;
-use fixture::{Answer, begin, make_end, make_enter, make_leave, two_modules};
+use fixture::{
+    Answer, Outcome, begin, make_end, make_enter, make_leave, put, two_apps, two_modules,
+};
 use flat_mem::FlatMem;
-use kernel_tables::{SysWord, get, module, thread};
+use kernel_tables::{FnRow, ModuleRow, SysWord, function, get, module, thread};
 use kernel_threads::NONE;
 use msp_machine::Regs;
+use region_table::is_marked;
+use std::alloc::{AllocError, Global};
 use std::test::Fail;
+use texts::text;
 
 /// The caller's limit and top, who runs, the running module and its count, outside of a call.
 const OUTSIDE: [u16; 5] = [0x2008, 0x2012, 0, NONE, 0];
@@ -128,5 +134,132 @@ fn a_number_that_no_module_exported_is_refused(rt: HostRuntime) -> Result<(), Fa
             "{number}"
         );
     }
+    Ok(())
+}
+
+/// A copy of memory.
+fn copy(alloc: Global, m: &FlatMem) -> Result<FlatMem, AllocError> {
+    let mut other = FlatMem::new(alloc)?;
+    for at in 0..=0xFFFFu16 {
+        other.set_byte(at, m.byte(at));
+    }
+    Ok(other)
+}
+
+fn same(m: &FlatMem, n: &FlatMem) -> bool {
+    for at in 0..=0xFFFFu16 {
+        if m.byte(at) != n.byte(at) {
+            return false;
+        }
+    }
+    true
+}
+
+#[test]
+fn a_module_stands_with_its_functions_and_marks(rt: HostRuntime) -> Result<(), Fail> {
+    let alloc = rt.alloc();
+    let mut m = two_apps(alloc)?;
+    let text = text(alloc, 3, &[0x531C, 0x4030, 0xF026], &[(5, 0), (9, 2)])?;
+    assert_eq!(rt; put(&mut m, alloc, &text), Outcome::At(8));
+    let row = ModuleRow {
+        state: 1,
+        code_lo: 0x6020,
+        code_hi: 0x6026,
+        lo: 0x2066,
+        hi: 0x206A,
+    };
+    assert_eq!(rt; module(&m, 0), row);
+    let functions: [(u8, u16, u16); 4] = [
+        (5, 0, 0x6020),
+        (9, 0, 0x6022),
+        (4, NONE, 0),
+        (10, NONE, 0),
+    ];
+    for (number, module, address) in functions {
+        assert_eq!(rt; function(&m, number), FnRow { module, address }, "{number}");
+    }
+    // the third word is the branch's target
+    for (at, want) in [(0x6020, true), (0x6022, true), (0x6024, false)] {
+        assert_eq!(rt; is_marked(&m, 8, at), want, "{at:#x}");
+    }
+    Ok(())
+}
+
+#[test]
+fn four_modules_are_loaded_and_no_fifth(rt: HostRuntime) -> Result<(), Fail> {
+    let alloc = rt.alloc();
+    let mut m = two_apps(alloc)?;
+    let first = text(alloc, 0, &[0x3FFF], &[(5, 0)])?;
+    let second = text(alloc, 0, &[0x3FFF], &[(6, 0)])?;
+    let third = text(alloc, 0, &[0x3FFF], &[(7, 0)])?;
+    let fourth = text(alloc, 0, &[0x3FFF], &[(8, 0)])?;
+    assert_eq!(rt; put(&mut m, alloc, &first), Outcome::At(8));
+    assert_eq!(rt; put(&mut m, alloc, &second), Outcome::At(9));
+    assert_eq!(rt; put(&mut m, alloc, &third), Outcome::At(10));
+    assert_eq!(rt; put(&mut m, alloc, &fourth), Outcome::At(11));
+    assert_eq!(rt; function(&m, 8).address, 0x6026);
+    // a taken function comes behind a want of rows
+    let old = copy(alloc, &m)?;
+    assert_eq!(rt; put(&mut m, alloc, &first), Outcome::Refused(NoRoom::Slots));
+    assert_eq!(rt; same(&old, &m), true);
+    Ok(())
+}
+
+/// 8,192 jumps, each to itself.
+fn long_code(alloc: Global) -> Result<Vec<u16>, AllocError> {
+    let mut code = Vec::new(alloc);
+    for _ in 0..8192u16 {
+        code.push(0x3FFF)?;
+    }
+    Ok(code)
+}
+
+#[test]
+fn the_least_taken_function_comes_before_the_gaps(rt: HostRuntime) -> Result<(), Fail> {
+    let alloc = rt.alloc();
+    let mut m = two_modules(alloc)?;
+    let mut r = Regs::new();
+    // module 0 ends, and its function stays taken
+    begin(&mut m, &mut r);
+    set_all(&mut r, &caller_registers(5));
+    assert_eq!(rt; make_enter(&mut m, &mut r), Answer::Made);
+    assert_eq!(rt; make_end(&mut m), Answer::Made);
+    let old = copy(alloc, &m)?;
+    let code = long_code(alloc)?;
+    let both = text(alloc, 16384, &code, &[(4, 0), (5, 0), (63, 0)])?;
+    let last = text(alloc, 16384, &code, &[(4, 0), (62, 0), (63, 0)])?;
+    assert_eq!(rt;
+        put(&mut m, alloc, &both),
+        Outcome::Refused(NoRoom::Taken { number: 5 })
+    );
+    assert_eq!(rt;
+        put(&mut m, alloc, &last),
+        Outcome::Refused(NoRoom::Taken { number: 63 })
+    );
+    assert_eq!(rt; same(&old, &m), true);
+    Ok(())
+}
+
+#[test]
+fn a_module_larger_than_the_gap_left_is_refused(rt: HostRuntime) -> Result<(), Fail> {
+    let alloc = rt.alloc();
+    let mut m = two_apps(alloc)?;
+    let code = long_code(alloc)?;
+    let first = text(alloc, 0, &code, &[(5, 0)])?;
+    let second = text(alloc, 16384, &code, &[(6, 0)])?;
+    let third = text(alloc, 16384, &[0x3FFF], &[(7, 0)])?;
+    assert_eq!(rt; put(&mut m, alloc, &first), Outcome::At(8));
+    let old = copy(alloc, &m)?;
+    let no_code = NoRoom::Code {
+        need: 16384,
+        gap: 16352,
+    };
+    assert_eq!(rt; put(&mut m, alloc, &second), Outcome::Refused(no_code));
+    let no_region = NoRoom::Region {
+        need: 16384,
+        gap: 16282,
+    };
+    assert_eq!(rt; put(&mut m, alloc, &third), Outcome::Refused(no_region));
+    assert_eq!(rt; same(&old, &m), true);
     Ok(())
 }

@@ -6,7 +6,7 @@ use Rattle.kernel_model.specs.Words.{number_of}
 use Rattle.kernel_model.specs.Queues.{Leaves}
 use Rattle.kernel_model.specs.declared.code.Code.{Code}
 use Rattle.kernel_model.specs.Entries.{next_thread, spawn_code, spawned}
-use Rattle.kernel_threads.specs.Returns.{IsOwnMark}
+use Rattle.place_model.specs.Marking.{IsOwnMark}
 
 -- with no code there is a new thread, and its number is answered; else the code is, and memory is as it was
 abbrev pub SpawnedBy : (before after registers : List ℕ) → Option Code → Result ℕ Code → Type 0

@@ -2,14 +2,7 @@
 use Rattle.std.specs.Prelude.{◌≡◌, ℕ, List, Result, Ok, Err}
 use Rattle.machine_model.specs.Context.{reg, set_reg}
 use Rattle.machine_model.specs.Operands.{sum_of}
-use Rattle.kernel_model.specs.Layout.{kernel_of}
-use Rattle.place_model.specs.Placing.{domain_at}
-use Rattle.place_model.specs.Marking.{IsMarkOf}
-use Rattle.kernel_model.specs.Running.{running_domain}
-
--- the address is a mark of the domain that runs
-abbrev pub IsOwnMark : (m : List ℕ) → (at : ℕ) → Type 0
-IsOwnMark m at = let code = (domain_at (kernel_of m) (running_domain (kernel_of m))).code in IsMarkOf m code.from code.to at
+use Rattle.place_model.specs.Marking.{IsOwnMark}
 
 -- the registers that go on at an address
 abbrev pub gone_to : (registers : List ℕ) → (at : ℕ) → List ℕ

@@ -3,7 +3,7 @@
 ghost use Rattle.std.specs.Prelude.{◌≡◌, ◌↔◌, ℕ, Bool, IsTrue, List};
 ghost use Rattle.machine_model.specs.Context.{IsContext};
 ghost use Rattle.kernel_threads.specs.Contexts.{taken};
-ghost use Rattle.kernel_threads.specs.Returns.{IsOwnMark};
+ghost use Rattle.place_model.specs.Marking.{IsOwnMark};
 
 /// Registers take a context as it is.
 pub fn contexts_are_taken()

@@ -5,7 +5,8 @@ ghost use Rattle.machine_model.specs.Context.{reg};
 ghost use Rattle.machine_model.specs.Memory.{word_at};
 ghost use Rattle.kernel_model.specs.Layout.{kernel_of};
 ghost use Rattle.kernel_model.specs.Running.{DomainRuns};
-ghost use Rattle.kernel_threads.specs.Returns.{GoesOn, IsOwnMark, gone_to, returned_to};
+ghost use Rattle.place_model.specs.Marking.{IsOwnMark};
+ghost use Rattle.kernel_threads.specs.Returns.{GoesOn, gone_to, returned_to};
 
 use crate::stacks::running_domain;
 use flat_mem::FlatMem;

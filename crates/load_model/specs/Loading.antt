@@ -1,5 +1,5 @@
 -- Where an object is placed, and the kernel and the memory that have it then.
-use Rattle.std.specs.Prelude.{◌≡◌, ◌↔◌, ℕ, ◌+◌, ◌-◌, ◌/◌, ◌%◌, ◌<◌, ◌≤◌, ◌⊎◌, ◌==◌, if◌then◌else◌, List, map, slice_index, true, false, Option, None, Some, Result, Ok, Err}
+use Rattle.std.specs.Prelude.{◌≡◌, ◌↔◌, ℕ, ◌+◌, ◌-◌, ◌/◌, ◌%◌, ◌<◌, ◌≤◌, ◌⊎◌, ◌==◌, if◌then◌else◌, List, map, slice_index, true, false, Option, None, Some, Result, Err}
 use Rattle.std.specs.List.{fold, find}
 use Rattle.flat_mem.specs.Bytes.{patch}
 use Rattle.code_model.specs.declared.object.Object.{Object}

@@ -9,9 +9,13 @@
 ghost use Rattle.std.specs.Prelude.{◌≡◌, ℕ, ◌-◌, ◌/◌, ◌%◌, ◌<◌, ◌≤◌, length, false, slice_index};
 ghost use Rattle.std.specs.List.{flat_map};
 ghost use Rattle.flat_mem.specs.Bytes.{word_bytes};
-ghost use Rattle.load_model.specs.Domains.{Domain, code_length};
+ghost use Rattle.code_model.specs.declared.object.Object.{Object};
+ghost use Rattle.load_model.specs.Domains.{Domain, code_length, region_length};
 ghost use Rattle.load_model.specs.Images.{code_image, region_image, placed_words};
+ghost use Rattle.load_model.specs.Laws.{PlacedLaw, LoadedLaw, TablesFirstLaw, TablesLastLaw};
 ghost use Rattle.load_model.specs.Standing.{CodeImageLaw, RegionImageLaw};
+
+use kernel_model::laws::outside_bytes;
 
 /// The code's image is as long as the code, and the region's as the region, where the initialised bytes fit.
 pub fn image_lengths()
@@ -41,3 +45,22 @@ pub fn region_is_words()
     ensures { (d : Domain) → length d.object.init ≤ d.hi - d.lo → (d.hi - d.lo) % 2 ≡ 0
         → region_image d ≡ flat_map word_bytes (placed_words d false ((d.hi - d.lo) / 2)) }
 {}
+
+/// A region has an even number of bytes.
+pub fn regions_are_even()
+    ensures { (o : Object) → region_length o % 2 ≡ 0 }
+{}
+
+/// A settled kernel stays settled where an object is loaded at the places that it gets; so it does with a module's row alone.
+pub fn loaded_is_settled()
+    ensures row { PlacedLaw }
+    ensures whole { LoadedLaw }
+{}
+
+/// Marks, code and region are written beside the tables: an object is loaded with a kernel that is written before them, or behind.
+pub fn tables_stand_apart()
+    ensures first { TablesFirstLaw }
+    ensures last { TablesLastLaw }
+{
+    outside_bytes();
+}

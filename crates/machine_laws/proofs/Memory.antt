@@ -17,9 +17,8 @@ use Rattle.msp_encode.specs.declared.instr.Op1.{Op1}
 use Rattle.msp_encode.specs.declared.instr.Op1.TheVariants.{Rrc, Swpb, Rra, Sxt, Push, Call}
 use Rattle.msp_encode.specs.declared.instr.Src.{Src}
 use Rattle.msp_encode.specs.declared.instr.Dst.{Dst}
-use Rattle.msp_encode.specs.declared.instr.Instr.{Instr}
 use Rattle.msp_encode.specs.declared.instr.Instr.TheVariants as instr
-use Rattle.machine_laws.specs.Writes.{MemoryLaw, PartLaw, WordLaw}
+use Rattle.machine_laws.specs.Writes.{MemoryLaw, PartLaw, WordLaw, WrittenLaw}
 use Rattle.machine_laws.proofs.Values.{alu-small, one-small, source-small, value-small, size-word}
 use Rattle.machine_laws.proofs.Registers.{context-behind}
 use Rattle.machine_laws.proofs.Words.{set-context}
@@ -80,7 +79,7 @@ one-written m r Sxt w s n h c = change-small m r Sxt w s n h
 one-written m r Push w s n h c = push-small m r w s n h
 one-written m r Call w s n h c = call-small m r s n c
 
-does-small : (m r : List ℕ) (i : Instr) (n : ℕ) → IsMemory m → IsContext r → AllByRecursion Small (does m r i n).written
+pub does-small : WrittenLaw
 unfolding does reti jump
 does-small m r (instr.Two op w s d) n h c = two-small m r op w s d n h
 does-small m r (instr.One op w s) n h c = one-written m r op w s n h c

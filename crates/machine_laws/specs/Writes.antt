@@ -6,6 +6,10 @@ use Rattle.machine_model.specs.Context.{IsContext}
 use Rattle.machine_model.specs.Does.{does, memory_after}
 use Rattle.msp_encode.specs.declared.instr.Instr.{Instr}
 
+-- an instruction writes bytes
+abbrev pub WrittenLaw : Type 0
+WrittenLaw = (m c : List ℕ) (i : Instr) (n : ℕ) → IsMemory m → IsContext c → AllByRecursion (λ w. w.1 < 256) (does m c i n).written
+
 -- memory stays one
 abbrev pub MemoryLaw : Type 0
 MemoryLaw = (m r : List ℕ) (i : Instr) (n : ℕ) → IsMemory m → IsContext r → IsMemory (memory_after m (does m r i n))

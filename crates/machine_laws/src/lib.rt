@@ -9,7 +9,7 @@
 ghost use Rattle.machine_laws.specs.Guarded.{CallLaw, PopLaw, PushLaw, SpLaw, StoreLaw};
 ghost use Rattle.machine_laws.specs.Own.{OwnLaw};
 ghost use Rattle.machine_laws.specs.Plain.{BranchLaw, JumpLaw, PlainLaw, SaveLaw};
-ghost use Rattle.machine_laws.specs.Writes.{MemoryLaw, PartLaw, WordLaw};
+ghost use Rattle.machine_laws.specs.Writes.{MemoryLaw, PartLaw, WordLaw, WrittenLaw};
 
 /// One step at a guard's own instruction leads to the guard's next place, to its place of failing, or to the entry for the fault.
 pub fn own_leads()
@@ -59,6 +59,11 @@ pub fn jump_goes()
 /// A guard's first word saves the status.
 pub fn save_saves()
     ensures { SaveLaw }
+{}
+
+/// An instruction writes bytes.
+pub fn instruction_writes_bytes()
+    ensures { WrittenLaw }
 {}
 
 /// Memory stays 65,536 bytes after each instruction.

@@ -33,7 +33,7 @@ all-loaded law (o ∷ os) n (Err e) fit h = tt
 all-loaded law (o ∷ os) n (Ok s) fit h =
     all-loaded law os (n + 1) (loaded s n o) (λ i x e. fit (suc i) x e) (one-loaded law s n o h (fit 0 o refl))
 
-begun-sound : StartedLaw → DispatchLaw → (s : System) → IsLoading s → IsSound (begun_system s) × (s.steps ≡ 0)
+pub begun-sound : StartedLaw → DispatchLaw → (s : System) → IsLoading s → IsSound (begun_system s) × (s.steps ≡ 0)
 begun-sound started dispatch s h =
     let k : IsSoundKernel (all_started s.placed s.kernel) s.placed 0 × NoneRuns (all_started s.placed s.kernel) = started s h in
     let d : IsSoundKernel (dispatched (all_started s.placed s.kernel) None) s.placed 0

@@ -52,7 +52,7 @@ entry-least ModuleCall = (omega arith, omega arith)
 entry-least Emits = (omega arith, omega arith)
 entry-least Leave = (omega arith, omega arith)
 
-entry-found : (e : Call) → entry_at (entry_address e) ≡ Some e
+pub entry-found : (e : Call) → entry_at (entry_address e) ≡ Some e
 entry-found StoreFault = refl
 entry-found StackFault = refl
 entry-found Goes = refl

@@ -76,7 +76,7 @@ accepted-below k false n e = absurd (cc)
 
 -- ---- the routine that PC is at
 
-routine-found : (l : ℕ) → l < 14 → routine_at (0xF080 + 2 * l) ≡ Some l
+pub routine-found : (l : ℕ) → l < 14 → routine_at (0xF080 + 2 * l) ≡ Some l
 routine-found zero h = refl
 routine-found (suc zero) h = refl
 routine-found (suc (suc zero)) h = refl
@@ -169,7 +169,7 @@ made-by : (s : System) (o : Option (Instr × ℕ)) → (instruction s o).system.
 made-by s None = refl
 made-by s (Some x) = refl
 
-made : (s : System) (pick : Option ℕ) (c : Case) → (by_case s pick c).system.steps ≡ s.steps + 1
+pub made : (s : System) (pick : Option ℕ) (c : Case) → (by_case s pick c).system.steps ≡ s.steps + 1
 made s pick (Accepts n) = refl
 made s pick IsIdle = refl
 made s pick (Enters c) = refl

@@ -59,7 +59,7 @@ app-placed k ds s n d h l e =
 
 -- ---- stacks
 
-even-times : (n s : ℕ) → s % 2 ≡ 0 → (n * s) % 2 ≡ 0
+pub even-times : (n s : ℕ) → s % 2 ≡ 0 → (n * s) % 2 ≡ 0
 even-times zero s e = omega arith
 even-times (suc n) s e = let h : (n * s) % 2 ≡ 0 = even-times n s e in omega (arith, h)
 

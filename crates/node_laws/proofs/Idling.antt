@@ -27,7 +27,7 @@ use Rattle.node_laws.proofs.Routines.{SameRuns, ticked-same, woken-same}
 
 -- ---- the acceptance
 
-idle-is : IsContext idle_context
+pub idle-is : IsContext idle_context
 idle-is = record { words = refl; pc_even = refl; sp_even = refl; zero = refl; small = small }
   where
     small : (k : ℕ) → get_or idle_context k 0 < 65536

@@ -1,33 +1,30 @@
 -- The bitmap that is seen has the marks of each domain.
 use Rattle.std.proofs.Common.{◌≡◌, ◌≢◌, ℕ, zero, suc, ◌+◌, ◌-◌, ◌*◌, ◌/◌, ◌%◌, ◌^◌, ◌<◌, ◌≤◌, Bool, true, false, cond, List, [], ◌∷◌, length, get_or, map, sum, refl, sym, ap, ◌∙◌, subst, inl, inr, arith, Option, Some, None}
-use Rattle.std.specs.Prelude.{◌||◌, IsTrue}
+use Rattle.std.specs.Prelude.{◌||◌}
 use Rattle.std.specs.List.{list_any, range_with_len}
 use Rattle.std.specs.Int.{bit_at}
 use Rattle.std.proofs.lemmas.Bool.{cases_eq}
 use Rattle.std.proofs.lemmas.List.Folds.{list_any_at}
 use Rattle.std.proofs.lemmas.List.FromFn.{get_or-map-range_with_len}
 use Rattle.kernel_model.specs.Kernel.{Kernel}
-use Rattle.place_model.specs.declared.places.Pool.TheVariants.{Code}
-use Rattle.place_model.specs.declared.places.Range.{Range}
-use Rattle.place_model.specs.Gaps.{holds}
-use Rattle.place_model.specs.Placing.{domain_at}
 use Rattle.place_model.specs.Marking.{IsCodeWord, IsMarkOf}
+use Rattle.place_model.specs.Settled.{IsSettledKernel}
 use Rattle.load_model.specs.Domains.{Domain, code_length}
-use Rattle.node_model.specs.Systems.{System, seen, seen_in, bytes_in, domain_in, is_mark, is_mark_in, mark_byte, mark_bytes}
+use Rattle.node_model.specs.Systems.{seen, seen_in, bytes_in, domain_in, is_mark, is_mark_in, mark_byte, mark_bytes}
 use Rattle.kernel_model.specs.Layout.{layout}
 use Rattle.flat_mem.specs.Bytes.{patch}
-use Rattle.node_model.specs.Sound.{IsSound, IsDomain}
+use Rattle.node_model.specs.Sound.{IsDomain, AreDomains}
 use Rattle.node_model.specs.Laws.{MarkSeenLaw}
 use Rattle.node_laws.proofs.Seeing.{in-patch, over-length, marks-length}
-use Rattle.node_laws.proofs.Stepping.{HasPlaces, places-of, code-in-pool}
+use Rattle.node_laws.proofs.Stepping.{code-in-pool, code-apart}
 use Rattle.node_laws.proofs.Contexts.{IsMark, mark-is, mark-of}
 
 -- ---- bits
 
-weight : Bool → ℕ
+unfoldable pub weight : Bool → ℕ
 weight b = cond b 1 0
 
-weight-small : (b : Bool) → weight b ≤ 1
+pub weight-small : (b : Bool) → weight b ≤ 1
 unfolding weight
 weight-small true = omega arith
 weight-small false = omega arith
@@ -37,12 +34,12 @@ unfolding weight
 weighs true x = omega arith
 weighs false x = omega arith
 
-heavy : (b : Bool) → weight b ≡ 1 → b ≡ true
+pub heavy : (b : Bool) → weight b ≡ 1 → b ≡ true
 unfolding weight
 heavy true e = refl
 heavy false e = absurd (omega arith)
 
-light : (b : Bool) → b ≡ true → weight b ≡ 1
+pub light : (b : Bool) → b ≡ true → weight b ≡ 1
 unfolding weight
 light true e = refl
 light false e = absurd (cc)
@@ -212,7 +209,7 @@ bit-of f (suc (suc (suc (suc (suc (suc (suc (suc j)))))))) l = absurd (omega ari
 
 -- ---- whose mark it is
 
-any-at : (p : Option Domain → Bool) (ds : List (Option Domain)) → p None ≡ false → list_any p ds ≡ true → (n : ℕ) × (d : Domain)
+pub any-at : (p : Option Domain → Bool) (ds : List (Option Domain)) → p None ≡ false → list_any p ds ≡ true → (n : ℕ) × (d : Domain)
     × (domain_in ds n ≡ Some d) × (p (Some d) ≡ true)
 any-at p [] off e = absurd (cc)
 any-at p (x ∷ ds) off e = any-by p x ds off (p x) refl e (λ f. any-at p ds off f)
@@ -231,7 +228,7 @@ any-at p (x ∷ ds) off e = any-by p x ds off (p x) refl e (λ f. any-at p ds of
 
 -- ---- what is seen
 
-byte-seen : (m : List ℕ) (k : Kernel) (ds : List (Option Domain)) (q : ℕ) → length m ≡ 65536 → q < 2048
+pub byte-seen : (m : List ℕ) (k : Kernel) (ds : List (Option Domain)) (q : ℕ) → length m ≡ 65536 → q < 2048
     → get_or (seen_in m k ds) (0x1100 + q) 0 ≡ mark_byte ds (0x6000 + 16 * q)
 unfolding seen_in mark_bytes
 byte-seen m k ds q e l =
@@ -239,10 +236,10 @@ byte-seen m k ds q e l =
     (omega (arith, marks-length ds))
     ∙ get_or-map-range_with_len {X = ℕ} (λ b. mark_byte ds (0x6000 + 16 * b)) 0 2048 q q 0 l (omega arith)
 
-some-unit : List (Option Domain) → (at : ℕ) → Bool
+unfoldable pub some-unit : List (Option Domain) → (at : ℕ) → Bool
 some-unit ds at = list_any (λ d. is_mark_in d at) ds
 
-bit-seen : (m : List ℕ) (k : Kernel) (ds : List (Option Domain)) (at : ℕ) → length m ≡ 65536 → IsCodeWord at
+pub bit-seen : (m : List ℕ) (k : Kernel) (ds : List (Option Domain)) (at : ℕ) → length m ≡ 65536 → IsCodeWord at
     → bit_at (get_or (seen_in m k ds) (0x1100 + (at - 0x6000) / 16) 0) ((at - 0x6000) / 2 % 8) ≡ weight (some-unit ds at)
 unfolding some-unit
 bit-seen m k ds at e w =
@@ -254,37 +251,31 @@ bit-seen m k ds at e w =
     ∙ ap (λ (x : ℕ). weight (list_any (λ d. is_mark_in d x) ds)) here
 
 -- a unit at an address of a domain's code is its own
-own-unit : (s : System) (n : ℕ) (d : Domain) (at : ℕ) → IsSound s → domain_in s.placed n ≡ Some d → d.code_lo ≤ at
-    → at < d.code_lo + code_length d.object → some-unit s.placed at ≡ true → is_mark s.placed n at ≡ true
+pub own-unit : (k : Kernel) (ds : List (Option Domain)) (n : ℕ) (d : Domain) (at : ℕ) → IsSettledKernel k
+    → AreDomains k.apps k.modules ds → domain_in ds n ≡ Some d → d.code_lo ≤ at → at < d.code_lo + code_length d.object
+    → some-unit ds at ≡ true → is_mark ds n at ≡ true
 unfolding some-unit
-own-unit s n d at h e from to some =
-    let a : (i : ℕ) × (x : Domain) × (domain_in s.placed i ≡ Some x) × (is_mark_in (Some x) at ≡ true) =
-    any-at (λ x. is_mark_in x at) s.placed refl some in
+own-unit k ds n d at h domains e from to some =
+    let a : (i : ℕ) × (x : Domain) × (domain_in ds i ≡ Some x) × (is_mark_in (Some x) at ≡ true) =
+    any-at (λ x. is_mark_in x at) ds refl some in
     elim (cases_eq a.0 n) [
-      | inl q ↦ subst (λ (i : ℕ). is_mark s.placed i at ≡ true) q
+      | inl q ↦ subst (λ (i : ℕ). is_mark ds i at ≡ true) q
           (subst (λ (o : Option Domain). is_mark_in o at ≡ true) (sym a.2) a.3)
       | inr x ↦ absurd (both a.0 a.1 x a.2 a.3)
     ]
   where
-    both : (i : ℕ) (x : Domain) → i ≢ n → domain_in s.placed i ≡ Some x → is_mark_in (Some x) at ≡ true → ⊥
+    both : (i : ℕ) (x : Domain) → i ≢ n → domain_in ds i ≡ Some x → is_mark_in (Some x) at ≡ true → ⊥
     both i x ne there unit =
-        let p : HasPlaces (domain_at s.kernel i) x = places-of s.kernel i x (h.kernel.domains.placed i x there) in
-        let q : HasPlaces (domain_at s.kernel n) d = places-of s.kernel n d (h.kernel.domains.placed n d e) in
-        let mark : IsMark x at = mark-is x at (h.kernel.domains.placed i x there).accepted unit in
-        h.kernel.settled.apart Code i n (h.kernel.domains.placed i x there).below (h.kernel.domains.placed n d e).below ne p.used
-        q.used at
-        (within (domain_at s.kernel i).code (omega (arith, p.code_from, mark.from)) (omega (arith, p.code_to, mark.to)))
-        (within (domain_at s.kernel n).code (omega (arith, q.code_from)) (omega (arith, q.code_to)))
-      where
-        within : (r : Range) → r.from ≤ at → at < r.to → IsTrue (holds at r)
-        within r f t = grind (arith, f, t)
+        let mark : IsMark x at = mark-is x at (domains.placed i x there).accepted unit in
+        elim (code-apart k ds i n x d h domains there e ne at mark.from mark.to)
+        [ inl l ↦ omega (arith, l, from) | inr u ↦ omega (arith, u, to) ]
 
 pub mark-seen : MarkSeenLaw
 unfolding some-unit
 mark-seen s n d at h e = (to, fro)
   where
     to : IsMarkOf (seen s) d.code_lo (d.code_lo + code_length d.object) at → is_mark s.placed n at ≡ true
-    to m = own-unit s n d at h e m.from m.to
+    to m = own-unit s.kernel s.placed n d at h.kernel.settled h.kernel.domains e m.from m.to
         (heavy (some-unit s.placed at) (sym (bit-seen s.memory s.kernel s.placed at h.code.memory.bytes m.word) ∙ m.set))
 
     fro : is_mark s.placed n at ≡ true → IsMarkOf (seen s) d.code_lo (d.code_lo + code_length d.object) at

@@ -50,33 +50,37 @@ seen-outside m k j ds a e h = elim (cases_lt a 0x1100) [
         ∙ in-patch (over i) (mark_bytes ds) 0x1100 (a - 0x1100) (omega (arith, over-length m i e))
         (omega (arith, marks-length ds))
 
-seen-length : (m : List ℕ) (k : Kernel) (ds : List (Option Domain)) → length m ≡ 65536 → length (seen_in m k ds) ≡ 65536
+pub seen-length : (m : List ℕ) (k : Kernel) (ds : List (Option Domain)) → length m ≡ 65536 → length (seen_in m k ds) ≡ 65536
 unfolding seen_in
 seen-length m k ds e = length-patch (patch m 0x0200 (bytes_in 3584 (layout k))) (mark_bytes ds) 0x1100 2048 (marks-length ds)
     (omega (arith, over-length m k e)) ∙ over-length m k e
 
 -- ---- calls of the kernel
 
-part-byte : (m : List ℕ) (a : ℕ) → a < 3584 → get_or (table_bytes m) a 0 ≡ get_or m (512 + a) 0
+pub part-byte : (m : List ℕ) (a : ℕ) → a < 3584 → get_or (table_bytes m) a 0 ≡ get_or m (512 + a) 0
 unfolding table_bytes part
 part-byte m a l = get_or-take 3584 (drop 512 m) a 0 l ∙ get_or-drop 512 m a 0
 
-tables-size : (m : List ℕ) → length m ≡ 65536 → length (table_bytes m) ≡ 3584
+pub tables-size : (m : List ℕ) → length m ≡ 65536 → length (table_bytes m) ≡ 3584
 unfolding table_bytes part
 tables-size m e = omega (arith, length-take 3584 (drop 512 m), length-drop 512 m)
 
--- a layout that stands in a memory is bytes
-whole : (m : List ℕ) (j : Kernel) (a : ℕ) → IsMemory m → table_bytes m ≡ layout j → a < 3584
+-- a layout of so many bytes is seen whole
+pub whole : (j : Kernel) (a : ℕ) → length (layout j) ≡ 3584 → get_or (layout j) a 0 < 256 → a < 3584
     → get_or (bytes_in 3584 (layout j)) a 0 ≡ get_or (layout j) a 0
-whole m j a h e l =
-    let size : length (layout j) ≡ 3584 = ap length (sym e) ∙ tables-size m h.bytes in
-    let small : get_or (layout j) a 0 < 256 =
-    subst (λ (xs : List ℕ). get_or xs a 0 < 256) e (subst (λ (x : ℕ). x < 256) (sym (part-byte m a l)) (h.small (512 + a))) in
+whole j a size small l =
     first-bytes j a l
     ∙ get_or_append_left (map (λ b. b % 256) (layout j)) (replicate 3584 0) 0 a
     (omega (arith, length-map (layout j) (λ b. b % 256)))
     ∙ get_or-map (λ b. b % 256) (layout j) a 0 0 (omega arith)
     ∙ omega (arith, small)
+
+-- as one that stands in a memory is
+stands-whole : (m : List ℕ) (j : Kernel) (a : ℕ) → IsMemory m → table_bytes m ≡ layout j → a < 3584
+    → get_or (bytes_in 3584 (layout j)) a 0 ≡ get_or (layout j) a 0
+stands-whole m j a h e l =
+    whole j a (ap length (sym e) ∙ tables-size m h.bytes)
+    (subst (λ (xs : List ℕ). get_or xs a 0 < 256) e (subst (λ (x : ℕ). x < 256) (sym (part-byte m a l)) (h.small (512 + a)))) l
 
 pub seen-leaves : SeenLeavesLaw
 seen-leaves m before after k j ds hm hb ha laid is left =
@@ -90,7 +94,7 @@ seen-leaves m before after k j ds hm hb ha laid is left =
         ∙ seen-outside m k j ds a hm.bytes h
 
     inside : (a : ℕ) → a < 3584 → get_or after (512 + a) 0 ≡ get_or (seen_in m j ds) (512 + a) 0
-    inside a l = sym (part-byte after a l) ∙ ap (λ (xs : List ℕ). get_or xs a 0) tables-are ∙ sym (whole after j a ha tables-are l)
+    inside a l = sym (part-byte after a l) ∙ ap (λ (xs : List ℕ). get_or xs a 0) tables-are ∙ sym (stands-whole after j a ha tables-are l)
         ∙ sym (seen-tables m j ds a hm.bytes l)
 
     each : (a : ℕ) → a < length after → get_or after a 0 ≡ get_or (seen_in m j ds) a 0
@@ -106,7 +110,7 @@ seen-leaves m before after k j ds hm hb ha laid is left =
 -- ---- writes
 
 -- what is seen where bytes may be written
-seen-free : (m : List ℕ) (k : Kernel) (ds : List (Option Domain)) (a : ℕ) → length m ≡ 65536 → (a < 512)
+pub seen-free : (m : List ℕ) (k : Kernel) (ds : List (Option Domain)) (a : ℕ) → length m ≡ 65536 → (a < 512)
     ⊎ (((4096 ≤ a) × (a < 0x1100)) ⊎ (0x1900 ≤ a)) → get_or (seen_in m k ds) a 0 ≡ get_or m a 0
 unfolding seen_in
 seen-free m k ds a e (inl l) =
@@ -121,7 +125,7 @@ seen-free m k ds a e (inr (inr u)) =
     ∙ above-patch m (bytes_in 3584 (layout k)) 0x0200 3584 a (tables-length k) (omega arith) (omega arith)
 
 -- what is seen in the tables and in the marks isn't memory's
-seen-over : (m n : List ℕ) (k : Kernel) (ds : List (Option Domain)) (a : ℕ) → length m ≡ 65536 → length n ≡ 65536
+pub seen-over : (m n : List ℕ) (k : Kernel) (ds : List (Option Domain)) (a : ℕ) → length m ≡ 65536 → length n ≡ 65536
     → ((512 ≤ a) × (a < 4096)) ⊎ ((0x1100 ≤ a) × (a < 0x1900)) → get_or (seen_in m k ds) a 0 ≡ get_or (seen_in n k ds) a 0
 unfolding seen_in
 seen-over m n k ds a e f (inl h) =

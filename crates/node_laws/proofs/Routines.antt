@@ -33,22 +33,22 @@ use Rattle.kernel_model.specs.declared.rows.AppRow.{AppRow}
 
 -- ---- what was pushed is read alike from memory and from what is seen
 
-same-word : (s : System) (a : ℕ) → IsSeen s → 0x2000 ≤ a → word_at (seen s) a ≡ word_at s.memory a
+pub same-word : (s : System) (a : ℕ) → IsSeen s → 0x2000 ≤ a → word_at (seen s) a ≡ word_at s.memory a
 unfolding word_at
 same-word s a see l =
     ap (λ (x : ℕ). x + 256 * get_or (seen s) (even a + 1) 0) (see.above (even a) (omega arith))
     ∙ ap (λ (x : ℕ). get_or s.memory (even a) 0 + 256 * x) (see.above (even a + 1) (omega arith))
 
-second : List ℕ → (sr : ℕ) → List ℕ
+unfoldable pub second : List ℕ → (sr : ℕ) → List ℕ
 second c sr = raised (set_reg c 2 sr)
 
-second-sp : (c : List ℕ) (sr : ℕ) → IsContext c → sr < 65536 → reg c 1 + 2 < 65536 → reg (second c sr) 1 ≡ reg c 1 + 2
+pub second-sp : (c : List ℕ) (sr : ℕ) → IsContext c → sr < 65536 → reg c 1 + 2 < 65536 → reg (second c sr) 1 ≡ reg c 1 + 2
 unfolding second
 second-sp c sr h small l =
     let sp : reg (set_reg c 2 sr) 1 ≡ reg c 1 = reg_other c 2 sr 1 (omega arith) in
     sp_same (set_reg c 2 sr) _ (set-context c 2 sr h small) ∙ omega (arith, sp, h.sp_even)
 
-interrupted-same : (s : System) → IsSeen s → IsContext s.context → 0x2000 ≤ reg s.context 1 → reg s.context 1 + 2 < 65536
+pub interrupted-same : (s : System) → IsSeen s → IsContext s.context → 0x2000 ≤ reg s.context 1 → reg s.context 1 + 2 < 65536
     → word_at s.memory (reg s.context 1) < 65536 → interrupted (seen s) s.context ≡ interrupted s.memory s.context
 unfolding second
 interrupted-same s see h low high small =

@@ -141,7 +141,7 @@ marks-small ds k = elim (cases_lt k 2048) [
 pub over-length : (m : List ℕ) (k : Kernel) → length m ≡ 65536 → length (patch m 0x0200 (bytes_in 3584 (layout k))) ≡ 65536
 over-length m k e = length-patch m (bytes_in 3584 (layout k)) 0x0200 3584 (tables-length k) (omega arith) ∙ e
 
-seen-memory : (m : List ℕ) (k : Kernel) (ds : List (Option Domain)) → IsMemory m → IsMemory (seen_in m k ds)
+pub seen-memory : (m : List ℕ) (k : Kernel) (ds : List (Option Domain)) → IsMemory m → IsMemory (seen_in m k ds)
 unfolding seen_in SmallAll
 seen-memory m k ds h =
     let size : length (patch m 0x0200 (bytes_in 3584 (layout k))) ≡ 65536 = over-length m k h.bytes in
@@ -214,9 +214,15 @@ limit-with k o false e h = (
   subst (λ (x : ℕ). x < 65536) (sym (o.top ∙ cond-false (thread_runs k) _ 0x1100 e)) (omega arith),
 )
 
-thread-words : (s : System) (d : Domain) → IsSound s → ThreadRuns s.kernel → domain_in s.placed (app_of (running s.kernel)) ≡ Some d
-    → (stack_low s.kernel (running s.kernel) + 6 < 65536) × (stack_high s.kernel (running s.kernel) < 65536)
-thread-words s d h r e =
+-- the running thread's stack lies in its application's region
+pub record IsOnStack (s : System) (d : Domain) : Type 0 where
+  pub kind : d.object.kind ≡ App
+  pub well : IsWellPlaced d
+  pub stack : IsStack d (low_in s.kernel.apps (running s.kernel)) (top_in s.kernel.apps (running s.kernel))
+
+pub on-stack : (s : System) (d : Domain) → IsSound s → ThreadRuns s.kernel → domain_in s.placed (app_of (running s.kernel)) ≡ Some d
+    → IsOnStack s d
+on-stack s d h r e =
     let t : ℕ = running s.kernel in
     let l : app_of t < 8 = (let x = r.thread in omega arith) in
     let is : IsDomain s.kernel.apps s.kernel.modules (app_of t) d = h.kernel.domains.placed (app_of t) d e in
@@ -224,9 +230,17 @@ thread-words s d h r e =
     of-app s.kernel.apps s.kernel.modules (app_of t) d l is in
     let well : IsWellPlaced d = app-placed s.kernel s.placed s.steps (app_of t) d h.kernel l e in
     let row : IsRunningRow s.kernel t = running_is s.kernel h.kernel.settled.orderly r in
-    let stack : IsStack d (low_in s.kernel.apps t) (top_in s.kernel.apps t) =
-    stack-in s.kernel.apps t d well app.0 is.region app.1 (omega (arith, row.within, app.1.threads)) in
-    (omega (arith, stack.room, stack.within_top, well.hi_high), omega (arith, stack.within_top, well.hi_high))
+    record {
+      kind = app.0;
+      well = well;
+      stack = stack-in s.kernel.apps t d well app.0 is.region app.1 (omega (arith, row.within, app.1.threads));
+    }
+
+thread-words : (s : System) (d : Domain) → IsSound s → ThreadRuns s.kernel → domain_in s.placed (app_of (running s.kernel)) ≡ Some d
+    → (stack_low s.kernel (running s.kernel) + 6 < 65536) × (stack_high s.kernel (running s.kernel) < 65536)
+thread-words s d h r e =
+    let on : IsOnStack s d = on-stack s d h r e in
+    (omega (arith, on.stack.room, on.stack.within_top, on.well.hi_high), omega (arith, on.stack.within_top, on.well.hi_high))
 
 limit-words : (s : System) → IsSound s → IsRunning s.memory s.context s.kernel s.placed → (s.kernel.cur_lim < 65536)
     × (s.kernel.cur_top < 65536)

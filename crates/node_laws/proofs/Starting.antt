@@ -1,5 +1,6 @@
 -- Thread 0 of each application starts.
-use Rattle.std.proofs.Common.{true, ◌≡◌, ◌≢◌, ℕ, ◌+◌, ◌<◌, ◌≤◌, List, length, refl, sym, ap, ◌∙◌, subst, inl, inr, arith, length-set, Option, None, Some}
+use Rattle.std.proofs.Common.{true, ◌≡◌, ◌≢◌, ℕ, zero, suc, ◌+◌, ◌<◌, ◌≤◌, List, length, refl, sym, ap, ◌∙◌, subst, inl, inr, arith, length-set, Option, None, Some}
+use Rattle.std.specs.List.{fold, range_with_len}
 use Rattle.std.proofs.lemmas.Bool.{cases_eq}
 use Rattle.std.proofs.lemmas.List.{get_or-set_same, get_or-set_other}
 use Rattle.machine_model.specs.Context.{reg}
@@ -15,11 +16,11 @@ use Rattle.thread_laws.proofs.MovingRules.{row_put}
 use Rattle.thread_laws.proofs.ReadyRules.{begun_stays_settled}
 use Rattle.load_model.specs.Domains.{Domain}
 use Rattle.node_model.specs.Placed.{IsWellPlaced, bits}
-use Rattle.node_model.specs.Systems.{domain_in, is_mark}
+use Rattle.node_model.specs.Systems.{System, domain_in, is_mark}
 use Rattle.node_model.specs.Steps.{pending}
-use Rattle.node_model.specs.Booting.{started_if}
+use Rattle.node_model.specs.Booting.{started_if, started_below, all_started}
 use Rattle.node_model.specs.Sound.{IsDomain, IsAppRowOf, HasDomain, HasThread, AreDomains, AreSaved, AreFunctions, AreBounded, IsGoodFor, low_in, top_in}
-use Rattle.node_model.specs.Laws.{StartedLaw}
+use Rattle.node_model.specs.Laws.{StartedLaw, IsLoading}
 use Rattle.node_laws.proofs.Rows.{saved-put}
 use Rattle.node_laws.proofs.Domains.{of-app, IsStack, stack-in}
 use Rattle.node_laws.proofs.Stepping.{well-placed}
@@ -27,25 +28,25 @@ use Rattle.node_laws.proofs.Contexts.{IsMark, mark-of, good-mark}
 use Rattle.node_laws.proofs.Spawning.{new-context, status-new}
 
 -- the applications below m have a thread, and those from m on have none yet
-record IsStarting (ds : List (Option Domain)) (k : Kernel) (m : ℕ) : Type 0 where
-  settled : IsSettledKernel k
-  domains : AreDomains k.apps k.modules ds
-  saved : AreSaved k.apps ds k.threads
-  functions : AreFunctions k.functions ds
-  bounded : AreBounded (tick_number k) (word_of k Budget) (running_module k) (pending k) 0
-  none_runs : NoneRuns k
-  populated : (a : ℕ) → a < m → a < 8 → (app_at k a).state ≡ live → HasThread k.threads a
-  unborn : (a : ℕ) → m ≤ a → a < 8 → (thread_at k (identity a 0)).state ≡ free
-  entries : (a : ℕ) (d : Domain) → m ≤ a → a < 8 → domain_in ds a ≡ Some d
+pub record IsStarting (ds : List (Option Domain)) (k : Kernel) (m : ℕ) : Type 0 where
+  pub settled : IsSettledKernel k
+  pub domains : AreDomains k.apps k.modules ds
+  pub saved : AreSaved k.apps ds k.threads
+  pub functions : AreFunctions k.functions ds
+  pub bounded : AreBounded (tick_number k) (word_of k Budget) (running_module k) (pending k) 0
+  pub none_runs : NoneRuns k
+  pub populated : (a : ℕ) → a < m → a < 8 → (app_at k a).state ≡ live → HasThread k.threads a
+  pub unborn : (a : ℕ) → m ≤ a → a < 8 → (thread_at k (identity a 0)).state ≡ free
+  pub entries : (a : ℕ) (d : Domain) → m ≤ a → a < 8 → domain_in ds a ≡ Some d
       → is_mark ds a (reg (thread_at k (identity a 0)).regs 0) ≡ true
-  all_live : (a : ℕ) → a < 8 → (app_at k a).state ≢ free → (app_at k a).state ≡ live
+  pub all_live : (a : ℕ) → a < 8 → (app_at k a).state ≢ free → (app_at k a).state ≡ live
 
 -- its first context
-record IsFirst (ds : List (Option Domain)) (k : Kernel) (t pc : ℕ) : Type 0 where
-  may : MayBegin k t
-  good : IsGoodFor k.apps ds t (new_context pc (stack_high k t) 0)
+pub record IsFirst (ds : List (Option Domain)) (k : Kernel) (t pc : ℕ) : Type 0 where
+  pub may : MayBegin k t
+  pub good : IsGoodFor k.apps ds t (new_context pc (stack_high k t) 0)
 
-first-is : (ds : List (Option Domain)) (k : Kernel) (m : ℕ) (d : Domain) → m < 8 → IsStarting ds k m → domain_in ds m ≡ Some d
+pub first-is : (ds : List (Option Domain)) (k : Kernel) (m : ℕ) (d : Domain) → m < 8 → IsStarting ds k m → domain_in ds m ≡ Some d
     → IsFirst ds k (identity m 0) (reg (thread_at k (identity m 0)).regs 0)
 first-is ds k m d l h e =
     let t : ℕ = identity m 0 in
@@ -85,7 +86,7 @@ first-row : (k : Kernel) (t pc : ℕ) → ThreadRow
 first-row k t pc = record (thread_at k t) { regs = new_context pc (stack_high k t) 0; priority = 3 }
 
 -- one starts
-one-starts : (ds : List (Option Domain)) (k : Kernel) (m : ℕ) (o : Option Domain) → m < 8 → IsStarting ds k m → domain_in ds m ≡ o
+pub one-starts : (ds : List (Option Domain)) (k : Kernel) (m : ℕ) (o : Option Domain) → m < 8 → IsStarting ds k m → domain_in ds m ≡ o
     → IsStarting ds (started_if o k m) (m + 1)
 unfolding first-row
 one-starts ds k m None l h e = record {
@@ -169,46 +170,53 @@ one-starts ds k m (Some d) l h e = record {
 
 -- ---- all of them
 
-abbrev next : List (Option Domain) → Kernel → (m : ℕ) → Kernel
-next ds k m = started_if (domain_in ds m) k m
+-- before any starts
+pub none-started : (s : System) → IsLoading s → IsStarting s.placed s.kernel 0
+none-started s h = record {
+  settled = h.settled;
+  domains = h.domains;
+  saved = λ t l on. absurd (on (h.unborn t l));
+  functions = h.functions;
+  bounded = record {
+    ticks = omega (arith, h.fresh.0);
+    count = omega (arith, h.fresh.1);
+    no_count = λ _. h.fresh.1;
+    lines = omega (arith, h.fresh.2);
+  };
+  none_runs = h.none_runs;
+  populated = λ a la. absurd (omega arith);
+  unborn = λ a la lb. h.unborn (identity a 0) (omega arith);
+  entries = λ a d la lb e. h.entries a d lb e;
+  all_live = h.all_live;
+}
+
+-- below a number
+next-started : (f : Kernel → ℕ → Kernel) (k : Kernel) (a n : ℕ)
+    → fold f k (range_with_len a (suc n)) ≡ f (fold f k (range_with_len a n)) (a + n)
+next-started f k a zero = ap (f k) (omega arith)
+next-started f k a (suc n) = next-started f (f k a) (a + 1) n
+    ∙ ap (f (fold f k (range_with_len a (suc n)))) (let same : a + 1 + n ≡ a + suc n = omega arith in same)
+
+pub started-next : (ds : List (Option Domain)) (k : Kernel) (n : ℕ)
+    → started_below ds k (n + 1) ≡ started_if (domain_in ds n) (started_below ds k n) n
+started-next ds k n =
+    ap (λ (i : ℕ). started_below ds k i) (let same : n + 1 ≡ suc n = omega arith in same)
+    ∙ next-started (λ j i. started_if (domain_in ds i) j i) k 0 n
+    ∙ ap (λ (i : ℕ). started_if (domain_in ds i) (started_below ds k n) i) (let same : 0 + n ≡ n = omega arith in same)
+
+pub starting-below : (s : System) (n : ℕ) → IsLoading s → n ≤ 8 → IsStarting s.placed (started_below s.placed s.kernel n) n
+starting-below s zero h l = none-started s h
+starting-below s (suc n) h l =
+    let k : Kernel = started_below s.placed s.kernel n in
+    let more : IsStarting s.placed (started_if (domain_in s.placed n) k n) (n + 1) =
+    one-starts s.placed k n (domain_in s.placed n) (omega arith) (starting-below s n h (omega arith)) refl in
+    let one : n + 1 ≡ suc n = omega arith in
+    subst (λ (i : ℕ). IsStarting s.placed (started_below s.placed s.kernel i) i) one
+    (subst (λ (j : Kernel). IsStarting s.placed j (n + 1)) (sym (started-next s.placed s.kernel n)) more)
 
 pub started-sound : StartedLaw
 started-sound s h =
-    let ds : List (Option Domain) = s.placed in
-    let k0 : Kernel = s.kernel in
-    let h0 : IsStarting ds k0 0 = record {
-      settled = h.settled;
-      domains = h.domains;
-      saved = λ t l on. absurd (on (h.unborn t l));
-      functions = h.functions;
-      bounded = record {
-        ticks = omega (arith, h.fresh.0);
-        count = omega (arith, h.fresh.1);
-        no_count = λ _. h.fresh.1;
-        lines =
-            omega (arith, h.fresh.2);
-      };
-      none_runs = h.none_runs;
-      populated = λ a la. absurd (omega arith);
-      unborn = λ a la lb. h.unborn (identity a 0) (omega arith);
-      entries = λ a d la lb e. h.entries a d lb e;
-      all_live = h.all_live;
-    } in
-    let k1 : Kernel = next ds k0 0 in
-    let h1 : IsStarting ds k1 1 = one-starts ds k0 0 (domain_in ds 0) (omega arith) h0 refl in
-    let k2 : Kernel = next ds k1 1 in
-    let h2 : IsStarting ds k2 2 = one-starts ds k1 1 (domain_in ds 1) (omega arith) h1 refl in
-    let k3 : Kernel = next ds k2 2 in
-    let h3 : IsStarting ds k3 3 = one-starts ds k2 2 (domain_in ds 2) (omega arith) h2 refl in
-    let k4 : Kernel = next ds k3 3 in
-    let h4 : IsStarting ds k4 4 = one-starts ds k3 3 (domain_in ds 3) (omega arith) h3 refl in
-    let k5 : Kernel = next ds k4 4 in
-    let h5 : IsStarting ds k5 5 = one-starts ds k4 4 (domain_in ds 4) (omega arith) h4 refl in
-    let k6 : Kernel = next ds k5 5 in
-    let h6 : IsStarting ds k6 6 = one-starts ds k5 5 (domain_in ds 5) (omega arith) h5 refl in
-    let k7 : Kernel = next ds k6 6 in
-    let h7 : IsStarting ds k7 7 = one-starts ds k6 6 (domain_in ds 6) (omega arith) h6 refl in
-    let h8 : IsStarting ds (next ds k7 7) 8 = one-starts ds k7 7 (domain_in ds 7) (omega arith) h7 refl in (
+    let h8 : IsStarting s.placed (all_started s.placed s.kernel) 8 = starting-below s 8 h (omega arith) in (
       record {
         settled = h8.settled;
         domains = h8.domains;

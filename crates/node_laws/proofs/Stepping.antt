@@ -19,10 +19,9 @@ use Rattle.place_model.specs.declared.places.Range.{Range}
 use Rattle.place_model.specs.declared.places.DomainRow.{DomainRow}
 use Rattle.place_model.specs.Gaps.{holds}
 use Rattle.place_model.specs.Placing.{domain_at, app_domain, module_domain, pool_range}
+use Rattle.place_model.proofs.GapLemmas.{holds_from}
 use Rattle.place_model.specs.Settled.{IsSettledKernel, IsInPool}
 use Rattle.kernel_model.specs.Running.{ThreadRuns, running_domain}
-use Rattle.thread_laws.specs.Facts.{IsRunning as IsRunningRow}
-use Rattle.thread_laws.proofs.Spots.{running_is}
 use Rattle.load_model.specs.Domains.{Domain, code_length}
 use Rattle.load_model.specs.Images.{code_image}
 use Rattle.load_model.specs.Standing.{HasBytes, CodeImageLaw}
@@ -36,13 +35,13 @@ use Rattle.node_model.specs.Instructions.{Inside, Leads, StaysInStack, StepsAt}
 use Rattle.node_model.specs.Systems.{System, seen, domain_in, kind_of}
 use Rattle.node_model.specs.Entries.{module_runs, who_runs}
 use Rattle.node_model.specs.Steps.{by_effect, instruction, counted, fetched}
-use Rattle.node_model.specs.Sound.{IsDomain, HasRow, IsAppRowOf, IsModuleRowOf, IsCodeInPlace, IsSound, IsSoundKernel, AThread, IsGoodFor, low_in, top_in}
+use Rattle.node_model.specs.Sound.{AreDomains, IsDomain, HasRow, IsAppRowOf, IsModuleRowOf, IsCodeInPlace, IsSound, IsSoundKernel, AThread, IsGoodFor, low_in, top_in}
 use Rattle.node_model.specs.Confined.{Within, MayWrite, stack_low_in, stack_top_in}
 use Rattle.node_model.specs.Kept.{Own, of_app, KernelKept, MemoryKept, OthersKept, StepKeeps}
 use Rattle.node_model.specs.Laws.{IsSeen, IsSafe, IsInPools, WritesLaw}
 use Rattle.node_laws.specs.Facts.{Given}
-use Rattle.node_laws.proofs.Domains.{of-app, app-placed, IsStack, stack-in}
-use Rattle.node_laws.proofs.Seeing.{limits-seen}
+use Rattle.node_laws.proofs.Domains.{of-app, IsStack}
+use Rattle.node_laws.proofs.Seeing.{limits-seen, IsOnStack, on-stack}
 
 pub all-map : (P Q : ℕ × ℕ → Type 0) → ((w : ℕ × ℕ) → P w → Q w) → (ws : List (ℕ × ℕ)) → AllByRecursion P ws → AllByRecursion Q ws
 all-map P Q f [] h = tt
@@ -83,6 +82,32 @@ code-in-pool k n d h is =
     let p : HasPlaces (domain_at k n) d = places-of k n d is in
     let i : IsInPool (pool_range Code) (domain_at k n).code = h.inside Code n is.below p.used in
     (omega (arith, i.from, p.code_from), omega (arith, i.to, p.code_to))
+
+-- the code of one domain isn't that of another
+pub code-apart : (j : Kernel) (ds : List (Option Domain)) (n i : ℕ) (x d : Domain) → IsSettledKernel j → AreDomains j.apps j.modules ds
+    → domain_in ds n ≡ Some x → domain_in ds i ≡ Some d → n ≢ i → (a : ℕ) → x.code_lo ≤ a → a < x.code_lo + code_length x.object
+    → (a < d.code_lo) ⊎ (d.code_lo + code_length d.object ≤ a)
+code-apart j ds n i x d h domains en ei ne a from to = elim (cases_lt a d.code_lo) [
+  | inl l ↦ inl l
+  | inr g ↦ elim (cases_lt a (d.code_lo + code_length d.object)) [ inl l ↦ absurd (both g l) | inr above ↦ inr above ]
+]
+  where
+    is-x : IsDomain j.apps j.modules n x
+    is-x = domains.placed n x en
+
+    is-d : IsDomain j.apps j.modules i d
+    is-d = domains.placed i d ei
+
+    p : HasPlaces (domain_at j n) x
+    p = places-of j n x is-x
+
+    q : HasPlaces (domain_at j i) d
+    q = places-of j i d is-d
+
+    both : d.code_lo ≤ a → a < d.code_lo + code_length d.object → ⊥
+    both g l = h.apart Code n i is-x.below is-d.below ne p.used q.used a
+        (holds_from a (domain_at j n).code (omega (arith, from, p.code_from)) (omega (arith, to, p.code_to)))
+        (holds_from a (domain_at j i).code (omega (arith, g, q.code_from)) (omega (arith, l, q.code_to)))
 
 -- any domain is placed well
 pub well-placed : (k : Kernel) (n : ℕ) (d : Domain) → IsSettledKernel k → IsDomain k.apps k.modules n d → IsWellPlaced d
@@ -164,28 +189,21 @@ pub thread-facts : Given → (s : System) (d : Domain) → IsSeen s → IsSound 
     → domain_in s.placed (app_of (running s.kernel)) ≡ Some d → IsThread s d
 thread-facts laws s d see h r e =
     let t : ℕ = running s.kernel in
-    let l : app_of t < 8 = (let x = r.thread in omega arith) in
-    let row : IsRunningRow s.kernel t = running_is s.kernel h.kernel.settled.orderly r in
     let is : IsDomain s.kernel.apps s.kernel.modules (app_of t) d = h.kernel.domains.placed (app_of t) d e in
-    let app : (d.object.kind ≡ App) × IsAppRowOf d (app_at s.kernel (app_of t)) =
-    of-app s.kernel.apps s.kernel.modules (app_of t) d l is in
-    let well : IsWellPlaced d = app-placed s.kernel s.placed s.steps (app_of t) d h.kernel l e in
-    let stack : IsStack d (low_in s.kernel.apps t) (top_in s.kernel.apps t) =
-    stack-in s.kernel.apps t d well app.0 is.region app.1 (omega (arith, row.within, app.1.threads)) in
+    let on : IsOnStack s d = on-stack s d h r e in
     record {
-      app = l;
-      kind = app.0;
+      app = (let x = r.thread in omega arith);
+      kind = on.kind;
       is = is;
-      well = well;
+      well = on.well;
       stands = record {
         memory = see.memory;
-        placed = well;
+        placed = on.well;
         accepted = is.accepted;
-        code =
-            stands-so laws d (seen s) well.code_even (code-seen s (app_of t) d see h.code h.kernel e);
+        code = stands-so laws d (seen s) on.well.code_even (code-seen s (app_of t) d see h.code h.kernel e);
       };
-      stack = stack;
-      limits = limits-seen s d see h.kernel.settled.orderly r well stack;
+      stack = on.stack;
+      limits = limits-seen s d see h.kernel.settled.orderly r on.well on.stack;
     }
 
 -- ---- who runs

@@ -1,5 +1,5 @@
 -- An instruction is fetched exactly where it is spelled.
-use Rattle.std.proofs.Common.{◌≡◌, ℕ, zero, suc, ◌+◌, ◌*◌, ◌<◌, ◌≤◌, List, [], ◌∷◌, take, get_or, Option, None, Some, MatchOption, refl, sym, subst, arith}
+use Rattle.std.proofs.Common.{◌≡◌, ℕ, zero, suc, ◌+◌, ◌<◌, ◌≤◌, List, [], ◌∷◌, take, Option, None, Some, MatchOption, refl, sym, subst, arith}
 use Rattle.msp_encode.specs.declared.instr.Instr.{Instr}
 use Rattle.msp_encode.specs.Spelling.{Spells}
 use Rattle.msp_decode.specs.Function.{ReadingLaw, reading}
@@ -7,7 +7,6 @@ use Rattle.msp_decode.specs.Reading.{NoneBegins}
 use Rattle.msp_decode.specs.Laws.{OneInstruction, NoProperPrefix}
 use Rattle.machine_model.specs.Memory.{IsMemory, word_at, even}
 use Rattle.machine_model.specs.Operands.{sum_of}
-use Rattle.machine_model.specs.Fetching.{IsFetched}
 use Rattle.node_model.specs.Steps.{fetched}
 use Rattle.node_model.specs.Laws.{FetchedLaw}
 

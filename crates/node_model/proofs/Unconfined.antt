@@ -3,8 +3,7 @@ use Rattle.std.proofs.Common.{◌≡◌, ℕ, Bool, cond, List, Option, None, So
 use Rattle.msp_encode.specs.declared.instr.Instr.{Instr}
 use Rattle.machine_model.specs.Context.{reg}
 use Rattle.kernel_model.specs.Kernel.{Kernel}
-use Rattle.node_model.specs.Systems.{System}
-use Rattle.node_model.specs.Entries.{Call, turn_at, work, nothing_happens}
+use Rattle.node_model.specs.Entries.{turn_at, work, nothing_happens}
 use Rattle.node_model.specs.Steps.{Case, Accepts, IsIdle, Enters, Serves, OverBudget, Runs, case_of, case_by_line, by_case, by_turn, instruction}
 use Rattle.node_model.specs.Confined.{IsConfined, IsIdling}
 use Rattle.node_model.specs.Laws.{UnspelledLaw, RowlessLaw}

@@ -64,9 +64,12 @@ abbrev pub started_if : Option Domain → Kernel → (number : ℕ) → Kernel
 started_if None k n = k
 started_if (Some d) k n = started k n
 
--- thread 0 of each application, in their order: numbers rise as objects are placed
+-- thread 0 of each application below a number, in their order: numbers rise as objects are placed
+abbrev pub started_below : List (Option Domain) → Kernel → (number : ℕ) → Kernel
+started_below ds k n = fold (λ k n. started_if (domain_in ds n) k n) k (range_with_len 0 n)
+
 abbrev pub all_started : List (Option Domain) → Kernel → Kernel
-all_started ds k = fold (λ k n. started_if (domain_in ds n) k n) k (range_with_len 0 8)
+all_started ds k = started_below ds k 8
 
 abbrev pub begun_system : System → System
 begun_system s =

@@ -7,7 +7,7 @@ use Rattle.machine_model.specs.Does.{does, Effect}
 use Rattle.machine_model.specs.Fetching.{IsFetched}
 use Rattle.code_model.specs.Starts.{Stands, Start}
 use Rattle.code_model.specs.Guards.{UnitStart}
-use Rattle.code_model.specs.Rules.{IsPushOrCall, ReadsStack}
+use Rattle.code_model.specs.Rules.{IsPushOrCall, ReadsStack, IsJumpEntry, IsCallEntry}
 use Rattle.code_model.specs.declared.guards.GuardKind.{GuardKind}
 use Rattle.machine_laws.specs.Steady.{IsSteady, Limits}
 use Rattle.machine_laws.specs.Places.{GuardPlace}
@@ -47,6 +47,11 @@ pub record StaysInStack (low top : ℕ) (c : List ℕ) (i : Instr) (e : Effect) 
 abbrev pub StackLaw : Type 0
 StackLaw = (d : Domain) (low top : ℕ) (m c : List ℕ) (i : Instr) (n : ℕ) → StandsIn d m → Limits m low top
     → IsGood d low top c → reg c 0 < 0xF000 → IsFetched m (reg c 0) i n → StaysInStack low top c i (does m c i n)
+
+-- a safe context at or above F000 stands at an entry, and where a call may name it a word is on the stack
+abbrev pub AtEntryLaw : Type 0
+AtEntryLaw = (d : Domain) (low top : ℕ) (m c : List ℕ) → StandsIn d m → IsGood d low top c → 0xF000 ≤ reg c 0
+    → IsJumpEntry d.object.kind (reg c 0) ⊎ (IsCallEntry d.object.kind (reg c 0) × (reg c 1 + 2 ≤ top))
 
 -- where the stack is a part of the region, all writes lie in the region
 abbrev pub RegionLaw : Type 0

@@ -12,3 +12,5 @@ pub mod Spelled
 pub mod Booting
 pub mod Nodes
 pub mod Laws
+pub mod Code
+pub mod BootCode

@@ -9,7 +9,8 @@
 //! and `specs/Instructions.antt` of accepted code and its
 //! safe contexts, `specs/Sound.antt` of every system, `specs/Confined.antt` of each record, `specs/Kept.antt` of the other
 //! applications, `specs/Spelled.antt` of an instruction's step. `specs/Nodes.antt` says which system a node stands for, and
-//! `specs/Laws.antt` states the laws, which crates of laws prove.
+//! `specs/Laws.antt` states the laws, which crates of laws prove. `specs/Code.antt` and `specs/BootCode.antt` state what the code
+//! of a node's step and of its boot stands on: the memory that it holds behind each part.
 #![tactic(auto)]
 
 pub mod laws;

@@ -2,8 +2,10 @@
 use Rattle.std.specs.Prelude.{◌≡◌, ◌↔◌, ℕ, ◌+◌, ◌-◌, ◌/◌, ◌%◌, ◌<◌, ◌≤◌, ◌⊎◌, List, length, slice_index}
 use Rattle.std.specs.Int.{bit_at}
 use Rattle.kernel_model.specs.Bitmap.{Has}
-use Rattle.kernel_model.specs.Layout.{tables}
+use Rattle.kernel_model.specs.Layout.{kernel_of, tables}
+use Rattle.kernel_model.specs.Running.{running_domain}
 use Rattle.place_model.specs.declared.places.Regions.{Regions}
+use Rattle.place_model.specs.Placing.{domain_at}
 
 -- an address of a word of the code pool
 pub record IsCodeWord (at : ℕ) : Type 0 where
@@ -21,6 +23,10 @@ pub record IsMarkOf (m : List ℕ) (code_lo code_hi at : ℕ) : Type 0 where
   pub from : code_lo ≤ at
   pub to : at < code_hi
   pub set : IsMarkBit m at
+
+-- the address is a mark of the domain that runs
+abbrev pub IsOwnMark : (m : List ℕ) → (at : ℕ) → Type 0
+IsOwnMark m at = let code = (domain_at (kernel_of m) (running_domain (kernel_of m))).code in IsMarkOf m code.from code.to at
 
 -- the second memory has exactly these marks in the region's code, by offset, and is the first one elsewhere
 pub record Marked (before after : List ℕ) (r : Regions) (marks : List ℕ) : Type 0 where

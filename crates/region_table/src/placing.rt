@@ -3,7 +3,7 @@
 ghost use Rattle.std.specs.Prelude.{◌≡◌, ◌%◌, ◌+◌, ◌<◌, ◌≤◌, ◌++◌, [], ◌∷◌, length, IfOk, OnErr, IfSome, Some, Ok};
 ghost use Rattle.kernel_model.specs.Layout.{kernel_of};
 ghost use Rattle.kernel_model.specs.Queues.{Leaves};
-ghost use Rattle.place_model.specs.Placing.{placing, placed_among, with_places, pool_range, ranges, range_in, free_from, free_number, with_number, with_code};
+ghost use Rattle.place_model.specs.Placing.{domain_rows, placing, placed_among, with_places, pool_range, ranges, range_in, free_from, free_number, with_number, with_code};
 ghost use Rattle.place_model.specs.Settled.{IsSettled};
 
 use crate::rows::{APPS, DOMAINS, FREE, MODULES, domain_rows, fill};
@@ -35,6 +35,13 @@ pub fn place(m: &mut FlatMem, kind: Kind, code_len: u16, region_len: u32) -> Res
         }
         Err(cause) => Err(cause),
     }
+}
+
+/// The least number of the kind whose row is free, 0 to 7 for an application and 8 to 11 for a module.
+pub fn free_row(m: &FlatMem, kind: Kind) -> Option<u8>
+    ensures { result ≡ free_number (domain_rows (kernel_of m.now)) kind }
+{
+    free_number(domain_rows(m).as_slice(), kind)
 }
 
 /// The number and the places among the twelve rows, or the first cause that there are none.

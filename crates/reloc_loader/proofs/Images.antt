@@ -9,7 +9,8 @@ use Rattle.code_model.specs.declared.object.Object.{Object}
 use Rattle.place_model.specs.declared.places.Regions.{Regions}
 use Rattle.load_model.specs.Domains.{Domain, code_length, region_length}
 use Rattle.load_model.specs.Images.{placed_words, code_image, region_image}
-use Rattle.reloc_loader.specs.Loading.{domain_at, ArePlaces, HasImages}
+use Rattle.load_model.specs.Loading.{ArePlaces}
+use Rattle.reloc_loader.specs.Loading.{unmarked, HasImages}
 
 -- ---- a write, byte by byte
 
@@ -58,12 +59,12 @@ pub images_put : (m m1 m2 : List ℕ) (o : Object) (r : Regions) (code_words reg
     → ((d : Domain) → length (code_image d) ≡ code_length d.object)
     → ((d : Domain) → length d.object.init ≤ d.hi - d.lo → length (region_image d) ≡ d.hi - d.lo)
     → ((d : Domain) → length d.object.init ≤ d.hi - d.lo → (d.hi - d.lo) % 2 ≡ 0 → region_image d ≡ flat_map word_bytes (placed_words d false ((d.hi - d.lo) / 2)))
-    → m1 ≡ patch m r.code_lo (flat_map word_bytes (placed_words (domain_at o [] r) true code_words)) → code_words ≡ length o.code
-    → m2 ≡ patch m1 r.lo (flat_map word_bytes (placed_words (domain_at o [] r) false region_words)) → region_words ≡ (r.hi - r.lo) / 2
+    → m1 ≡ patch m r.code_lo (flat_map word_bytes (placed_words (unmarked o r) true code_words)) → code_words ≡ length o.code
+    → m2 ≡ patch m1 r.lo (flat_map word_bytes (placed_words (unmarked o r) false region_words)) → region_words ≡ (r.hi - r.lo) / 2
     → HasImages m m2 o r
 unfolding code_image
 images_put m m1 m2 o r n1 n2 p e code_sizes region_sizes all_words w1 s1 w2 s2 =
-    let d : Domain = domain_at o [] r in
+    let d : Domain = unmarked o r in
     let cs : List ℕ = code_image d in
     let rs : List ℕ = region_image d in
     let static : length o.init ≤ r.hi - r.lo = omega (arith, init_fits o, p.region_length) in

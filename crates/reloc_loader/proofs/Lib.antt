@@ -4,6 +4,5 @@ mod Images
 mod Tables
 mod Filling
 mod Placed
-mod Settling
 mod RowLemmas
 mod Cleared

@@ -1,18 +1,15 @@
--- The places that an application gets.
-use Rattle.std.proofs.Common.{◌≡◌, ℕ, ◌-◌, ◌%◌, ◌<◌, Bool, List, sym, ap, ◌∙◌, subst, arith}
-use Rattle.std.specs.Prelude.{Result, Ok, Err, IfOk, nat_lt, if◌then◌else◌, true}
-use Rattle.kernel_model.specs.Kernel.{Kernel, with_app, with_module}
-use Rattle.kernel_model.specs.Layout.{kernel_of}
-use Rattle.kernel_model.specs.Queues.{Leaves}
+-- The places that an object gets.
+use Rattle.std.proofs.Common.{◌≡◌, ℕ, ◌%◌, ◌<◌, List, sym, ap, ◌∙◌, subst, arith}
+use Rattle.std.specs.Prelude.{Result, Ok, Err, IfOk}
+use Rattle.kernel_model.specs.Kernel.{Kernel}
 use Rattle.code_model.specs.declared.object.Object.{Object}
 use Rattle.kernel_model.specs.declared.kinds.Kind.{Kind}
-use Rattle.kernel_model.specs.declared.kinds.Kind.TheVariants.{App}
 use Rattle.place_model.specs.declared.places.Regions.{Regions}
 use Rattle.place_model.specs.declared.places.NoRoom.{NoRoom}
-use Rattle.place_model.specs.Placing.{placing, with_places, placed_app, placed_module, IsPlacing, IsInPools}
+use Rattle.place_model.specs.Placing.{placing, IsPlacing, IsInPools}
 use Rattle.place_model.specs.Settled.{IsSettledKernel}
 use Rattle.load_model.specs.Domains.{code_length, region_length}
-use Rattle.reloc_loader.specs.Loading.{ArePlaces}
+use Rattle.load_model.specs.Loading.{ArePlaces}
 
 abbrev LowestLaw : Type 0
 LowestLaw = (k : Kernel) (kind : Kind) (c l : ℕ) (r : Regions) → placing k kind c l ≡ Ok r → IsPlacing k kind c l r
@@ -24,13 +21,14 @@ abbrev EvenLaw : Type 0
 EvenLaw = (k : Kernel) (kind : Kind) (c l : ℕ) (r : Regions) → IsSettledKernel k → placing k kind c l ≡ Ok r → (r.code_lo % 2 ≡ 0) × (r.lo % 2 ≡ 0)
 
 are_places : (k : Kernel) (o : Object) (r : Regions) → LowestLaw → InsideLaw → EvenLaw → IsSettledKernel k → region_length o % 2 ≡ 0
-    → placing k App (code_length o) (region_length o) ≡ Ok r → ArePlaces o r
+    → placing k o.kind (code_length o) (region_length o) ≡ Ok r → ArePlaces o r
 are_places k o r low inside even s e p =
-    let lowest : IsPlacing k App (code_length o) (region_length o) r = low k App (code_length o) (region_length o) r p in
-    let pools : IsInPools App r = inside k App (code_length o) (region_length o) r p in
-    let evens : (r.code_lo % 2 ≡ 0) × (r.lo % 2 ≡ 0) = even k App (code_length o) (region_length o) r s p in
+    let lowest : IsPlacing k o.kind (code_length o) (region_length o) r = low k o.kind (code_length o) (region_length o) r p in
+    let pools : IsInPools o.kind r = inside k o.kind (code_length o) (region_length o) r p in
+    let evens : (r.code_lo % 2 ≡ 0) × (r.lo % 2 ≡ 0) = even k o.kind (code_length o) (region_length o) r s p in
     record {
-      number = pools.number_to;
+      number_from = pools.number_from;
+      number_to = pools.number_to;
       code_even = evens.0;
       code_low = pools.code_from;
       code_length = lowest.code_end;
@@ -42,18 +40,9 @@ are_places k o r low inside even s e p =
       region_high = pools.region_to;
     }
 
-pub places_ok : (k : Kernel) (o : Object) (c l : ℕ) (result : Result Regions NoRoom) → result ≡ placing k App c l → c ≡ code_length o → l ≡ region_length o → l % 2 ≡ 0
-    → LowestLaw → InsideLaw → EvenLaw → IsSettledKernel k → IfOk result (λ r. ArePlaces o r)
+pub places_ok : (k : Kernel) (o : Object) (c l : ℕ) (result : Result Regions NoRoom) → result ≡ placing k o.kind c l → c ≡ code_length o
+    → l ≡ region_length o → l % 2 ≡ 0 → LowestLaw → InsideLaw → EvenLaw → IsSettledKernel k → IfOk result (λ r. ArePlaces o r)
 places_ok k o c l (Ok r) e same_c same_l even low inside evens s =
     are_places k o r low inside evens s (ap (λ n. n % 2) (sym same_l) ∙ even)
-    (sym (e ∙ ap (λ n. placing k App n l) same_c ∙ ap (λ n. placing k App (code_length o) n) same_l))
+    (sym (e ∙ ap (λ n. placing k o.kind n l) same_c ∙ ap (λ n. placing k o.kind (code_length o) n) same_l))
 places_ok k o c l (Err x) e same_c same_l even low inside evens s = tt
-
-app_places : (k : Kernel) (r : Regions) → r.dom < 8 → with_places k r ≡ with_app k r.dom (placed_app r)
-app_places k r h =
-    ap (λ (b : Bool). if b then with_app k r.dom (placed_app r) else with_module k (r.dom - 8) (placed_module r)) (let t : nat_lt r.dom 8 ≡ true = grind arith in t)
-
-pub row_ok : (m m' : List ℕ) (o : Object) (result : Result Regions NoRoom) → IfOk result (λ r. Leaves m m' (with_places (kernel_of m) r)) → IfOk result (λ r. ArePlaces o r)
-    → IfOk result (λ r. Leaves m m' (with_app (kernel_of m) r.dom (placed_app r)))
-row_ok m m' o (Ok r) h p = subst (λ (k : Kernel). Leaves m m' k) (app_places (kernel_of m) r p.number) h
-row_ok m m' o (Err x) h p = tt

@@ -4,7 +4,6 @@ use Rattle.kernel_model.specs.Bytes.{before_none, filled}
 use Rattle.kernel_model.specs.Kernel.{Kernel}
 use Rattle.kernel_model.specs.Layout.{tables, nth, written, kernel_in, kernel_of, IsLaidOut}
 use Rattle.kernel_model.specs.Queues.{HasQueues, HasQueueBytes, QueuesHold}
-use Rattle.place_model.specs.Settled.{IsSettledKernel, IsSettled}
 
 pub kernel_same : (m n : List ℕ) → tables n ≡ tables m → kernel_of n ≡ kernel_of m
 unfolding kernel_of
@@ -23,10 +22,4 @@ pub queues_same : (m n : List ℕ) → tables n ≡ tables m → QueuesHold m �
 queues_same m n e h = record {
   bytes = queue_bytes_same m n e h.bytes;
   lists = subst (λ (k : Kernel). HasQueues k) (sym (kernel_same m n e)) h.lists;
-}
-
-pub settled_same : (m n : List ℕ) → tables n ≡ tables m → IsSettled m → IsSettled n
-settled_same m n e h = record {
-  laid_out = laid_same m n e h.laid_out;
-  kernel = subst (λ (k : Kernel). IsSettledKernel k) (sym (kernel_same m n e)) h.kernel;
 }

@@ -14,7 +14,7 @@ mod rows;
 mod sections;
 
 pub use code_model::marks::Marks;
-pub use loading::load;
+pub use loading::{load, put_module};
 pub use region_table::{NoRoom, Regions};
 
 #[cfg(test)]

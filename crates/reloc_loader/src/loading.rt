@@ -1,25 +1,23 @@
 //! Loading.
 
 ghost use Rattle.std.specs.Prelude.{◌≡◌, MatchResult, IfOk, OnErr, Err, Ok};
-ghost use Rattle.kernel_model.specs.declared.kinds.Kind.TheVariants.{App};
+ghost use Rattle.kernel_model.specs.declared.kinds.Kind.TheVariants.{App, Module};
 ghost use Rattle.code_model.specs.Verdicts.{IsAccepted};
-ghost use Rattle.kernel_model.specs.Kernel.{app_at, with_app};
 ghost use Rattle.kernel_model.specs.Layout.{kernel_of};
 ghost use Rattle.kernel_model.specs.Queues.{Leaves};
 ghost use Rattle.place_model.specs.declared.places.Regions.{Regions};
-ghost use Rattle.place_model.specs.Placing.{placing, placed_app};
+ghost use Rattle.place_model.specs.Placing.{placing, with_places};
 ghost use Rattle.place_model.specs.Settled.{IsSettled};
 ghost use Rattle.load_model.specs.Domains.{code_length, region_length};
-ghost use Rattle.reloc_loader.specs.Loading.{Loaded, HasImages, ArePlaces};
+ghost use Rattle.load_model.specs.Loading.{places_of, loaded_kernel, placed_row, ArePlaces, Loaded};
+ghost use Rattle.reloc_loader.specs.Loading.{with_row, HasImages};
 
 use crate::rows::{code_bytes, put_rows, region_bytes};
 use crate::sections::{Section, put_section};
 use code_model::marks::Marks;
 use code_model::object::Object;
-use code_model::parts::Kind;
 use flat_mem::FlatMem;
-use kernel_model::laws::outside_bytes;
-use load_model::{image_lengths, region_is_words};
+use load_model::{image_lengths, loaded_is_settled, region_is_words, tables_stand_apart};
 use place_model::laws::{placings_are_lowest, placings_keep_settled};
 use region_table::{NoRoom, Regions, place, set_marks};
 
@@ -33,8 +31,9 @@ pub fn load(m: &mut FlatMem, o: &Object, marks: &Marks) -> Result<u8, NoRoom>
     requires accepted { IsAccepted o.now marks.now }
     requires settled { IsSettled m.old }
     ensures answer { MatchResult result
-        (λ n. (r : Regions) × (placing (kernel_of m.old) App (code_length o.now) (region_length o.now) ≡ Ok r) × (r.dom ≡ n) × Loaded m.old m.new o.now marks.now r)
-        (λ e. (placing (kernel_of m.old) App (code_length o.now) (region_length o.now) ≡ Err e) × (m.new ≡ m.old)) }
+        (λ n. (r : Regions) × (places_of (kernel_of m.old) o.now ≡ Ok r) × (r.dom ≡ n)
+        × Loaded m.old m.new (loaded_kernel App (kernel_of m.old) o.now r) (record { object = o.now; units = marks.now }) r)
+        (λ e. (places_of (kernel_of m.old) o.now ≡ Err e) × (m.new ≡ m.old)) }
     ensures keeps { IsSettled m.new }
 {
     match loaded(m, o, marks) {
@@ -43,20 +42,41 @@ pub fn load(m: &mut FlatMem, o: &Object, marks: &Marks) -> Result<u8, NoRoom>
     }
 }
 
-/// Loads an application with any marks, and answers its places.
-pub fn loaded(m: &mut FlatMem, o: &Object, marks: &Marks) -> Result<Regions, NoRoom>
-    requires app { (o.now).kind ≡ App }
+/// Loads a module that was accepted with these marks, without its functions, and answers its number, 8 to 11. Its row gets the
+/// places; marks, code and region are as an application's. Its region is its static part alone, and where that is empty it stands
+/// at 2000. Refusals, in the order slots, code, region, leave memory as it was. Memory is settled before and after.
+pub fn put_module(m: &mut FlatMem, o: &Object, marks: &Marks) -> Result<u8, NoRoom>
+    requires of_module { (o.now).kind ≡ Module }
+    requires accepted { IsAccepted o.now marks.now }
     requires settled { IsSettled m.old }
-    ensures answer { result ≡ placing (kernel_of m.old) App (code_length o.now) (region_length o.now) }
-    ensures loaded { IfOk result (λ r. Loaded m.old m.new o.now marks.now r) }
+    ensures answer { MatchResult result
+        (λ n. (r : Regions) × (placing (kernel_of m.old) Module (code_length o.now) (region_length o.now) ≡ Ok r) × (r.dom ≡ n)
+        × Loaded m.old m.new (placed_row (kernel_of m.old) r) (record { object = o.now; units = marks.now }) r)
+        (λ e. (placing (kernel_of m.old) Module (code_length o.now) (region_length o.now) ≡ Err e) × (m.new ≡ m.old)) }
+    ensures keeps { IsSettled m.new }
+{
+    match loaded(m, o, marks) {
+        Err(cause) => Err(cause),
+        Ok(places) => Ok(places.dom),
+    }
+}
+
+/// Loads an object with any marks, a module without its functions, and answers its places.
+pub fn loaded(m: &mut FlatMem, o: &Object, marks: &Marks) -> Result<Regions, NoRoom>
+    requires settled { IsSettled m.old }
+    ensures answer { result ≡ placing (kernel_of m.old) (o.now).kind (code_length o.now) (region_length o.now) }
+    ensures loaded { IfOk result (λ r.
+        Loaded m.old m.new (with_row (o.now).kind (kernel_of m.old) o.now r) (record { object = o.now; units = marks.now }) r) }
     ensures refused { OnErr result (m.new ≡ m.old) }
     ensures keeps { IsSettled m.new }
 {
     m.is_flat();
-    outside_bytes();
-    match place_app(m, o) {
+    tables_stand_apart();
+    loaded_is_settled();
+    match place_object(m, o) {
         Err(cause) => Err(cause),
         Ok(r) => {
+            put_rows(m, o, &r);
             m.is_flat();
             fill(m, o, marks, &r);
             Ok(r)
@@ -64,32 +84,24 @@ pub fn loaded(m: &mut FlatMem, o: &Object, marks: &Marks) -> Result<Regions, NoR
     }
 }
 
-/// Places an application: its row has the places, and nothing else.
-fn place_app(m: &mut FlatMem, o: &Object) -> Result<Regions, NoRoom>
-    requires app { (o.now).kind ≡ App }
+/// Places an object: its row has the places, and nothing else.
+fn place_object(m: &mut FlatMem, o: &Object) -> Result<Regions, NoRoom>
     requires settled { IsSettled m.old }
-    ensures answer { result ≡ placing (kernel_of m.old) App (code_length o.now) (region_length o.now) }
+    ensures answer { result ≡ placing (kernel_of m.old) (o.now).kind (code_length o.now) (region_length o.now) }
     ensures places { IfOk result (λ r. ArePlaces o.now r) }
-    ensures row { IfOk result (λ r. Leaves m.old m.new (with_app (kernel_of m.old) r.dom (placed_app r))) }
+    ensures row { IfOk result (λ r. Leaves m.old m.new (with_places (kernel_of m.old) r)) }
     ensures refused { OnErr result (m.new ≡ m.old) }
-    ensures keeps { IsSettled m.new }
 {
     placings_are_lowest();
     placings_keep_settled();
-    place(m, Kind::App, code_bytes(o), region_bytes(o))
+    place(m, o.kind, code_bytes(o), region_bytes(o))
 }
 
-/// Writes the rows, the marks, the code and the region of an application that is placed.
+/// Writes the marks, the code and the region of an object that is placed.
 fn fill(m: &mut FlatMem, o: &Object, marks: &Marks, r: &Regions)
-    requires app { (o.now).kind ≡ App }
-    requires places { ArePlaces o.now r.now }
-    ensures loaded { Loaded m.old m.new o.now marks.now r.now }
-    ensures keeps { app_at (kernel_of m.old) (r.now).dom ≡ placed_app r.now → IsSettled m.old → IsSettled m.new }
+    requires { ArePlaces o.now r.now }
+    ensures { Loaded m.old m.new (kernel_of m.old) (record { object = o.now; units = marks.now }) r.now }
 {
-    m.is_flat();
-    outside_bytes();
-    put_rows(m, o, r);
-    m.is_flat();
     set_marks(m, r, marks);
     put_images(m, o, r);
 }
@@ -97,8 +109,7 @@ fn fill(m: &mut FlatMem, o: &Object, marks: &Marks, r: &Regions)
 /// Writes the code and the region.
 fn put_images(m: &mut FlatMem, o: &Object, r: &Regions)
     requires { ArePlaces o.now r.now }
-    ensures images { HasImages m.old m.new o.now r.now }
-    ensures keeps { IsSettled m.old → IsSettled m.new }
+    ensures { HasImages m.old m.new o.now r.now }
 {
     m.is_flat();
     image_lengths();

@@ -1,18 +1,20 @@
-//! The lengths of an application's code and region, and its rows.
+//! The lengths of an object's code and region, and an application's rows.
 
 ghost use Rattle.std.specs.Prelude.{◌≡◌, ◌%◌, ◌≤◌};
 ghost use Rattle.kernel_model.specs.declared.kinds.Kind.TheVariants.{App};
+ghost use Rattle.kernel_model.specs.Kernel.{Kernel};
 ghost use Rattle.kernel_model.specs.Layout.{kernel_of};
 ghost use Rattle.kernel_model.specs.Queues.{Leaves};
-ghost use Rattle.kernel_model.specs.Kernel.{app_at};
-ghost use Rattle.place_model.specs.Placing.{placed_app};
-ghost use Rattle.place_model.specs.Settled.{IsSettled};
+ghost use Rattle.place_model.specs.Placing.{with_places};
 ghost use Rattle.load_model.specs.Domains.{code_length, region_length};
-ghost use Rattle.reloc_loader.specs.Loading.{ArePlaces, loaded_kernel};
+ghost use Rattle.load_model.specs.Loading.{loaded_app, ArePlaces};
+ghost use Rattle.reloc_loader.specs.Loading.{with_row};
 
 use code_model::object::Object;
+use code_model::parts::Kind;
 use flat_mem::FlatMem;
 use kernel_tables::{AppRow, set_app, set_register};
+use load_model::regions_are_even;
 use region_table::Regions;
 
 /// The state of an application that hasn't ended.
@@ -31,21 +33,31 @@ pub fn code_bytes(o: &Object) -> u16
     2 * o.code.len() as u16
 }
 
-/// The bytes of an application's region: the static part, and a stack for each thread.
+/// The bytes of the region: the static part, and a stack for each thread. A module has no threads.
 pub fn region_bytes(o: &Object) -> u32
-    requires { (o.now).kind ≡ App }
     ensures size { result ≡ region_length o.now }
     ensures even { result % 2 ≡ 0 }
 {
+    regions_are_even();
     u32::from(o.static_bytes()) + u32::from(o.threads) * u32::from(o.stack)
 }
 
-/// Fills the application's row, and keeps the entry's address in the row of its thread 0.
+/// Fills the row of an object that is placed. A module's row has its places, and gets nothing more.
 pub fn put_rows(m: &mut FlatMem, o: &Object, r: &Regions)
+    requires { ArePlaces o.now r.now }
+    ensures { (k : Kernel) → kernel_of m.old ≡ with_places k r.now → Leaves m.old m.new (with_row (o.now).kind k o.now r.now) }
+{
+    match o.kind {
+        Kind::App => put_app(m, o, r),
+        Kind::Module => {}
+    }
+}
+
+/// Fills an application's row, and keeps the entry's address in the row of its thread 0.
+fn put_app(m: &mut FlatMem, o: &Object, r: &Regions)
     requires app { (o.now).kind ≡ App }
     requires places { ArePlaces o.now r.now }
-    ensures leaves { Leaves m.old m.new (loaded_kernel (kernel_of m.old) o.now r.now) }
-    ensures keeps { app_at (kernel_of m.old) (r.now).dom ≡ placed_app r.now → IsSettled m.old → IsSettled m.new }
+    ensures { Leaves m.old m.new (loaded_app (kernel_of m.old) o.now r.now) }
 {
     set_app(
         m,

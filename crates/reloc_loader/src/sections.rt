@@ -1,13 +1,13 @@
 //! The words of the code or of the region, each with what its relocation adds.
 
-ghost use Rattle.std.specs.Prelude.{◌≡◌, ℕ, ◌+◌, ◌*◌, ◌%◌, ◌<◌, ◌≤◌, [], length, false, MatchOption, slice_index_or};
+ghost use Rattle.std.specs.Prelude.{◌≡◌, ℕ, ◌+◌, ◌*◌, ◌%◌, ◌<◌, ◌≤◌, length, false, MatchOption, slice_index_or};
 ghost use Rattle.std.specs.List.{flat_map};
 ghost use Rattle.flat_mem.specs.Bytes.{patch, word_bytes};
 ghost use Rattle.code_model.specs.declared.parts.Reloc.{Reloc};
 ghost use Rattle.code_model.specs.declared.object.Object.{Object};
 ghost use Rattle.load_model.specs.Images.{is_on, section_word, placed_word, placed_words};
 ghost use Rattle.reloc_loader.specs.Sections.{key_at, IsNext, FindsOn, count_on, added_of};
-ghost use Rattle.reloc_loader.specs.Loading.{domain_at};
+ghost use Rattle.reloc_loader.specs.Loading.{unmarked};
 
 use code_model::object::Object;
 use code_model::parts::{RelKind, Reloc};
@@ -33,7 +33,7 @@ pub fn put_section(
     requires aligned { section.now.at % 2 ≡ 0 }
     requires room { section.now.at + 2 * section.now.words ≤ 65536 }
     requires first { IsNext (o.now).relocs first (key_at section.now.in_code 0) }
-    ensures written { m.new ≡ patch m.old section.now.at (flat_map word_bytes (placed_words (domain_at o.now [] r.now) section.now.in_code section.now.words)) }
+    ensures written { m.new ≡ patch m.old section.now.at (flat_map word_bytes (placed_words (unmarked o.now r.now) section.now.in_code section.now.words)) }
     ensures next { IsNext (o.now).relocs result (key_at section.now.in_code (2 * section.now.words)) }
 {
     m.is_flat();
@@ -56,7 +56,7 @@ fn put_word(
     requires aligned { section.now.at % 2 ≡ 0 }
     requires room { section.now.at + 2 * i + 2 ≤ 65536 }
     requires next { IsNext (o.now).relocs next (key_at section.now.in_code (2 * i)) }
-    ensures written { m.new ≡ patch m.old (section.now.at + 2 * i) (word_bytes (placed_word (domain_at o.now [] r.now) section.now.in_code i)) }
+    ensures written { m.new ≡ patch m.old (section.now.at + 2 * i) (word_bytes (placed_word (unmarked o.now r.now) section.now.in_code i)) }
     ensures next { IsNext (o.now).relocs result (key_at section.now.in_code (2 * i + 2)) }
 {
     let kind = kind_on(o, next, section.in_code, i);
@@ -118,7 +118,7 @@ fn init_byte(o: &Object, at: usize) -> u16
 
 /// What a relocation of this kind adds, 0 where there is none.
 fn added(r: &Regions, kind: Option<RelKind>) -> u16
-    ensures { (o : Object) → result ≡ added_of (domain_at o [] r.now) kind }
+    ensures { (o : Object) → result ≡ added_of (unmarked o r.now) kind }
 {
     match kind {
         None => 0,

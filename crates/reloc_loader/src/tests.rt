@@ -10,13 +10,12 @@ use crate::loading::loaded;
 use crate::{NoRoom, Regions};
 use code_model::marks::Marks;
 use code_model::object::Object;
-use code_model::parts::Kind;
 use flat_mem::FlatMem;
-use kernel_tables::{AppRow, app, clear};
+use kernel_tables::{AppRow, ModuleRow, app, clear, function, module};
 use object_form::reading::read_object;
 use std::alloc::{AllocError, Global};
 use std::test::Fail;
-use texts::{Head, text};
+use texts::{APP, Head, MODULE, text};
 
 /// What stands in memory where nothing is written.
 const OLD: u8 = 0xAA;
@@ -45,6 +44,7 @@ const EMITS: [u16; 21] = [
 ];
 
 const SMALL: Head = Head {
+    kind: APP,
     zeroed: 0,
     stack: 16,
     threads: 1,
@@ -106,12 +106,9 @@ fn put_object(m: &mut FlatMem, o: &Object, marks: &Marks) -> Answer
     requires { IsSettled m.old }
     ensures { IsSettled m.new }
 {
-    match o.kind {
-        Kind::Module => Answer::NoObject,
-        Kind::App => match loaded(m, o, marks) {
-            Err(cause) => Answer::Refused(cause),
-            Ok(r) => Answer::At(r),
-        },
+    match loaded(m, o, marks) {
+        Err(cause) => Answer::Refused(cause),
+        Ok(r) => Answer::At(r),
     }
 }
 
@@ -151,6 +148,7 @@ const WORDS: [(u16, u16); 8] = [
 
 /// Ten bytes of static data and two stacks of 16: the region is 2000 to 2029.
 const TWO_THREADS: Head = Head {
+    kind: APP,
     zeroed: 4,
     stack: 16,
     threads: 2,
@@ -220,6 +218,7 @@ fn relocations_of_both_sections_stand_together(rt: HostRuntime) -> Result<(), Fa
 fn the_rest_of_the_region_is_zero(rt: HostRuntime) -> Result<(), Fail> {
     let alloc = rt.alloc();
     let head = Head {
+        kind: APP,
         zeroed: 2,
         stack: 18,
         threads: 3,
@@ -301,6 +300,72 @@ fn the_marks_are_those_of_the_unit_starts(rt: HostRuntime) -> Result<(), Fail> {
     Ok(())
 }
 
+/// A module without static data.
+const BARE: Head = Head {
+    kind: MODULE,
+    zeroed: 0,
+    stack: 0,
+    threads: 0,
+    entry: 0,
+};
+
+/// Gives back its argument plus one.
+const ADDS: [u16; 3] = [0x531C, 0x4030, 0xF026];
+
+#[test]
+fn a_modules_row_has_its_places_alone(rt: HostRuntime) -> Result<(), Fail> {
+    let alloc = rt.alloc();
+    let mut m = start(alloc)?;
+    let app_text = text(alloc, &SMALL, &JUMPS, &[], &[])?;
+    let bare_text = text(alloc, &BARE, &ADDS, &[], &[])?;
+    let _app = put(&mut m, alloc, &app_text);
+    // an empty region stands at 2000, also where another one does
+    let at = Regions {
+        dom: 8,
+        code_lo: 0x6002,
+        code_hi: 0x6008,
+        lo: 0x2000,
+        hi: 0x2000,
+    };
+    assert_eq!(rt; put(&mut m, alloc, &bare_text), Answer::At(at));
+    let row = ModuleRow {
+        state: 1,
+        code_lo: 0x6002,
+        code_hi: 0x6008,
+        lo: 0x2000,
+        hi: 0x2000,
+    };
+    assert_eq!(rt; module(&m, 0), row);
+    // its functions are left to the caller
+    assert_eq!(rt; function(&m, 5).module, 0xFFFF);
+    Ok(())
+}
+
+#[test]
+fn a_module_stands_relocated_with_its_marks(rt: HostRuntime) -> Result<(), Fail> {
+    let alloc = rt.alloc();
+    let mut m = start(alloc)?;
+    let head = Head { zeroed: 3, ..BARE };
+    let relocs = [(IN_CODE, CODE, 4), (IN_CODE, HI, 8), (IN_INIT, DATA, 2)];
+    let text = text(alloc, &head, &MIXED_CODE, &MIXED_INIT, &relocs)?;
+    let _at = put_marked(&mut m, alloc, &text, &[2]);
+    let words: [(u16, u16); 7] = [
+        (0x6000, 0x1111),
+        (0x6004, 0x5FF0),
+        (0x6008, 0x000A),
+        (0x2000, 0x1234),
+        (0x2002, 0x1FFF),
+        (0x2006, 0),
+        (0x2008, 0),
+    ];
+    for (place, word) in words {
+        assert_eq!(rt; m.word(place), word, "at {place:#x}");
+    }
+    // its mark is 6002, bit 1, and its region ends at 200A
+    assert_eq!(rt; (m.byte(0x1100) % 32, m.byte(0x200A)), (0x02, OLD));
+    Ok(())
+}
+
 /// A copy of memory.
 fn copy(alloc: Global, m: &FlatMem) -> Result<FlatMem, AllocError> {
     let mut other = FlatMem::new(alloc)?;
@@ -353,6 +418,7 @@ fn refusals_leave_memory_as_it_was(rt: HostRuntime) -> Result<(), Fail> {
     };
     assert_eq!(rt; refused(alloc, &long)?, (2, Answer::Refused(no_code), true));
     let head = Head {
+        kind: APP,
         zeroed: 16384,
         stack: 1024,
         threads: 4,
@@ -366,6 +432,40 @@ fn refusals_leave_memory_as_it_was(rt: HostRuntime) -> Result<(), Fail> {
     assert_eq!(rt;
         refused(alloc, &wide)?,
         (0, Answer::Refused(no_region), true)
+    );
+    Ok(())
+}
+
+#[test]
+fn modules_are_refused_as_applications_are(rt: HostRuntime) -> Result<(), Fail> {
+    let alloc = rt.alloc();
+    let small = text(alloc, &BARE, &ADDS, &[], &[])?;
+    assert_eq!(rt;
+        refused(alloc, &small)?,
+        (4, Answer::Refused(NoRoom::Slots), true)
+    );
+    let mut code = Vec::new(alloc);
+    for _ in 0..8192u16 {
+        code.push(0x3FFF)?;
+    }
+    let long = text(alloc, &BARE, &code, &[], &[])?;
+    let no_code = NoRoom::Code {
+        need: 16384,
+        gap: 0,
+    };
+    assert_eq!(rt; refused(alloc, &long)?, (2, Answer::Refused(no_code), true));
+    let head = Head {
+        zeroed: 10001,
+        ..BARE
+    };
+    let wide = text(alloc, &head, &JUMPS, &[], &[])?;
+    let no_region = NoRoom::Region {
+        need: 10002,
+        gap: 6382,
+    };
+    assert_eq!(rt;
+        refused(alloc, &wide)?,
+        (1, Answer::Refused(no_region), true)
     );
     Ok(())
 }

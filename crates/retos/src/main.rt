@@ -6,9 +6,14 @@ mod words;
 use edge_io::standard::{StdFolder, StdSink};
 use retos_cli::outcome::Status;
 use retos_cli::top::retos;
+use std::fs::File;
 use std::process::ExitCode;
 
+/// A file that has nothing to read.
+const NULL_DEVICE: &str = "/dev/null";
+
 fn main(rt: HostRuntime) -> ExitCode {
+    let _streams = kept_streams(&rt);
     let status = match words::given(&rt) {
         Ok(words) => {
             let mut files = StdFolder::new(rt);
@@ -19,4 +24,14 @@ fn main(rt: HostRuntime) -> ExitCode {
         Err(_) => Status::NoMemory,
     };
     ExitCode::from(status.number())
+}
+
+/// Files in the places of those standard streams that are closed, so that no file that is opened later gets such a place and is
+/// written to in the stream's stead. They are opened to be read alone: a write to such a stream fails. A system gives a new file the
+/// lowest free place, so three are enough; they stay open as long as they are kept.
+fn kept_streams(rt: &HostRuntime) -> [Option<File>; 3] {
+    let input = File::open(rt, NULL_DEVICE).ok();
+    let out = File::open(rt, NULL_DEVICE).ok();
+    let err = File::open(rt, NULL_DEVICE).ok();
+    [input, out, err]
 }

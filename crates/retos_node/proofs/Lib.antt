@@ -4,3 +4,9 @@ pub mod Writing
 pub mod Naming
 pub mod Course
 pub mod Traced
+pub mod Choosing
+pub mod Standing
+pub mod RunnerLemmas
+pub mod TurnLemmas
+pub mod AnswerLemmas
+pub mod EntryLemmas

@@ -3,3 +3,6 @@ pub mod Turns
 pub mod Readiness
 pub mod Printing
 pub mod Underway
+pub mod Cases
+pub mod Codes
+pub mod Calls

@@ -6,13 +6,21 @@
 //! placing and starting, `running` a run with its lines, and `schedule` what a script gives for the next step.
 #![tactic(auto)]
 
-mod lines;
 pub mod node;
 pub mod objects;
+mod calls;
+mod entries;
+mod lines;
+mod locks;
+mod modules;
 mod printing;
 mod quiet;
+mod routines;
 mod running;
 mod schedule;
+mod step_laws;
+mod stepping;
+mod turns;
 
 pub use node::{BootFault, End, Node, Show};
 pub use objects::ObjectList;

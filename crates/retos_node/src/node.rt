@@ -10,10 +10,15 @@ ghost use Rattle.retos_node.specs.Parts.{parts, IsBootFault, GoesByLines, RunsTo
 use crate::objects::ObjectList;
 use crate::printing::{print_line, print_placement};
 use crate::running::{run_law, run_steps};
+use crate::step_laws::step_law;
+use crate::stepping;
+use crate::turns::Moment;
 use edge_io::sink::Sink;
 use edge_io::whole::SinkFault;
 use flat_mem::FlatMem;
 use msp_machine::Regs;
+use node_laws::code::memory_is_shown;
+use node_laws::holding::nodes_are_sound;
 use place_model::places::NoRoom;
 use std::alloc::{AllocError, Global};
 use thiserror::Error;
@@ -81,10 +86,15 @@ impl Node {
         ensures made { (self.new).steps ≡ (self.old).steps + 1 }
         ensures same { ((self.new).owner ≡ (self.old).owner) × ((self.new).show ≡ (self.old).show) }
     {
-        let _ = raised;
-        let _ = pick;
+        step_law();
+        memory_is_shown();
+        nodes_are_sound();
         let _ = objects;
-        Record::IdleTurn { step: self.steps }
+        let step = self.steps + 1;
+        let moment = Moment { step, pick };
+        let record = stepping::step(&mut self.mem, &mut self.regs, raised, moment);
+        self.steps = step;
+        record
     }
 
     /// Runs under a script for at most so many steps, until it is quiet, and prints the lines, each by a write of its own.

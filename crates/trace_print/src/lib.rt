@@ -4,15 +4,17 @@
 //! cut, since the longest of each kind fits a `Line`. The crate stands on `trace_model` for records and texts, on
 //! `machine_model` for the list of written bytes, and on `line_text` for digits.
 //!
-//! From the bottom up: `line` (the type), `parts` (whose step it was, names, written bytes) and `record_lines` (a line for each
-//! kind of record).
+//! From the bottom up: `line` (the type), `parts` (whose step it was, names, written bytes), `record_lines` (a line for each
+//! kind of record) and `tail` (the last eight instructions, which are shown before a fault).
 #![tactic(auto)]
 
 pub mod line;
 mod parts;
 pub mod record_lines;
+pub mod tail;
 #[cfg(test)]
 mod tests;
 
 pub use record_lines::text;
+pub use tail::Tail;
 pub use trace_model::records::{FaultKind, Record, Who};

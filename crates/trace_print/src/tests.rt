@@ -3,9 +3,10 @@
 ghost use Rattle.std.specs.Prelude.{IsTrue};
 ghost use Rattle.trace_print.specs.Named.{has_name, HasLine};
 
-use super::{FaultKind, Record, Who, text};
+use super::{FaultKind, Record, Tail, Who, text};
 use machine_model::writes::Writes;
 use std::process::Abort;
+use std::test::Fail;
 
 const FIRST: Who = Who::Thread { app: 0, thread: 0 };
 
@@ -197,4 +198,40 @@ fn lines_of_nobody_name_none(rt: HostRuntime) {
         Record::Vector { step: 37, line: 1 },
         "37 kernel line 1\n",
     );
+}
+
+fn instruction(step: u8) -> Record {
+    let mut writes = Writes::new();
+    writes.add(0x2000, step);
+    Record::Instr {
+        step: u32::from(step),
+        who: FIRST,
+        pc: 0x6000,
+        word: 0x4384,
+        writes,
+    }
+}
+
+#[test]
+fn the_last_eight_instructions_are_kept_oldest_first(rt: HostRuntime) -> Result<(), Fail> {
+    let mut tail = Tail::new(rt.alloc())?;
+    assert!(rt; tail.lines(0).is_none());
+    for step in 1..=9u8 {
+        tail.push(&instruction(step));
+        tail.push(&Record::IdleTurn {
+            step: u32::from(step),
+        });
+    }
+    let oldest = tail.lines(0).expect(&rt, "kept");
+    assert_eq!(rt;
+        oldest.as_slice(),
+        b"2 a0.t0 6000 4384 2000:02\n".as_slice()
+    );
+    let newest = tail.lines(7).expect(&rt, "kept");
+    assert_eq!(rt;
+        newest.as_slice(),
+        b"9 a0.t0 6000 4384 2000:09\n".as_slice()
+    );
+    assert!(rt; tail.lines(8).is_none());
+    Ok(())
 }

@@ -1,25 +1,27 @@
 //! A kernel with two applications, of which one gets a thread, and two modules, and calls on it where they may be made.
 
-ghost use Rattle.std.specs.Prelude.{◌≡◌, ◌≢◌, ◌%◌, ◌<◌, IfOk, IsTrue};
-ghost use Rattle.kernel_model.specs.Kernel.{module_at};
+ghost use Rattle.std.specs.Prelude.{◌≡◌, IfOk, IsTrue};
+ghost use Rattle.code_model.specs.Verdicts.{IsAccepted};
+ghost use Rattle.kernel_model.specs.declared.kinds.Kind.TheVariants.{Module};
 ghost use Rattle.kernel_model.specs.Layout.{kernel_of};
 ghost use Rattle.kernel_model.specs.Running.{NoneRuns, ThreadRuns};
 ghost use Rattle.kernel_model.specs.Starting.{MayBegin};
-ghost use Rattle.kernel_model.specs.Words.{free};
 ghost use Rattle.place_model.specs.Settled.{IsSettled};
-ghost use Rattle.kernel_modules.specs.Calls.{HasKnownModules};
+ghost use Rattle.kernel_model.specs.Modules.{HasKnownModules};
 
+use super::texts::text;
 use crate::entering::ENDED;
 use crate::*;
+use code_model::marks::Marks;
+use code_model::object::Object;
 use code_model::parts::Kind;
 use flat_mem::FlatMem;
 use kernel_model::laws::empty_is_orderly;
-use kernel_tables::{
-    AppRow, FnRow, SysWord, app, clear, get, module, set_app, set_function, set_register, thread,
-};
+use kernel_tables::{AppRow, SysWord, app, clear, get, module, set_app, set_register, thread};
 use kernel_threads::{NONE, dispatch, start};
 use msp_machine::Regs;
-use region_table::place;
+use object_form::reading::read_object;
+use static_checker::{Verdict, check};
 use std::alloc::{AllocError, Global};
 
 /// Code 6000 to 600F, static bytes 2000 and 2001, two stacks of 16 bytes from 2002 on.
@@ -46,18 +48,77 @@ const SECOND: AppRow = AppRow {
     threads: 2,
 };
 
+/// Adds one to its argument, and returns.
+const ADDS: [u16; 3] = [0x531C, 0x4030, 0xF026];
+
+/// Two jumps, each to itself.
+const JUMPS: [u16; 2] = [0x3FFF, 0x3FFF];
+
 /// Memory with two applications, module 0 at 6020, which exported function 5 at its start, and module 1 at 6026, which exported
 /// function 63 at 6028. Nothing runs.
 pub fn two_modules(alloc: Global) -> Result<FlatMem, AllocError>
     ensures { IfOk result (λ m. IsSettled m) }
 {
+    let mut m = two_apps(alloc)?;
+    let adds = text(alloc, 0, &ADDS, &[(5, 0)])?;
+    let _ = put(&mut m, alloc, &adds);
+    let jumps = text(alloc, 0, &JUMPS, &[(63, 2)])?;
+    let _ = put(&mut m, alloc, &jumps);
+    Ok(m)
+}
+
+/// Memory with two applications.
+pub fn two_apps(alloc: Global) -> Result<FlatMem, AllocError>
+    ensures { IfOk result (λ m. IsSettled m) }
+{
     let mut m = FlatMem::new(alloc)?;
     put_apps(&mut m);
-    let _ = place(&mut m, Kind::Module, 6, 0);
-    let _ = place(&mut m, Kind::Module, 4, 0);
-    export(&mut m, 5, 0, 0x6020);
-    export(&mut m, 63, 1, 0x6028);
     Ok(m)
+}
+
+/// What became of a text.
+#[derive(Clone, Copy, PartialEq, Eq, Debug, Drop)]
+pub enum Outcome {
+    /// It is no module's that the checker accepts.
+    NoModule,
+    Refused(NoRoom),
+    At(u8),
+}
+
+/// Loads the module of a text.
+pub fn put(m: &mut FlatMem, alloc: Global, text: &[u8]) -> Outcome
+    requires { IsSettled m.old }
+    ensures { IsSettled m.new }
+{
+    match read_object(alloc, text) {
+        Err(_) => Outcome::NoModule,
+        Ok(o) => put_object(m, &o),
+    }
+}
+
+fn put_object(m: &mut FlatMem, o: &Object) -> Outcome
+    requires { IsSettled m.old }
+    ensures { IsSettled m.new }
+{
+    match o.kind {
+        Kind::App => Outcome::NoModule,
+        Kind::Module => match check(o) {
+            Verdict::Refused { .. } => Outcome::NoModule,
+            Verdict::Accepted(marks) => put_module(m, o, &marks),
+        },
+    }
+}
+
+fn put_module(m: &mut FlatMem, o: &Object, marks: &Marks) -> Outcome
+    requires of_module { (o.now).kind ≡ Module }
+    requires accepted { IsAccepted o.now marks.now }
+    requires settled { IsSettled m.old }
+    ensures { IsSettled m.new }
+{
+    match load_module(m, o, marks) {
+        Ok(n) => Outcome::At(n),
+        Err(cause) => Outcome::Refused(cause),
+    }
 }
 
 /// Clears memory and writes the rows of the two applications and of their threads 0.
@@ -70,31 +131,6 @@ fn put_apps(m: &mut FlatMem)
     set_app(m, 1, &SECOND);
     set_register(m, 0, 0, 0x6004);
     set_register(m, 4, 0, 0x6010);
-}
-
-/// Exports function f, below 64, from a module in use, below 4, at an even address.
-fn export(m: &mut FlatMem, f: u8, i: u8, address: u16)
-    requires number { f < 64 }
-    requires settled { IsSettled m.old }
-    ensures { IsSettled m.new }
-{
-    if i < 4 && address % 2 == 0 && module(m, i).state != 0 {
-        put_function(m, f, i, address);
-    }
-}
-
-fn put_function(m: &mut FlatMem, f: u8, i: u8, address: u16)
-    requires number { f < 64 }
-    requires settled { IsSettled m.old }
-    requires used { (module_at (kernel_of m.old) i).state ≢ free }
-    requires address { address % 2 ≡ 0 }
-    ensures { IsSettled m.new }
-{
-    let row = FnRow {
-        module: u16::from(i),
-        address,
-    };
-    set_function(m, f, &row);
 }
 
 fn thread_runs(m: &FlatMem) -> bool

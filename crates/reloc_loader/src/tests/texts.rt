@@ -1,10 +1,16 @@
-//! Texts of applications.
+//! Texts of objects.
 
 use std::alloc::{AllocError, Global};
 
-/// The numbers in the head of an application's text.
+/// The kinds of objects, as a text has them.
+pub const APP: u8 = 1;
+
+pub const MODULE: u8 = 2;
+
+/// The numbers in the head of an object's text.
 #[derive(Clone, Copy, Drop)]
 pub struct Head {
+    pub kind: u8,
     pub zeroed: u16,
     pub stack: u16,
     pub threads: u8,
@@ -17,7 +23,7 @@ fn push_word(text: &mut Vec<u8>, word: u16) -> Result<(), AllocError> {
     Ok(())
 }
 
-/// The text of an application. Relocations are section, kind and offset.
+/// The text of an object. Relocations are section, kind and offset. A module exports its first instruction as function 5.
 pub fn text(
     alloc: Global,
     head: &Head,
@@ -26,14 +32,15 @@ pub fn text(
     relocs: &[(u8, u8, u16)],
 ) -> Result<Vec<u8>, AllocError> {
     let mut text = Vec::new(alloc);
-    for byte in [0x52, 0x45, 0x54, 0x4F, 1, 1] {
+    for byte in [0x52, 0x45, 0x54, 0x4F, 1, head.kind] {
         text.push(byte)?;
     }
     push_word(&mut text, u16::try_from(code.len()).unwrap_or(0))?;
     push_word(&mut text, u16::try_from(init.len()).unwrap_or(0))?;
     push_word(&mut text, head.zeroed)?;
     push_word(&mut text, head.stack)?;
-    push_word(&mut text, head.threads as u16)?;
+    text.push(head.threads)?;
+    text.push(if head.kind == MODULE { 1 } else { 0 })?;
     push_word(&mut text, head.entry)?;
     push_word(&mut text, u16::try_from(relocs.len()).unwrap_or(0))?;
     for word in code {
@@ -46,6 +53,10 @@ pub fn text(
         text.push(*section)?;
         text.push(*kind)?;
         push_word(&mut text, *offset)?;
+    }
+    if head.kind == MODULE {
+        push_word(&mut text, 5)?;
+        push_word(&mut text, 0)?;
     }
     Ok(text)
 }

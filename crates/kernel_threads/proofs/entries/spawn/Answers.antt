@@ -5,7 +5,7 @@ use Rattle.kernel_model.specs.Words.{running, app_of}
 use Rattle.kernel_model.specs.Layout.{kernel_of}
 use Rattle.kernel_model.specs.Queues.{Leaves}
 use Rattle.kernel_model.specs.Starting.{begun, free_threads}
-use Rattle.kernel_threads.specs.Returns.{IsOwnMark}
+use Rattle.place_model.specs.Marking.{IsOwnMark}
 use Rattle.kernel_threads.proofs.EntryLemmas.{spawned_by, full_by, begun_as}
 use Rattle.kernel_threads.proofs.entries.spawn.Goals as goal
 

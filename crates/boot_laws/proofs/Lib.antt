@@ -1,5 +1,0 @@
-mod Images
-mod Kernels
-mod Rows
-mod Filling
-mod Loading

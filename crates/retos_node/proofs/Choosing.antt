@@ -1,0 +1,151 @@
+-- Which case a step is, by the line to accept and by PC.
+use Rattle.std.proofs.Common.{◌≡◌, ◌≢◌, ℕ, ◌+◌, ◌*◌, ◌%◌, ◌^◌, ◌<◌, ◌≤◌, ◌⊎◌, inl, inr, Bool, true, false, not, cond, eqb, List, [], ◌∷◌, Option, Some, None, refl, sym, ap, ◌∙◌, subst, arith, bit_and}
+use Rattle.std.specs.Int.{bit_at}
+use Rattle.std.specs.List.{find, AllByRecursion}
+use Rattle.std.proofs.lemmas.Bool.{true≢false, cases_eq, cond-true, cond-false, ne_eqb, eq-eqb, eqb-true, and_left, and_right, and_from, lt-leb, le-leb}
+use Rattle.std.proofs.lemmas.Nat.{and_le_l}
+use Rattle.std.proofs.lemmas.Nat.Bits.{and_pow}
+use Rattle.machine_model.specs.Context.{reg}
+use Rattle.kernel_model.specs.declared.kinds.Kind.TheVariants.{App}
+use Rattle.kernel_model.specs.declared.rows.SysWord.TheVariants.{Budget}
+use Rattle.kernel_model.specs.Kernel.{Kernel, word_of}
+use Rattle.kernel_model.specs.Words.{none, running_module}
+use Rattle.node_model.specs.Entries.{Call, StoreFault, StackFault, Goes, Leave, calls, entry_address, module_runs}
+use Rattle.node_model.specs.Steps.{Case, Accepts, IsIdle, Enters, Serves, OverBudget, Runs, case_of, case_by_line, case_at, case_in_code, is_over_budget, pending, highest_line, entry_at, routine_at, lines_down}
+use Rattle.node_laws.proofs.Casing.{StandsAt, named, entry-least, entry-found, enters-at, find-none}
+use Rattle.node_laws.proofs.Composing.{routine-found}
+use Rattle.retos_node.specs.Cases.{line_to_accept, IsAtEntry}
+
+-- ---- the line
+
+found_by : (p : ℕ → Bool) (y x : ℕ) (rest : Option ℕ) (b : Bool) → p y ≡ b → (rest ≡ Some x → p x ≡ true) → cond b (Some y) rest ≡ Some x
+    → p x ≡ true
+found_by p y x rest true h later e = let same : y ≡ x = cc in subst (λ (z : ℕ). p z ≡ true) same h
+found_by p y x rest false h later e = later e
+
+find_holds : (p : ℕ → Bool) (xs : List ℕ) (x : ℕ) → find p xs ≡ Some x → p x ≡ true
+find_holds p [] x e = absurd (cc)
+find_holds p (y ∷ ys) x e = found_by p y x (find p ys) (p y) refl (find_holds p ys x) e
+
+bit_within : (w n : ℕ) → bit_at w n ≡ 1 → 2 ^ n ≤ w
+bit_within w n e =
+    let there : bit_and w (2 ^ n) ≡ 2 ^ n = and_pow w n ∙ (ap (λ (k : ℕ). k * 2 ^ n) e ∙ omega arith) in
+    omega (arith, there, and_le_l w (2 ^ n))
+
+-- an accepted line is pending
+pub accepted_bit : (k : Kernel) (n : ℕ) → highest_line k ≡ Some n → 2 ^ n ≤ pending k
+accepted_bit k n e = bit_within (pending k) n (eqb-true (bit_at (pending k) n) 1 (find_holds (λ x. eqb (bit_at (pending k) x) 1) lines_down n e))
+
+pub none_pending : (k : Kernel) (b : Bool) → pending k ≡ 0 → cond b (highest_line k) None ≡ None
+none_pending k false e = refl
+none_pending k true e = ap (λ (w : ℕ). find (λ n. eqb (bit_at w n) 1) lines_down) e
+
+-- ---- the case
+
+by_line : (k : Kernel) (r : List ℕ) (o : Option ℕ) → line_to_accept k r ≡ o → case_of k r ≡ case_by_line k (reg r 0) o
+unfolding case_of
+by_line k r o e = ap (λ (x : Option ℕ). case_by_line k (reg r 0) x) e
+
+pub accepts : (k : Kernel) (r : List ℕ) (n : ℕ) → line_to_accept k r ≡ Some n → case_of k r ≡ Accepts n
+accepts k r n e = by_line k r (Some n) e
+
+pub idles : (k : Kernel) (r : List ℕ) → line_to_accept k r ≡ None → reg r 0 ≡ 0xF07E → case_of k r ≡ IsIdle
+idles k r e at = by_line k r None e ∙ ap (λ (pc : ℕ). case_by_line k pc None) at
+
+no_entry : (pc : ℕ) → (pc < 0xF000) ⊎ (0xF026 < pc) → entry_at pc ≡ None
+no_entry pc h = find-none (λ c. eqb (entry_address c) pc) calls (λ c. ne_eqb (entry_address c) pc (apart c h))
+  where
+    apart : (c : Call) → (pc < 0xF000) ⊎ (0xF026 < pc) → entry_address c ≢ pc
+    apart c (inl l) e = omega (arith, (entry-least c).0)
+    apart c (inr u) e = omega (arith, (entry-least c).1)
+
+pub serves : (k : Kernel) (r : List ℕ) (n : ℕ) → line_to_accept k r ≡ None → n < 14 → reg r 0 ≡ 0xF080 + 2 * n
+    → case_of k r ≡ Serves n
+serves k r n e l at =
+    by_line k r None e
+    ∙ ap (λ (pc : ℕ). case_by_line k pc None) at
+    ∙ cond-false (eqb (0xF080 + 2 * n) 0xF07E) IsIdle _ (ne_eqb (0xF080 + 2 * n) 0xF07E (λ e. omega arith))
+    ∙ ap (λ (o : Option Call). case_at k o (routine_at (0xF080 + 2 * n))) (no_entry (0xF080 + 2 * n) (inr (omega arith)))
+    ∙ ap (λ (o : Option ℕ). case_at k None o) (routine-found n l)
+
+-- no entry, no routine, and not where the machine idles
+abbrev pub IsNowhere : (pc : ℕ) → Type 0
+IsNowhere pc = (pc < 0xF000) ⊎ ((0xF026 < pc) × (pc ≢ 0xF07E) × ((pc < 0xF080) ⊎ (0xF09A < pc)))
+
+find_none_in : (p : ℕ → Bool) (xs : List ℕ) → AllByRecursion (λ x. p x ≡ false) xs → find p xs ≡ None
+find_none_in p [] h = refl
+find_none_in p (x ∷ xs) h = cond-false (p x) (Some x) (find p xs) h.0 ∙ find_none_in p xs h.1
+
+no_routine : (pc : ℕ) → (pc < 0xF080) ⊎ (0xF09A < pc) → routine_at pc ≡ None
+no_routine pc h = find_none_in (λ n. eqb (0xF080 + 2 * n) pc) lines_down
+    (at 13 (omega arith), (at 12 (omega arith), (at 11 (omega arith), (at 10 (omega arith), (at 9 (omega arith), (at 8 (omega arith), (at 7 (omega arith), (at 6 (omega arith), (at 5 (omega arith), (at 4 (omega arith), (at 3 (omega arith), (at 2 (omega arith), (at 1 (omega arith), (at 0 (omega arith), tt))))))))))))))
+  where
+    at : (n : ℕ) → n < 14 → eqb (0xF080 + 2 * n) pc ≡ false
+    at n l = ne_eqb (0xF080 + 2 * n) pc (λ e. elim h [ inl a ↦ omega arith | inr b ↦ omega arith ])
+
+pub in_code : (k : Kernel) (r : List ℕ) → line_to_accept k r ≡ None → IsNowhere (reg r 0) → case_of k r ≡ case_in_code k
+in_code k r e h = by_line k r None e ∙ elim h [
+  | inl l ↦ at (reg r 0) (λ f. omega arith) (inl l) (inl (omega arith))
+  | inr u ↦ at (reg r 0) u.1 (inr u.0) u.2
+]
+  where
+    at : (pc : ℕ) → pc ≢ 0xF07E → (pc < 0xF000) ⊎ (0xF026 < pc) → (pc < 0xF080) ⊎ (0xF09A < pc)
+        → case_by_line k pc None ≡ case_in_code k
+    at pc n a b =
+        cond-false (eqb pc 0xF07E) IsIdle _ (ne_eqb pc 0xF07E n)
+        ∙ ap (λ (o : Option Call). case_at k o (routine_at pc)) (no_entry pc a)
+        ∙ ap (λ (o : Option ℕ). case_at k None o) (no_routine pc b)
+
+-- ---- the entry
+
+named_entry : (pc : ℕ) → 0xF000 ≤ pc → pc ≤ 0xF026 → pc % 2 ≡ 0 → (c : Call) × (pc ≡ entry_address c)
+named_entry pc l u e = elim (cases_eq pc 0xF000) [
+  | inl h ↦ (StoreFault, h)
+  | inr n0 ↦ elim (cases_eq pc 0xF002) [
+    | inl h ↦ (StackFault, h)
+    | inr n2 ↦ elim (cases_eq pc 0xF004) [
+      | inl h ↦ (Goes, h)
+      | inr n4 ↦ elim (cases_eq pc 0xF026) [
+        | inl h ↦ (Leave, h)
+        | inr n26 ↦ (let s : StandsAt pc = named App pc refl (inr (omega arith, omega arith, e)) in (s.entry, s.at))
+      ]
+    ]
+  ]
+]
+
+pub at_entry : (k : Kernel) (r : List ℕ) → line_to_accept k r ≡ None → 0xF000 ≤ reg r 0 → reg r 0 ≤ 0xF026 → reg r 0 % 2 ≡ 0
+    → IsAtEntry k r
+at_entry k r none l u e =
+    let c : (c : Call) × (reg r 0 ≡ entry_address c) = named_entry (reg r 0) l u e in
+    record {
+      call = c.0;
+      at = ap entry_at c.1 ∙ entry-found c.0;
+      enters = by_line k r None none ∙ enters-at k (reg r 0) c.0 c.1;
+    }
+
+-- ---- in code
+
+runs_without : (k : Kernel) → module_runs k ≡ false → case_in_code k ≡ Runs
+runs_without k e = cond-false (is_over_budget k) OverBudget Runs (and_left (module_runs k) _ e)
+
+-- no module runs, so an instruction does
+pub app_runs : (k : Kernel) (r : List ℕ) → case_of k r ≡ case_in_code k → module_runs k ≡ false → case_of k r ≡ Runs
+app_runs k r e f = e ∙ runs_without k f
+
+pub module_goes_on : (k : Kernel) (r : List ℕ) → case_of k r ≡ case_in_code k → word_of k Budget < 4096 → case_of k r ≡ Runs
+module_goes_on k r e l =
+    e ∙ cond-false (is_over_budget k) OverBudget Runs (and_right (module_runs k) _ (lt-leb 4096 (word_of k Budget) l))
+
+pub module_is_over : (k : Kernel) (r : List ℕ) → case_of k r ≡ case_in_code k → module_runs k ≡ true → 4096 ≤ word_of k Budget
+    → case_of k r ≡ OverBudget
+module_is_over k r e f l =
+    e ∙ cond-true (is_over_budget k) OverBudget Runs (and_from (module_runs k) _ f (le-leb 4096 (word_of k Budget) l))
+
+pub no_module : (k : Kernel) → running_module k ≡ none → module_runs k ≡ false
+no_module k e = ap not (eq-eqb (running_module k) none e)
+
+pub a_module : (k : Kernel) → running_module k ≢ none → module_runs k ≡ true
+a_module k n = ap not (ne_eqb (running_module k) none n)
+
+pub some_module : (k : Kernel) → module_runs k ≡ true → running_module k ≢ none
+some_module k e f = true≢false (sym e ∙ ap not (eq-eqb (running_module k) none f))

@@ -1,0 +1,77 @@
+-- Who runs in a settled kernel, and that nothing does behind a rule.
+use Rattle.std.proofs.Common.{◌≡◌, ◌≢◌, ℕ, ◌<◌, ◌≤◌, ◌+◌, Bool, true, false, not, eqb, cond, List, [], ◌∷◌, refl, ap, sym, ◌∙◌, subst, arith, Contains, inl, inr}
+use Rattle.std.proofs.lemmas.Bool.{cases_eq, ne_eqb, eq-eqb, cond-true, cond-false, cond_both}
+use Rattle.kernel_model.specs.Kernel.{Kernel, with_thread, empty_row}
+use Rattle.kernel_model.specs.Words.{none, running, running_module, app_of, none_running, waiters_of}
+use Rattle.kernel_model.specs.Running.{ThreadRuns, NoneRuns, DomainRuns, running_domain}
+use Rattle.kernel_model.specs.Dispatching.{moved_to_front}
+use Rattle.kernel_model.specs.Ending.{ended, exited, is_last, is_of}
+use Rattle.kernel_model.specs.Modules.{module_ended}
+use Rattle.kernel_model.specs.Sync.{handed_to, own_app, waiting_condition}
+use Rattle.kernel_model.specs.declared.ends.AppEnd.{AppEnd}
+use Rattle.kernel_model.specs.declared.ends.AppEnd.TheVariants.{Done, Faulted}
+use Rattle.kernel_model.specs.Orderly.{only, listed, runner, caller_of, IsOrderly}
+use Rattle.kernel_model.specs.Orderly.Spot.{Runs, Calls}
+use Rattle.thread_laws.proofs.ListEdits.{single_has}
+use Rattle.thread_laws.proofs.EndedKernel.{stopped, ended_is, is_of_same}
+use Rattle.node_model.specs.Entries.{module_runs, fault_kernel}
+
+only_has : (t : ℕ) → t ≢ none → Contains (only t) t
+only_has t h = subst (λ (xs : List ℕ). Contains xs t) (sym (cond-false (eqb t none) [] (t ∷ []) (ne_eqb t none h))) (single_has t)
+
+-- the running thread, or the caller of the running module
+pub thread_below : (k : Kernel) → IsOrderly k → running k ≢ none → running k < 32
+thread_below k h some =
+    elim (cases_eq (running_module k) none) [
+      | inl e ↦
+          let at : listed k Runs ≡ only (running k) = cond-true (eqb (running_module k) none) (only (running k)) [] (eq-eqb (running_module k) none e) in
+          (h.placed.nowhere_else Runs (running k) (subst (λ (xs : List ℕ). Contains xs (running k)) (sym at) (only_has (running k) some))).0
+      | inr ne ↦
+          let at : listed k Calls ≡ only (running k) = cond-false (eqb (running_module k) none) [] (only (running k)) (ne_eqb (running_module k) none ne) in
+          (h.placed.nowhere_else Calls (running k) (subst (λ (xs : List ℕ). Contains xs (running k)) (sym at) (only_has (running k) some))).0
+    ]
+
+module_none : (k : Kernel) → module_runs k ≡ false → running_module k ≡ none
+module_none k e =
+    elim (cases_eq (running_module k) none) [
+      | inl is ↦ is
+      | inr ne ↦ absurd (let on : module_runs k ≡ true = ap (λ (b : Bool). not b) (ne_eqb (running_module k) none ne) in let both : true ≡ false = sym on ∙ e in cc)
+    ]
+
+-- where a domain runs and no module does, a thread does
+pub thread_runs_by : (k : Kernel) → IsOrderly k → DomainRuns k → module_runs k ≡ false → ThreadRuns k
+thread_runs_by k h d e =
+    let no : running_module k ≡ none = module_none k e in
+    let at : running_domain k ≡ app_of (running k) = cond-true (eqb (running_module k) none) (app_of (running k)) (8 + running_module k) (eq-eqb (running_module k) none no) in
+    let below : app_of (running k) < 12 = subst (λ (n : ℕ). n < 12) at d in
+    record { thread = thread_below k h (λ q. omega arith); no_module = no }
+
+-- ---- nothing runs
+
+pub none_after_ended : (k : Kernel) (how : AppEnd) → running_module k ≡ none → NoneRuns (ended k (app_of (running k)) how)
+none_after_ended k how e =
+    let a : ℕ = app_of (running k) in
+    subst (λ (j : Kernel). NoneRuns j)
+    (sym (ended_is k a how ∙ cond-true (is_of a (running k)) (none_running (stopped k a how)) (stopped k a how) (is_of_same a (running k) refl)))
+    record { no_thread = refl; no_module = e }
+
+pub none_after_exited : (k : Kernel) → running_module k ≡ none → NoneRuns (exited k)
+unfolding exited
+none_after_exited k e =
+    cond_both (is_last k) (ended k (app_of (running k)) Done) (none_running (with_thread k (running k) empty_row)) NoneRuns
+    (λ _. none_after_ended k Done e) (λ _. record { no_thread = refl; no_module = e })
+
+handed_module : (k : Kernel) (a i : ℕ) (ws : List ℕ) → running_module (handed_to k a i ws) ≡ running_module k
+handed_module k a i [] = refl
+handed_module k a i (n ∷ ns) = refl
+
+pub none_after_waiting : (k : Kernel) (c i : ℕ) → running_module k ≡ none → NoneRuns (waiting_condition k c i)
+none_after_waiting k c i e = record { no_thread = refl; no_module = handed_module k (own_app k) i (waiters_of k (own_app k) i) ∙ e }
+
+-- ---- a fault
+
+pub fault_of_module : (k : Kernel) → module_runs k ≡ true → fault_kernel k ≡ moved_to_front (module_ended k)
+fault_of_module k e = cond-true (module_runs k) (moved_to_front (module_ended k)) (ended k (app_of (running k)) Faulted) e
+
+pub fault_of_app : (k : Kernel) → module_runs k ≡ false → fault_kernel k ≡ ended k (app_of (running k)) Faulted
+fault_of_app k e = cond-false (module_runs k) (moved_to_front (module_ended k)) (ended k (app_of (running k)) Faulted) e
