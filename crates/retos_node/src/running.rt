@@ -2,15 +2,13 @@
 
 ghost use Rattle.std.specs.Prelude.{◌≡◌, ◌<◌, ◌≤◌, ◌+◌, ℕ, List, ◌++◌, codes, decimal, IfOk, IfErr, OnOk};
 ghost use Rattle.edge_io.specs.Causes.{HasCause};
-ghost use Rattle.kernel_model.specs.Queues.{QueuesHold};
-ghost use Rattle.load_model.specs.Loading.{Loadable};
 ghost use Rattle.trace_model.specs.declared.scripts.Script.{Script as ScriptOf};
 ghost use Rattle.trace_model.specs.Scripts.{IsScript};
 ghost use Rattle.trace_model.specs.Texts.{end_of_line};
 ghost use Rattle.node_model.specs.Systems.{System};
 ghost use Rattle.node_model.specs.Sound.{IsSound};
 ghost use Rattle.node_model.specs.Runs.{is_quiet, next, run, Run};
-ghost use Rattle.node_model.specs.Nodes.{most_steps, IsSoundNode, reason_text, IsEnd, Parts, Represents};
+ghost use Rattle.node_model.specs.Nodes.{most_steps, IsSoundNode, reason_text, IsEnd, Represents, RunLaw};
 ghost use Rattle.retos_node.specs.Parts.{parts, IsRunEnd};
 ghost use Rattle.retos_node.specs.Readiness.{IsReady};
 ghost use Rattle.retos_node.specs.Printing.{Printed, PrintedUpTo, shown_line, shown_lines};
@@ -22,11 +20,13 @@ use crate::objects::ObjectList;
 use crate::printing::tell;
 use crate::quiet::is_quiet;
 use crate::schedule::Schedule;
+use crate::step_laws::next_law;
 use edge_io::sink::Sink;
 use edge_io::whole::SinkFault;
-use kernel_model::laws::orderly_queues;
+use kernel_tables::laws::orderly_queues_hold;
 use line_text::line::Line;
 use node_laws::code::memory_is_shown;
+use node_laws::runs_are_sound;
 use trace_model::scripts::Script;
 
 /// How many values were printed, and how many faults came.
@@ -71,12 +71,12 @@ impl Ended {
     }
 }
 
-/// The lists of a node's memory are in order.
-fn queues_law()
-    ensures { (n : Parts) (os : List Loadable) → IsSoundNode n os → QueuesHold n.mem }
+/// Each run from a sound system is sound.
+pub(crate) fn run_law()
+    ensures { (t : ScriptOf) → RunLaw t }
 {
-    memory_is_shown();
-    orderly_queues();
+    next_law();
+    runs_are_sound();
 }
 
 /// The steps of a run, with the lines of their records.
@@ -147,7 +147,8 @@ impl Node {
         requires sound { IsSoundNode (parts self.now) objects.now }
         ensures { (s : System) → Represents (parts self.now) objects.now s → result ≡ is_quiet script.now s }
     {
-        queues_law();
+        memory_is_shown();
+        orderly_queues_hold(&self.mem);
         let _ = objects;
         is_quiet(&self.mem, &self.regs, script, schedule, self.steps)
     }

@@ -2,21 +2,17 @@
 
 ghost use Rattle.node_laws.specs.Facts.{Given};
 ghost use Rattle.node_model.specs.Code.{
-  AcceptanceStandsLaw,
-  AcceptedWritesLaw,
-  DoneWritesLaw,
-  InstructionStandsLaw,
-  StandsLaw,
+  AcceptanceStandsLaw, AcceptedWritesLaw, DoneWritesLaw, InstructionStandsLaw, StandsLaw,
 };
 ghost use Rattle.node_model.specs.Laws.{StepLaw};
-ghost use Rattle.node_model.specs.Nodes.{NextLaw, RunLaw};
+ghost use Rattle.node_model.specs.Nodes.{NextLaw};
 ghost use Rattle.trace_model.specs.declared.scripts.Script.{Script};
 
 use confinement_laws::{good_above_is_at_entry, good_fetches, instruction_leads, stack_stays};
 use load_model::code_image_stands;
 use machine_laws::instruction_writes_bytes;
 use node_laws::code::{acceptance_stands, instruction_stands, step_stands};
-use node_laws::{each_step_is_safe, runs_are_sound};
+use node_laws::each_step_is_safe;
 use node_model::laws::fetched_where_spelled;
 
 /// The laws of other crates that those of a step take as premises.
@@ -66,18 +62,10 @@ pub fn step_law()
     step_stands();
 }
 
-/// Each step of a run from a sound system leads to a sound one.
+/// Each step of a run from a sound system is sound.
 pub fn next_law()
     ensures { (t : Script) → NextLaw t }
 {
     premises();
     each_step_is_safe();
-}
-
-/// So each run from a sound system is sound.
-pub fn run_law()
-    ensures { (t : Script) → RunLaw t }
-{
-    next_law();
-    runs_are_sound();
 }

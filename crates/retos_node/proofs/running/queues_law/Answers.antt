@@ -1,4 +1,0 @@
-use Rattle.retos_node.proofs.running.queues_law.Goals as goal
-
-pub returns : goal.returns
-returns c = ?
