@@ -1,5 +1,5 @@
 -- Inputs that are taken one by one, and the lines of objects.
-use Rattle.std.proofs.Common.{◌≡◌, ℕ, ◌<◌, ◌≤◌, ◌+◌, List, [], ◌∷◌, ◌++◌, length, drop, zero, suc, slice_get, Some, None, Ok, Err, refl, ap, sym, subst, ◌∙◌, inl, inr, append_assoc, arith}
+use Rattle.std.proofs.Common.{◌≡◌, ℕ, ◌<◌, ◌≤◌, ◌+◌, List, [], ◌∷◌, ◌++◌, length, drop, zero, suc, slice_get, Some, None, Ok, Err, refl, ap, sym, subst, ◌∙◌, inl, inr, append_assoc, codes, decimal, arith}
 use Rattle.std.specs.declared.option.Option.{Option}
 use Rattle.std.proofs.Math.Seq.{drop-cons}
 use Rattle.std.proofs.lemmas.Option.{unwrap_or-slice_get, get_or_from_slice_get, slice_get_within}
@@ -14,7 +14,7 @@ use Rattle.retos_cli.specs.declared.outcome.Stop.{Stop}
 use Rattle.retos_cli.specs.declared.outcome.Stop.TheVariants.{Refuse, ReadFault, NoMemory}
 use Rattle.retos_cli.specs.Words.{word}
 use Rattle.retos_cli.specs.Meaning.{Input, AsksCheck, Taken, AreTaken, IsTaken, IsFirstRefused, IsReached, named_inputs}
-use Rattle.retos_cli.specs.Lines.{accepted_line, accepted_lines}
+use Rattle.retos_cli.specs.Lines.{accepted_line, accepted_lines, marked_below}
 use Rattle.retos_cli.specs.Ends.{Told, IsHeld, RefusesInput, InputEnds, StopCause, OnlyRead}
 use Rattle.retos_cli.proofs.Told.{told_map, told_same, told_all, told_both, rose_before, read_none, read_more}
 use Rattle.retos_cli.proofs.Pieces.{GotBefore, before_start, before_more, before_cut}
@@ -88,7 +88,7 @@ more form m names os name rest o a g h = record {
 
 longer : (os : List Loadable) (o : Loadable) → length (os ++ o ∷ []) ≡ length os + 1
 longer [] o = refl
-longer (x ∷ os) o = ap suc (longer os o)
+longer (x ∷ os) o = omega (arith, longer os o)
 
 pub gathering_more : (form : Form) (f0 f1 f2 : FolderState) (names : List (List ℕ)) (name : List ℕ) (os new : List Loadable) (at : ℕ) (o : Object) (units : List ℕ)
     → AsksCheck form → Gathering form f0 f1 names os at → at < length names → name ≡ word names at → InputEnds f1 f2 (record { name = name; form = form }) (Ok (o, units)) → OnlyRead f1 f2
@@ -145,7 +145,26 @@ gathering_all form f0 f1 names os at g h =
 -- ---- the lines
 
 split-objects : (os : List Loadable) (at : ℕ) (o : Loadable) → slice_get os at ≡ Some o → drop at os ≡ o ∷ drop (at + 1) os
-split-objects os at o e = grind (arith, drop-cons, get_or_from_slice_get, slice_get_within)
+split-objects os at o e =
+    let next : suc at ≡ at + 1 = omega arith in
+    drop-cons os at o (slice_get_within os at o e) ∙ ap (λ (x : Loadable). x ∷ drop (suc at) os) (get_or_from_slice_get os at o o e) ∙ ap (λ (n : ℕ). o ∷ drop n os) next
+
+text-of : List ℕ → ℕ → ℕ → List ℕ
+text-of name words units = name ++ codes ": accepted " ++ decimal words ++ codes " words " ++ decimal units ++ codes " units" ++ 10 ∷ []
+
+same-item : (x o : Loadable) → Some x ≡ Some o → x ≡ o
+same-item x o e = cc e
+
+-- the line of the object at a place
+pub line_is : (os : List Loadable) (at : ℕ) (name named : List ℕ) (x y : Loadable) (words units : ℕ) (line : List ℕ) → slice_get os at ≡ Some x → slice_get os at ≡ Some y → named ≡ name
+    → words ≡ length x.object.code → units ≡ marked_below y.units (length x.object.code)
+    → line ≡ named ++ codes ": accepted " ++ decimal words ++ codes " words " ++ decimal units ++ codes " units" ++ 10 ∷ []
+    → (o : Loadable) → slice_get os at ≡ Some o → line ≡ accepted_line name o.object o.units
+unfolding accepted_line text-of
+line_is os at name named x y words units line ex ey n w u l o e =
+    l ∙ ap (λ (t : List ℕ). text-of t words units) n ∙ ap (λ (k : ℕ). text-of name k units) w ∙ ap (λ (k : ℕ). text-of name (length x.object.code) k) u
+    ∙ ap (λ (z : Loadable). text-of name (length z.object.code) (marked_below y.units (length z.object.code))) (same-item x o (sym ex ∙ e))
+    ∙ ap (λ (z : Loadable). text-of name (length o.object.code) (marked_below z.units (length o.object.code))) (same-item y o (sym ey ∙ e))
 
 lines_more : (names : List (List ℕ)) (os : List Loadable) (at : ℕ) (o : Loadable) → at < length names → slice_get os at ≡ Some o
     → accepted_lines (drop at names) (drop at os) ≡ accepted_line (word names at) o.object o.units ++ accepted_lines (drop (at + 1) names) (drop (at + 1) os)

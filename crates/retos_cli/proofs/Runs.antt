@@ -17,7 +17,9 @@ use Rattle.retos_node.specs.declared.node.Node.{Node}
 use Rattle.retos_node.specs.declared.node.Show.{Show}
 use Rattle.retos_node.specs.declared.node.End.{End}
 use Rattle.retos_node.specs.declared.node.End.TheVariants.{Limit, Quiet}
-use Rattle.retos_node.specs.Parts.{parts, IsRunEnd, RunsTo, RunsUpTo}
+use Rattle.retos_node.specs.declared.node.BootFault.{BootFault}
+use Rattle.retos_node.specs.declared.node.BootFault.TheVariants as boot_fault
+use Rattle.retos_node.specs.Parts.{parts, IsBootFault, IsRunEnd, RunsTo, RunsUpTo}
 use Rattle.retos_cli.specs.declared.command.Job.{Job}
 use Rattle.retos_cli.specs.declared.command.Command.{Command}
 use Rattle.retos_cli.specs.declared.command.Command.TheVariants.{Run, Check, Asm, Insert}
@@ -33,7 +35,7 @@ use Rattle.retos_cli.specs.Words.{word}
 use Rattle.retos_cli.specs.Lines.{accepted_lines}
 use Rattle.retos_cli.specs.Meaning.{Input, Output, AreTaken, IsTaken, IsScriptOf, IsSupplied, IsUnplaced, IsOutput, IsFirstRefused, IsFirstRefusal, IsReached, inputs, job_inputs, named_inputs, behind_script, form_by, job_text, has_faulted, written}
 use Rattle.retos_cli.specs.Tracing.{IsTraced, IsTraceCut, RunEnds, faults_of}
-use Rattle.retos_cli.specs.Ends.{Told, Ended, StopCause, CommandStops, InputStops, RefusesInput, OnlyRead, CutAt, IsHeld}
+use Rattle.retos_cli.specs.Ends.{Told, Ended, TextEnds, ScriptEnds, StopCause, CommandStops, InputStops, RefusesInput, OnlyRead, CutAt, IsHeld}
 use Rattle.retos_cli.proofs.Told.{told_map, told_all, told_same, told_both, rose_before, read_more}
 use Rattle.retos_cli.proofs.Gathering.{refused_here, refused_later, reached_here, reached_later}
 
@@ -44,6 +46,14 @@ pub one_cause : (f0 f1 : FolderState) (i : Input) (s : Stop) → InputStops f0 f
 one_cause f0 f1 i (Refuse r) h = told_map f0.files (λ m. RefusesInput m i r) (λ m. IsFirstRefused m (i ∷ []) r) (λ m e x. refused_here m i [] r x) h
 one_cause f0 f1 i (ReadFault n) h = record { is_held = h.is_held; rose = h.rose; last = h.last; reached = told_all f0.files (λ m. IsReached m (i ∷ []) n) (λ m e. reached_here m i [] n h.name_is) }
 one_cause f0 f1 i NoMemory h = tt
+
+-- the script that is named
+named-script : (f0 f1 : FolderState) (name : List ℕ) (r : Result Script Stop) → TextEnds f0 f1 name r → ScriptEnds f0 f1 (Some name) r
+named-script f0 f1 name (Ok t) h = h
+named-script f0 f1 name (Err s) h = one_cause f0 f1 (record { name = name; form = Scripted }) s h
+
+pub script_got : (f0 f1 : FolderState) (script : Option (List ℕ)) (name : List ℕ) (r : Result Script Stop) → script ≡ Some name → TextEnds f0 f1 name r → ScriptEnds f0 f1 script r
+script_got f0 f1 script name r e h = let P : Option (List ℕ) → Type 0 = λ s. ScriptEnds f0 f1 s r in subst P (sym e) (named-script f0 f1 name r h)
 
 pub command_cause : (c : Command) (f0 f1 : FolderState) (s : Stop) → StopCause (inputs c) f0 f1 s → CommandStops c f0 f1 s
 command_cause c f0 f1 (Refuse r) h = told_map f0.files (λ m. IsFirstRefused m (inputs c) r) (λ m. IsFirstRefusal m c r) (λ m e x. inl x) h
@@ -134,7 +144,10 @@ supplied f0 f1 job t os form k l e h =
 
 -- ---- the object without room
 
-err-same : (a b : Refusal) → Err {System} {Refusal} a ≡ Err b → a ≡ b
+abbrev as-err : Refusal → Result System Refusal
+as-err e = Err e
+
+err-same : (a b : Refusal) → as-err a ≡ as-err b → a ≡ b
 err-same a b e = cc e
 
 abbrev AllLow : Result System Refusal → ℕ → Type 0
@@ -172,6 +185,9 @@ record Refuses (b : Result System Refusal) (i : ℕ) (cause : NoRoom) : Type 0 w
 refuses-by : (b : Result System Refusal) (i : ℕ) (cause : NoRoom) → IsBootRefusal b i cause → Refuses b i cause
 refuses-by (Ok s) i cause h = absurd h
 refuses-by (Err e) i cause h = record { refusal = e; refused = refl; object = h.0; why = h.1 }
+
+pub boot_refusal : (os : List Loadable) (f : BootFault) (i : ℕ) (cause : NoRoom) → f ≡ boot_fault.NoRoom i cause → IsBootFault os f → IsBootRefusal (booted os) i cause
+boot_refusal os f i cause e h = let P : BootFault → Type 0 = λ x. IsBootFault os x in subst P e h
 
 pub refused_below : (os : List Loadable) (i : ℕ) (cause : NoRoom) → IsBootRefusal (booted os) i cause → i < length os
 refused_below os i cause h =

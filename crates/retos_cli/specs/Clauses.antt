@@ -1,5 +1,5 @@
 -- The clauses of the top call: what each status says of the folder and the two sinks.
-use Rattle.std.specs.Prelude.{◌≡◌, ℕ, ◌⊎◌, List, Some, None}
+use Rattle.std.specs.Prelude.{◌≡◌, ℕ, ◌⊎◌, List, Some, None, Ok}
 use Rattle.std.specs.declared.option.Option.{Option}
 use Rattle.edge_io.specs.Known.{Files, FolderState, SinkState, appended, held, GotPrefix}
 use Rattle.edge_io.specs.Causes.{Rose, Still}

@@ -10,7 +10,7 @@ ghost use Rattle.retos_cli.specs.Ends.{Ended};
 ghost use Rattle.retos_cli.specs.Lines.{accepted_line, accepted_lines};
 
 use super::command::Names;
-use super::counted::count_units;
+use super::counted::{count_units, count_words};
 use super::form::Form;
 use super::input::take_all;
 use super::lines::of_accepted;
@@ -50,13 +50,22 @@ fn print_lines<O: Sink>(names: &Names, objects: &ObjectList, out: &mut O) -> Res
     let mut at = 0;
     'lines: while at < names.len() && at < objects.len() {
         let line = line_at(names, objects, at);
-        match write_all(out, line.as_slice()) {
+        match print_line(&line, out) {
             Ok(()) => {}
             Err(fault) => return Err(fault),
         }
         at += 1;
     }
     Ok(())
+}
+
+/// Prints a line.
+fn print_line<O: Sink>(line: &Line, out: &mut O) -> Result<(), SinkFault>
+    ensures whole { OnOk result ((O.state out.new).bytes ≡ appended (O.state out.old).bytes line.now) }
+    ensures prefix { OnErr result (GotPrefix (O.state out.old).bytes (O.state out.new).bytes line.now) }
+    ensures cause { HasCause (O.state out.old).faults (O.state out.new).faults result }
+{
+    write_all(out, line.as_slice())
 }
 
 /// The line of the name and the object at a place.
@@ -66,6 +75,9 @@ fn line_at(names: &Names, objects: &ObjectList, at: usize) -> Line
     ensures { (o : Loadable) → slice_get objects.now at ≡ Some o → result ≡ accepted_line (word names.now at) o.object o.units }
 {
     let object = objects.object(at);
-    let units = count_units(object, objects.marks(at));
-    of_accepted(names.at(at), object.code.len() as u32, units)
+    of_accepted(
+        names.at(at),
+        count_words(object),
+        count_units(object, objects.marks(at)),
+    )
 }

@@ -1,10 +1,17 @@
-//! How many units an accepted object has.
+//! How many code words and units an accepted object has.
 
 ghost use Rattle.std.specs.Prelude.{◌≡◌, ◌≤◌, length};
 ghost use Rattle.retos_cli.specs.Lines.{marked_below};
 
 use code_model::marks::Marks;
 use code_model::object::Object;
+
+/// The code words of an object, at most 8,192.
+pub fn count_words(o: &Object) -> u32
+    ensures { result ≡ length o.now.code }
+{
+    o.code.len() as u32
+}
 
 /// The units of an object with these unit starts, at most 8,192.
 pub fn count_units(o: &Object, units: &Marks) -> u32

@@ -60,7 +60,8 @@ pub fn take_all<F: Folder>(
 }
 
 /// Takes an input: the object of its text with the marks of its unit starts, or why it ends the command.
-fn take<F: Folder>(    alloc: Global,
+fn take<F: Folder>(
+    alloc: Global,
     files: &mut F,
     name: &Name,
     form: Form,

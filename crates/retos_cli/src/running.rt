@@ -23,12 +23,7 @@ use retos_node::{Ats, BootFault, End, Everys, Node, ObjectList, Script};
 use std::alloc::Global;
 
 /// Runs the objects of a job under its script, and prints the trace.
-pub fn run_job<F: Folder, O: Sink>(
-    alloc: Global,
-    files: &mut F,
-    job: &Job,
-    out: &mut O,
-) -> Outcome
+pub fn run_job<F: Folder, O: Sink>(alloc: Global, files: &mut F, job: &Job, out: &mut O) -> Outcome
     requires { IsBoundedJob job.now }
     ensures { Ended (Run job.now) (F.state files.old) (F.state files.new) (O.state out.old) (O.state out.new) result }
 {

@@ -3,8 +3,7 @@
 ghost use Rattle.std.specs.Prelude.{◌≡◌, None, IfOk};
 
 use crate::test_support::{
-    Case, CodeReloc, MODULE, add, all_files, application, folder, guarded, try_case,
-    try_pieces,
+    Case, CodeReloc, MODULE, add, all_files, application, folder, guarded, try_case, try_pieces,
 };
 use edge_io::lists::Bytes;
 use edge_io::mem_folder::MemFolder;
@@ -70,8 +69,14 @@ fn the_first_refusal_is_named(rt: HostRuntime) -> Result<(), Fail> {
         ("run falls 9 none.o", "retos: falls: line 2: script\n"),
         ("run j.o 9 j.o", "retos: j.o: line 1: script\n"),
         ("run empty 9 j.o none.o u.o", "retos: none.o: absent\n"),
-        ("run empty 9 u.o none.o", "retos: u.o: check rule 6 at 0004\n"),
-        ("run empty 9 j.o short.o", "retos: short.o: form short at 67\n"),
+        (
+            "run empty 9 u.o none.o",
+            "retos: u.o: check rule 6 at 0004\n",
+        ),
+        (
+            "run empty 9 j.o short.o",
+            "retos: short.o: form short at 67\n",
+        ),
         ("run empty 9 m.o m.o", "retos: m.o: function 5 taken\n"),
         ("run empty 9 m.o m.o none.o", "retos: none.o: absent\n"),
         (
@@ -205,7 +210,14 @@ fn an_interrupt_at_each_step_of_a_guard_changes_nothing(rt: HostRuntime) -> Resu
         add(&mut files, b"x.o", text.as_slice())?;
         add(&mut files, b"at", script)?;
         let pieces = ["\n12 a0.t0 601E 4384 2000:00 2001:00\n"];
-        try_pieces(&rt, rt.alloc(), &mut files, "run --all at 13 x.o", &pieces, 0)?;
+        try_pieces(
+            &rt,
+            rt.alloc(),
+            &mut files,
+            "run --all at 13 x.o",
+            &pieces,
+            0,
+        )?;
     }
     Ok(())
 }
@@ -274,11 +286,13 @@ fn modules_alone_are_quiet_at_once(rt: HostRuntime) -> Result<(), Fail> {
 // ---- return addresses
 
 /// Thread 1 overwrites the return address of thread 0 with 2, which is the address of no code.
-const BROKEN: &[u8] = b".app 32 2\n.entry main\nmain: MOV #evil,R12\nMOV #3,R13\nCALL #0xF00A\nCALL #f\n\
+const BROKEN: &[u8] =
+    b".app 32 2\n.entry main\nmain: MOV #evil,R12\nMOV #3,R13\nCALL #0xF00A\nCALL #f\n\
 stay: JMP stay\nf: CALL #0xF00C\nRET\nevil: MOV #LO,R6\nMOV #2,30(R6)\nCALL #0xF00C\nstay2: JMP stay2\n";
 
 /// The same with the address of a unit of its own code.
-const MOVED: &[u8] = b".app 32 2\n.entry main\nmain: MOV #evil,R12\nMOV #3,R13\nCALL #0xF00A\nCALL #f\n\
+const MOVED: &[u8] =
+    b".app 32 2\n.entry main\nmain: MOV #evil,R12\nMOV #3,R13\nCALL #0xF00A\nCALL #f\n\
 stay: JMP stay\nf: CALL #0xF00C\nRET\nevil: MOV #LO,R6\nMOV #stay2,30(R6)\nCALL #0xF00C\nstay2: JMP stay2\n";
 
 #[test]
@@ -318,18 +332,21 @@ fn a_return_address_moved_to_a_unit_is_taken(rt: HostRuntime) -> Result<(), Fail
 // ---- a node with a clock, two applications and a lock
 
 /// Emits 0 and 1 in turn, and sleeps for a tick between them.
-const BLINKS: &[u8] = b".app 32 1\n.entry start\nstart: MOV #0,R6\nloop: MOV R6,R12\nCALL #0xF024\nXOR #1,R6\n\
+const BLINKS: &[u8] =
+    b".app 32 1\n.entry start\nstart: MOV #0,R6\nloop: MOV R6,R12\nCALL #0xF024\nXOR #1,R6\n\
 MOV #1,R12\nCALL #0xF00E\nJMP loop\n";
 
 /// A producer and a consumer, which share a count behind mutex 0 and wait by condition 0.
-const SHARES: &[u8] = b".app 48 2\n.entry main\n.zero\ncount: .space 2\n.code\nmain: MOV #worker,R12\nMOV #3,R13\n\
+const SHARES: &[u8] =
+    b".app 48 2\n.entry main\n.zero\ncount: .space 2\n.code\nmain: MOV #worker,R12\nMOV #3,R13\n\
 MOV #0,R14\nCALL #0xF00A\nprod: MOV #0,R12\nCALL #0xF016\nADD #1,&count\nMOV #0,R12\nCALL #0xF01C\nMOV #0,R12\n\
 CALL #0xF018\nMOV #2,R12\nCALL #0xF00E\nJMP prod\nworker: MOV #0,R12\nCALL #0xF016\nagain: CMP #0,&count\n\
 JNE take\nMOV #0,R12\nMOV #0,R13\nCALL #0xF01A\nJMP again\ntake: SUB #1,&count\nMOV &count,R12\nCALL #0xF024\n\
 MOV #0,R12\nCALL #0xF018\nJMP worker\n";
 
 /// The first lines of the node's trace.
-const NODE_LINES: &str = "a0 6000 6030 2000 2020\na1 6030 6110 2020 2082\n8 a0.t0 emit 0000\n72 a1.t1 emit 0000\n\
+const NODE_LINES: &str =
+    "a0 6000 6030 2000 2020\na1 6030 6110 2020 2082\n8 a0.t0 emit 0000\n72 a1.t1 emit 0000\n\
 109 a0.t0 emit 0001\n239 a0.t0 emit 0000\n259 a1.t1 emit 0000\n";
 
 /// A folder with the node's two objects and its clock.
@@ -349,7 +366,10 @@ fn a_node_of_two_applications_runs_by_its_clock(rt: HostRuntime) -> Result<(), F
     let rows: [(&str, &[&str]); 3] = [
         (
             "run clock 260 blink.o pc.o",
-            &[NODE_LINES, "259 a1.t1 emit 0000\nend limit 260 emits 5 faults 0\n"],
+            &[
+                NODE_LINES,
+                "259 a1.t1 emit 0000\nend limit 260 emits 5 faults 0\n",
+            ],
         ),
         ("run clock 20000 blink.o pc.o", &[NODE_LINES]),
         (
@@ -370,7 +390,8 @@ fn a_node_of_two_applications_runs_by_its_clock(rt: HostRuntime) -> Result<(), F
 
 /// Emits the code of each of six calls: a lock, the same again, an unlock of what it hasn't, a lock of none of the four, a spawn with
 /// all threads live, and a call of a function that nobody exports.
-const CODES: &[u8] = b".app 64 1\n.entry main\nmain: MOV #0,R12\nCALL #0xF016\nCALL #0xF024\nMOV #0,R12\nCALL #0xF016\n\
+const CODES: &[u8] =
+    b".app 64 1\n.entry main\nmain: MOV #0,R12\nCALL #0xF016\nCALL #0xF024\nMOV #0,R12\nCALL #0xF016\n\
 CALL #0xF024\nMOV #1,R12\nCALL #0xF018\nCALL #0xF024\nMOV #4,R12\nCALL #0xF016\nCALL #0xF024\nMOV #main,R12\nMOV #3,R13\n\
 MOV #0,R14\nCALL #0xF00A\nCALL #0xF024\nMOV #9,R12\nCALL #0xF022\nCALL #0xF024\nCALL #0xF008\nstay: JMP stay\n";
 

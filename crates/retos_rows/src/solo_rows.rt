@@ -302,8 +302,7 @@ const NO_ROOM: [u8; 22] = [
 #[test]
 fn an_address_in_memory_is_tested_when_it_is_jumped_to(rt: HostRuntime) -> Result<(), Fail> {
     let text = Bytes::from_slice(rt.alloc(), &JUMPS_THROUGH_MEMORY)?;
-    let out =
-        "a0 6000 601A 2000 2012\n3 a0.t0 fault jump 600A\nend quiet 3 emits 0 faults 1\n";
+    let out = "a0 6000 601A 2000 2012\n3 a0.t0 fault jump 600A\nend quiet 3 emits 0 faults 1\n";
     try_solo(&rt, rt.alloc(), &text, "solo x.o 9", out, 6)
 }
 

@@ -1,0 +1,6 @@
+use Rattle.retos_cli.specs.declared.form.Form.TheVariants.{Script as Scripted}
+use Rattle.retos_cli.proofs.Inputs.{unread_stops}
+use Rattle.retos_cli.proofs.input.take_script.Goals as goal
+
+pub returns-clause-ends : goal.returns-clause-ends
+returns-clause-ends g c = unread_stops (g.F.Folder.state c.args.files.now) (g.F.Folder.state c.read_all.new.files) c.args.name.now Scripted c.in-Err.fault c.unread.result c.in-Err.ensures.answer c.in-Err.ensures.leaves c.unread.ensures
