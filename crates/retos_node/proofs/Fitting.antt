@@ -26,13 +26,13 @@ fitting_push (y ∷ ys) x h a (suc i) o e = fitting_push ys x (λ k. h (suc k)) 
 pub list_push : (xs : List Accepted) (view : List Loadable) (x : Accepted) → IsList xs → view ≡ map loadable xs → length view ≤ 15
     → IsAccepted x.object x.marks → IsList (xs ++ x ∷ [])
 list_push xs view x h e room a = (
-  omega (arith, length-append xs (x ∷ []), ap length e, length-map loadable xs),
+  omega (arith, length-append xs (x ∷ []), ap length e, length-map xs loadable),
   fitting_push xs x h.1 a,
 )
 
 pub found : (xs : List Accepted) (view : List Loadable) (i : ℕ) (x : Accepted) → view ≡ map loadable xs → suc i ≤ length view
     → x ≡ get_or xs i x → slice_get view i ≡ Some (loadable x)
 found xs view i x e within is =
-    let below : i < length xs = omega (arith, ap length e, length-map loadable xs) in
+    let below : i < length xs = omega (arith, ap length e, length-map xs loadable) in
     ap (λ (v : List Loadable). slice_get v i) e ∙ slice_get-map loadable xs i
     ∙ ap (λ o. option_map loadable o) (slice_get_read xs (length xs) i x refl below is)

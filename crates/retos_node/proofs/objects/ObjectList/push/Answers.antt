@@ -9,4 +9,4 @@ pub invariant_of-self-2 : goal.invariant_of-self-2
 invariant_of-self-2 c =
     subst IsList (sym c.in_ok-push.ensures.items)
     (list_push c.self.inside.items.items c.args.self.now (record { object = c.args.o; marks = c.args.marks }) c.self.invariant
-    c.self.view_is (omega (arith, c.requires.room)) c.requires.accepted)
+    (sym c.self.view_is) (omega (arith, c.requires.room)) c.requires.accepted)
