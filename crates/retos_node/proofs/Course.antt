@@ -46,7 +46,7 @@ same-run a b e f = ap (λ (rs : List Record). run_of rs a.last) e ∙ ap (λ (x 
 part-by : (n : ℕ) (t : Script) (s : System) (made : List Record) (now : System) (b : Bool) → is_quiet t s ≡ b
     → run (suc n) t s ≡ run_of made now → length made ≡ suc n
     → ((rest : List Record) → run n t (next t s).system ≡ run_of rest now → length rest ≡ n
-      → run (suc n) t (next t s).system ≡ run_of (rest ++ (next t now).shown ∷ []) (next t now).system)
+    → run (suc n) t (next t s).system ≡ run_of (rest ++ (next t now).shown ∷ []) (next t now).system)
     → run (suc (suc n)) t s ≡ run_of (made ++ (next t now).shown ∷ []) (next t now).system
 part-by n t s made now true h e l more =
     let none : made ≡ [] = ap (λ (r : Run). r.records) (sym e ∙ run-quiet (suc n) t s h) in
@@ -57,7 +57,7 @@ part-by n t s made now false h e l more =
     let cut : run_of made now ≡ after first (run n t then) = sym e ∙ run-on n t s h in
     let made_is : made ≡ first ∷ (run n t then).records = ap (λ (r : Run). r.records) cut in
     let rest : run n t then ≡ run_of (run n t then).records now =
-        same-run (run n t then) (run_of (run n t then).records now) refl (sym (ap (λ (r : Run). r.last) cut)) in
+    same-run (run n t then) (run_of (run n t then).records now) refl (sym (ap (λ (r : Run). r.last) cut)) in
     let long : length (run n t then).records ≡ n = omega (arith, ap length made_is, l) in
     run-on (suc n) t s h ∙ ap (λ (r : Run). after first r) (more (run n t then).records rest long)
     ∙ ap (λ (m : List Record). run_of (m ++ (next t now).shown ∷ []) (next t now).system) (sym made_is)
@@ -189,12 +189,11 @@ unfolding shown_lines
 lines_within os limit t first n c Told all u q l =
     let rest : List Record = (run (limit - (n.steps + 1)) t (next t u.now).system).records in
     let whole : (run limit t first).records ≡ (u.made ++ (next t u.now).shown ∷ []) ++ rest =
-        ap (λ (r : Run). r.records) (whole-more limit n.steps (n.steps + 1) t first u.made u.now u.whole_is q l refl) in
-    (
+    ap (λ (r : Run). r.records) (whole-more limit n.steps (n.steps + 1) t first u.made u.now u.whole_is q l refl) in (
       shown_lines all rest,
       ap (λ (x : List (List ℕ)). x ++ flat_map (shown_line all) rest) (lines-more all u.made (next t u.now).shown)
-      ∙ sym (flat_map-append (shown_line all) (u.made ++ (next t u.now).shown ∷ []) rest)
-      ∙ ap (λ (x : List Record). flat_map (shown_line all) x) (sym whole),
+          ∙ sym (flat_map-append (shown_line all) (u.made ++ (next t u.now).shown ∷ []) rest)
+          ∙ ap (λ (x : List Record). flat_map (shown_line all) x) (sym whole),
     )
 
 pub lines_more : (all : Bool) (made : List Record) (r : Record) → shown_lines all made ++ shown_line all r ≡ shown_lines all (made ++ r ∷ [])
@@ -274,7 +273,7 @@ pub next_counted : (t : Script) (old new : Parts) (os : List Loadable) (s : Syst
     → Represents old os s → IsSound s → AreCounted c d told → IsNext t s os new c d
 next_counted t old new os s raised pick told c d h e f r k counted =
     let x : Stepped new os s (raised_at t (s.steps + 1)) (pick_at t (s.steps + 1)) told =
-        stepped_next t old new os s raised pick told h e f r k in
+    stepped_next t old new os s raised pick told h e f r k in
     record { represents = x.represents; sound = x.sound; counted = subst (λ (y : Record). AreCounted c d y) x.shown counted }
 
 pub not_true : (b : Bool) → not b ≡ true → b ≡ false

@@ -182,6 +182,7 @@ ahead_here ats n x rising found = λ i d l w. by i d (cases_lt n i) l w
   where
     is : (d : At) → (get_or ats n d).step ≡ x.step
     is d = ap (λ (y : At). y.step) (get_or_from_slice_get ats n x d found)
+
     by : (i : ℕ) (d : At) → (n < i) ⊎ (i ≤ n) → n ≤ i → i < length ats → x.step ≤ (get_or ats i d).step
     by i d (inl b) l w = let h = rising n i d b w in let e = is d in omega arith
     by i d (inr b) l w =
@@ -236,8 +237,8 @@ pub idle_raised : (t : Script) (s step : ℕ) (c : Schedule) → IsReady t s c �
 unfolding raised_at
 idle_raised t s step c h e l =
     sym (
-      ap (λ n. bit_or n (all_masks (map (every_mask step) t.everys.items))) (masks-none step 0 t.ats (ready-others t s step c h e l))
-      ∙ everys-none step t.everys.items (h.between step (omega arith) l)
+    ap (λ n. bit_or n (all_masks (map (every_mask step) t.everys.items))) (masks-none step 0 t.ats (ready-others t s step c h e l))
+    ∙ everys-none step t.everys.items (h.between step (omega arith) l)
     )
 
 pub idle_pick : (t : Script) (s step : ℕ) (c : Schedule) (drawn : Option ℕ) → IsReady t s c → step ≡ s + 1 → step < c.due
@@ -253,6 +254,7 @@ later_is t s c h = by (cases_lt c.place (length t.ats))
   where
     some : At
     some = record { step = 0; what = Raise 0 }
+
     by : (c.place < length t.ats) ⊎ (length t.ats ≤ c.place) → ltb c.place (length t.ats) ≡ list_any (λ a. ltb s a.step) t.ats
     by (inl b) =
         let l : c.due ≤ (get_or t.ats c.place some).step = h.ahead c.place some (omega arith) b in

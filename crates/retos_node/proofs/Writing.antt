@@ -110,22 +110,22 @@ pub cut_within : {S E : Type 0} (called : S → List ℕ → Result ℕ E → S 
     → PrintedUpTo called state a b all fault
 cut_within called state a b xs more all fault k e =
     subst (λ (l : List (List ℕ)). PrintedUpTo called state a b l fault) e (
-      record {
-        bytes =
-            subst (λ (x : List ℕ). GotPrefix (state a).bytes (state b).bytes x) (sym (concat-append xs more))
-            (prefix_more (state a).bytes (state b).bytes (concat xs) (concat more) k.bytes);
-        writes = record {
-          done = k.writes.done;
-          line = k.writes.line;
-          left = k.writes.left ++ more;
-          lines_are =
-              sym (append_assoc k.writes.done (k.writes.line ∷ k.writes.left) more)
-              ∙ ap (λ (l : List (List ℕ)). l ++ more) k.writes.lines_are;
-          mid = k.writes.mid;
-          written = k.writes.written;
-          last = k.writes.last;
-        };
-      })
+    record {
+      bytes =
+          subst (λ (x : List ℕ). GotPrefix (state a).bytes (state b).bytes x) (sym (concat-append xs more))
+          (prefix_more (state a).bytes (state b).bytes (concat xs) (concat more) k.bytes);
+      writes = record {
+        done = k.writes.done;
+        line = k.writes.line;
+        left = k.writes.left ++ more;
+        lines_are =
+            sym (append_assoc k.writes.done (k.writes.line ∷ k.writes.left) more)
+            ∙ ap (λ (l : List (List ℕ)). l ++ more) k.writes.lines_are;
+        mid = k.writes.mid;
+        written = k.writes.written;
+        last = k.writes.last;
+      };
+    })
 
 -- ---- the placement's lines
 
@@ -174,12 +174,12 @@ rest_below k owner i n m l = let whole : n + 1 + (m - (n + 1)) ≡ m = omega (ar
   map (placement_line k) (filter (λ j. slice_index_or owner j nobody == i) (range_with_len (n + 1) (m - (n + 1)))),
   ap
       (λ (x : List (List ℕ)).
-        x ++ map (placement_line k) (filter (λ j. slice_index_or owner j nobody == i) (range_with_len (n + 1) (m - (n + 1)))))
+      x ++ map (placement_line k) (filter (λ j. slice_index_or owner j nobody == i) (range_with_len (n + 1) (m - (n + 1)))))
       (one_below k owner i n)
-  ∙ sym (map-append (placement_line k) (numbers_below owner i (n + 1))
-        (filter (λ j. slice_index_or owner j nobody == i) (range_with_len (n + 1) (m - (n + 1)))))
-  ∙ ap (λ (x : List ℕ). map (placement_line k) x)
-    (sym (numbers-split owner i (n + 1) (m - (n + 1))) ∙ ap (λ j. numbers_below owner i j) whole),
+      ∙ sym (map-append (placement_line k) (numbers_below owner i (n + 1))
+      (filter (λ j. slice_index_or owner j nobody == i) (range_with_len (n + 1) (m - (n + 1)))))
+      ∙ ap (λ (x : List ℕ). map (placement_line k) x)
+      (sym (numbers-split owner i (n + 1) (m - (n + 1))) ∙ ap (λ j. numbers_below owner i j) whole),
 )
 
 order-split : (owner : List ℕ) (n m : ℕ) → in_order owner (n + m)
@@ -209,12 +209,12 @@ rest_placed k owner i m l = let whole : i + 1 + (m - (i + 1)) ≡ m = omega (ari
   map (placement_line k) (flat_map (λ j. numbers_of owner j) (range_with_len (i + 1) (m - (i + 1)))),
   ap
       (λ (x : List (List ℕ)).
-        x ++ map (placement_line k) (flat_map (λ j. numbers_of owner j) (range_with_len (i + 1) (m - (i + 1)))))
+      x ++ map (placement_line k) (flat_map (λ j. numbers_of owner j) (range_with_len (i + 1) (m - (i + 1)))))
       (one_placed k owner i)
-  ∙ sym (map-append (placement_line k) (in_order owner (i + 1))
-        (flat_map (λ j. numbers_of owner j) (range_with_len (i + 1) (m - (i + 1)))))
-  ∙ ap (λ (x : List ℕ). map (placement_line k) x)
-    (sym (order-split owner (i + 1) (m - (i + 1))) ∙ ap (λ j. in_order owner j) whole),
+      ∙ sym (map-append (placement_line k) (in_order owner (i + 1))
+      (flat_map (λ j. numbers_of owner j) (range_with_len (i + 1) (m - (i + 1)))))
+      ∙ ap (λ (x : List ℕ). map (placement_line k) x)
+      (sym (order-split owner (i + 1) (m - (i + 1))) ∙ ap (λ j. in_order owner j) whole),
 )
 
 -- ---- records

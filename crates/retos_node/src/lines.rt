@@ -23,7 +23,14 @@ pub(crate) fn of_placement(m: &FlatMem, number: u8) -> Line
         of_places(b"a", number, row.code_lo, row.code_hi, row.lo, row.hi)
     } else {
         let row = module(m, number - APPS);
-        of_places(b"m", number - APPS, row.code_lo, row.code_hi, row.lo, row.hi)
+        of_places(
+            b"m",
+            number - APPS,
+            row.code_lo,
+            row.code_hi,
+            row.lo,
+            row.hi,
+        )
     }
 }
 

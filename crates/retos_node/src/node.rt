@@ -8,11 +8,11 @@ ghost use Rattle.trace_model.specs.Scripts.{IsScript};
 ghost use Rattle.retos_node.specs.Parts.{parts, IsBootFault, GoesByLines, RunsTo, RunsUpTo};
 
 use crate::objects::ObjectList;
+use crate::printing::{print_line, print_placement};
+use crate::running::{run_law, run_steps};
 use crate::step_laws::step_law;
 use crate::stepping;
 use crate::turns::Moment;
-use crate::printing::{print_line, print_placement};
-use crate::running::{run_law, run_steps};
 use edge_io::sink::Sink;
 use edge_io::whole::SinkFault;
 use flat_mem::FlatMem;

@@ -33,7 +33,12 @@ pub(crate) fn print_line<S: Sink>(line: &[u8], out: &mut S) -> Result<(), SinkFa
 }
 
 /// Prints where each of so many objects was placed, in their order.
-pub(crate) fn print_placement<S: Sink>(m: &FlatMem, owner: &[u8; 12], count: usize, out: &mut S) -> Result<(), SinkFault>
+pub(crate) fn print_placement<S: Sink>(
+    m: &FlatMem,
+    owner: &[u8; 12],
+    count: usize,
+    out: &mut S,
+) -> Result<(), SinkFault>
     ensures whole { OnOk result (Printed S.called S.state out.old out.new (placement_lines (kernel_of m.now) owner.now count)) }
     ensures prefix { IfErr result (λ fault. PrintedUpTo S.called S.state out.old out.new (placement_lines (kernel_of m.now) owner.now count) fault) }
     ensures cause { HasCause (S.state out.old).faults (S.state out.new).faults result }
@@ -48,7 +53,12 @@ pub(crate) fn print_placement<S: Sink>(m: &FlatMem, owner: &[u8; 12], count: usi
 }
 
 /// Prints where an object was placed.
-fn print_object<S: Sink>(m: &FlatMem, owner: &[u8; 12], object: usize, out: &mut S) -> Result<(), SinkFault>
+fn print_object<S: Sink>(
+    m: &FlatMem,
+    owner: &[u8; 12],
+    object: usize,
+    out: &mut S,
+) -> Result<(), SinkFault>
     ensures whole { OnOk result (Printed S.called S.state out.old out.new (map (placement_line (kernel_of m.now)) (numbers_of owner.now object))) }
     ensures prefix { IfErr result (λ fault. PrintedUpTo S.called S.state out.old out.new (map (placement_line (kernel_of m.now)) (numbers_of owner.now object)) fault) }
     ensures cause { HasCause (S.state out.old).faults (S.state out.new).faults result }
@@ -63,7 +73,13 @@ fn print_object<S: Sink>(m: &FlatMem, owner: &[u8; 12], object: usize, out: &mut
 }
 
 /// Prints where the domain with this number was placed, if it is the object's.
-fn print_owned<S: Sink>(m: &FlatMem, owner: &[u8; 12], object: usize, number: u8, out: &mut S) -> Result<(), SinkFault>
+fn print_owned<S: Sink>(
+    m: &FlatMem,
+    owner: &[u8; 12],
+    object: usize,
+    number: u8,
+    out: &mut S,
+) -> Result<(), SinkFault>
     requires { number < 12 }
     ensures whole { OnOk result (Printed S.called S.state out.old out.new (if slice_index_or owner.now number nobody == object then placement_line (kernel_of m.now) number ∷ [] else [])) }
     ensures prefix { IfErr result (λ fault. PrintedUpTo S.called S.state out.old out.new (if slice_index_or owner.now number nobody == object then placement_line (kernel_of m.now) number ∷ [] else []) fault) }
@@ -76,7 +92,12 @@ fn print_owned<S: Sink>(m: &FlatMem, owner: &[u8; 12], object: usize, number: u8
 }
 
 /// Prints a record's line, if it is shown, and counts the record.
-pub(crate) fn tell<S: Sink>(all: bool, rec: &Record, counts: &mut Counts, out: &mut S) -> Result<(), SinkFault>
+pub(crate) fn tell<S: Sink>(
+    all: bool,
+    rec: &Record,
+    counts: &mut Counts,
+    out: &mut S,
+) -> Result<(), SinkFault>
     requires line { HasLine rec.now }
     requires few { ((counts.old).emits < u32.MAX) × ((counts.old).faults < u32.MAX) }
     ensures counted { AreCounted counts.old counts.new rec.now }
@@ -110,7 +131,10 @@ fn print_record<S: Sink>(rec: &Record, out: &mut S) -> Result<(), SinkFault>
 fn is_always_shown(rec: &Record) -> bool
     ensures { result ≡ is_always_shown rec.now }
 {
-    matches!(rec, Record::Emit { .. } | Record::Exit { .. } | Record::Fault { .. })
+    matches!(
+        rec,
+        Record::Emit { .. } | Record::Exit { .. } | Record::Fault { .. }
+    )
 }
 
 impl Counts {

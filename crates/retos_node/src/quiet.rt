@@ -19,6 +19,7 @@ use trace_model::scripts::Script;
 
 /// The first address of a vector routine, and the last.
 const FIRST_ROUTINE: u16 = 0xF080;
+
 const LAST_ROUTINE: u16 = 0xF09A;
 
 /// The state of a live application.
@@ -28,7 +29,13 @@ const LIVE: u16 = 1;
 const APPS: u8 = 8;
 
 /// Whether a run is at its quiet end, after so many steps.
-pub(crate) fn is_quiet(m: &FlatMem, r: &Regs, script: &Script, schedule: &Schedule, made: u32) -> bool
+pub(crate) fn is_quiet(
+    m: &FlatMem,
+    r: &Regs,
+    script: &Script,
+    schedule: &Schedule,
+    made: u32,
+) -> bool
     requires queues { QueuesHold m.now }
     requires ready { IsReady script.now made schedule.now }
     ensures { result ≡ quiet_in script.now made (kernel_of m.now) r.now }

@@ -80,7 +80,13 @@ pub(crate) fn run_law()
 }
 
 /// The steps of a run, with the lines of their records.
-pub(crate) fn run_steps<S: Sink>(node: &mut Node, script: &Script, limit: u32, objects: &ObjectList, out: &mut S) -> Result<Ended, SinkFault>
+pub(crate) fn run_steps<S: Sink>(
+    node: &mut Node,
+    script: &Script,
+    limit: u32,
+    objects: &ObjectList,
+    out: &mut S,
+) -> Result<Ended, SinkFault>
     requires first { (node.old).steps ≡ 0 }
     requires limit { limit ≤ most_steps }
     requires script { IsScript script.now }

@@ -260,5 +260,9 @@ fn raised_every(every: Every, step: u32) -> u16
     requires { IsEvery every }
     ensures { result ≡ every_mask step every }
 {
-    if step % every.period == 0 { mask_of(every.line) } else { 0 }
+    if step % every.period == 0 {
+        mask_of(every.line)
+    } else {
+        0
+    }
 }

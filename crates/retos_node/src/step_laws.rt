@@ -2,7 +2,11 @@
 
 ghost use Rattle.node_laws.specs.Facts.{Given};
 ghost use Rattle.node_model.specs.Code.{
-  AcceptanceStandsLaw, AcceptedWritesLaw, DoneWritesLaw, InstructionStandsLaw, StandsLaw,
+  AcceptanceStandsLaw,
+  AcceptedWritesLaw,
+  DoneWritesLaw,
+  InstructionStandsLaw,
+  StandsLaw,
 };
 ghost use Rattle.node_model.specs.Laws.{StepLaw};
 ghost use Rattle.node_model.specs.Nodes.{NextLaw};

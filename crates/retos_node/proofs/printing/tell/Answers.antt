@@ -19,20 +19,20 @@ pub returns-then-is_always_shown-clause-prefix : goal.returns-then-is_always_sho
 returns-then-is_always_shown-clause-prefix g c =
     subst
     (λ (l : List (List ℕ)).
-      IfErr c.print_record.result (λ fault. PrintedUpTo g.S.Sink.called g.S.Sink.state c.args.out.now c.print_record.new.out l fault))
+    IfErr c.print_record.result (λ fault. PrintedUpTo g.S.Sink.called g.S.Sink.state c.args.out.now c.print_record.new.out l fault))
     (shown_always c.args.all c.args.rec.now (sym c.is_always_shown.ensures ∙ c.if-is_always_shown.true)) c.print_record.ensures.prefix
 
 pub returns-then-all-clause-whole : goal.returns-then-all-clause-whole
 returns-then-all-clause-whole g c =
     subst
     (λ (l : List (List ℕ)).
-      OnOk c.print_record-then-all.result (Printed g.S.Sink.called g.S.Sink.state c.args.out.now c.print_record-then-all.new.out l))
+    OnOk c.print_record-then-all.result (Printed g.S.Sink.called g.S.Sink.state c.args.out.now c.print_record-then-all.new.out l))
     (shown_all c.args.all c.args.rec.now c.if-all.true) c.print_record-then-all.ensures.whole
 
 pub returns-then-all-clause-prefix : goal.returns-then-all-clause-prefix
 returns-then-all-clause-prefix g c =
     subst
     (λ (l : List (List ℕ)).
-      IfErr c.print_record-then-all.result
-          (λ fault. PrintedUpTo g.S.Sink.called g.S.Sink.state c.args.out.now c.print_record-then-all.new.out l fault))
+    IfErr c.print_record-then-all.result
+    (λ fault. PrintedUpTo g.S.Sink.called g.S.Sink.state c.args.out.now c.print_record-then-all.new.out l fault))
     (shown_all c.args.all c.args.rec.now c.if-all.true) c.print_record-then-all.ensures.prefix

@@ -69,9 +69,9 @@ returns-in-Err-clause-prefix g c = λ s r h.
     let all : c.loop-quiet.node.show.all ≡ c.args.node.now.show.all = ap (λ (v : Show). v.all) c.loop-quiet.invariant.show in
     let u = c.loop-quiet.invariant.runs s r h in
     let rest =
-        lines_within c.args.objects.now c.args.limit c.args.script.now s (parts c.loop-quiet.node) c.loop-quiet.counts
-        (λ made. Printed g.S.Sink.called g.S.Sink.state c.args.out.now c.loop-quiet.out (shown_lines c.args.node.now.show.all made)) c.args.node.now.show.all u
-        (sym (c.loop-quiet.invariant.quiet u.now u.represents) ∙ off) c.if-node-limit.true in
+    lines_within c.args.objects.now c.args.limit c.args.script.now s (parts c.loop-quiet.node) c.loop-quiet.counts
+    (λ made. Printed g.S.Sink.called g.S.Sink.state c.args.out.now c.loop-quiet.out (shown_lines c.args.node.now.show.all made)) c.args.node.now.show.all u
+    (sym (c.loop-quiet.invariant.quiet u.now u.represents) ∙ off) c.if-node-limit.true in
     cut_within g.S.Sink.called g.S.Sink.state c.args.out.now c.turn.new.out (shown_lines c.args.node.now.show.all u.made ++ shown_line c.args.node.now.show.all (next c.args.script.now u.now).shown) rest.0
     (shown_lines c.args.node.now.show.all (run c.args.limit c.args.script.now s).records) c.in-Err.fault
     (cut_after g.S.Sink.called g.S.Sink.state c.args.out.now c.loop-quiet.out c.turn.new.out (shown_lines c.args.node.now.show.all u.made) (shown_line c.args.node.now.show.all (next c.args.script.now u.now).shown) c.in-Err.fault u.told

@@ -29,13 +29,13 @@ take-requires-clause-kind c =
 pub loop-lines-preserved : goal.loop-lines-preserved
 loop-lines-preserved c = record {
   taken = taken_more _ _ c.loop-lines.lines _ c.in-Some.at c.loop-lines.invariant.taken (
-    record {
-      found = sym c.in-Some.ensures;
-      here = step_at c.args.script.now.ats c.loop-lines.lines.place c.args.step c.in-Some.at c.loop-lines.invariant.ahead (sym c.in-Some.ensures) (omega (arith, c.if-at-step.false));
-      raised = c.take.ensures.raised;
-      pick = c.take.ensures.pick;
-      place = c.take.ensures.place.0;
-    });
+      record {
+        found = sym c.in-Some.ensures;
+        here = step_at c.args.script.now.ats c.loop-lines.lines.place c.args.step c.in-Some.at c.loop-lines.invariant.ahead (sym c.in-Some.ensures) (omega (arith, c.if-at-step.false));
+        raised = c.take.ensures.raised;
+        pick = c.take.ensures.pick;
+        place = c.take.ensures.place.0;
+      });
   ahead = λ i d l w. c.loop-lines.invariant.ahead i d (omega (arith, c.take.ensures.place.0)) w;
   due = c.take.ensures.place.1 ∙ c.loop-lines.invariant.due;
 }
