@@ -10,3 +10,4 @@ pub mod Writing
 pub mod Naming
 pub mod Course
 pub mod Traced
+pub mod BootLemmas

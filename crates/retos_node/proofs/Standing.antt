@@ -200,7 +200,7 @@ gives_none law s pick m r n h e f =
 
 -- ---- a turn
 
-running_is_context : (m c : List ℕ) (k : Kernel) (ds : List (Option Domain)) → IsRunning m c k ds → IsContext c
+pub running_is_context : (m c : List ℕ) (k : Kernel) (ds : List (Option Domain)) → IsRunning m c k ds → IsContext c
 running_is_context m c k ds (AThread r good) = good.good.steady.context
 running_is_context m c k ds (Nothing r e) = subst (λ (x : List ℕ). IsContext x) (sym e) idle-is
 running_is_context m c k ds (Interrupted r serving i) = serving.context

@@ -6,3 +6,4 @@ pub mod Readiness
 pub mod Printing
 pub mod Underway
 pub mod EntryPoints
+pub mod Boots

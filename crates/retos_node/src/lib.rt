@@ -6,6 +6,7 @@
 //! step, `booting` placing and starting, `running` a run with its lines, and `schedule` what a script gives for the next step.
 #![tactic(auto)]
 
+mod booting;
 mod calls;
 mod entries;
 pub mod laws;

@@ -7,6 +7,7 @@ ghost use Rattle.node_model.specs.Nodes.{most_steps, IsSoundNode, Boots, Steps};
 ghost use Rattle.trace_model.specs.Scripts.{IsScript};
 ghost use Rattle.retos_node.specs.Parts.{parts, IsBootFault, GoesByLines, RunsTo, RunsUpTo};
 
+use crate::booting::{NOBODY, Unplaced, begin, cleared, place_all};
 use crate::objects::ObjectList;
 use crate::printing::{print_line, print_placement};
 use crate::running::{run_law, run_steps};
@@ -17,6 +18,7 @@ use edge_io::sink::Sink;
 use edge_io::whole::SinkFault;
 use flat_mem::FlatMem;
 use msp_machine::Regs;
+use node_laws::boot::{boot_begins, boot_stands};
 use node_laws::code::memory_is_shown;
 use node_laws::holding::nodes_are_sound;
 use place_model::places::NoRoom;
@@ -72,10 +74,30 @@ impl Node {
         ensures sound { IfOk result (λ node. IsSoundNode (parts node) objects.now) }
         ensures refused { IfErr result (λ fault. IsBootFault objects.now fault) }
     {
-        let _ = alloc;
-        let _ = objects;
-        let _ = show;
-        Err(BootFault::Memory)
+        boot_begins();
+        boot_stands();
+        nodes_are_sound();
+        memory_is_shown();
+        objects.are_accepted();
+        let mut mem = match cleared(alloc) {
+            Ok(mem) => mem,
+            Err(_) => return Err(BootFault::Memory),
+        };
+        let mut owner = [NOBODY; 12];
+        match place_all(&mut mem, &mut owner, objects) {
+            Ok(()) => {}
+            Err(Unplaced { object, cause }) => return Err(BootFault::NoRoom { object, cause }),
+        }
+        let mut regs = Regs::new();
+        begin(&mut mem, &mut regs);
+        mem.is_flat();
+        Ok(Node {
+            mem,
+            regs,
+            steps: 0,
+            owner,
+            show,
+        })
     }
 
     /// One step: the lines of a mask are raised before it, and a dispatch in it takes this pick.

@@ -1,9 +1,10 @@
 //! The list of accepted objects that a node is given.
 
-ghost use Rattle.std.specs.Prelude.{◌≡◌, ◌<◌, ℕ, List, ◌∷◌, ◌++◌, [], length, slice_get, Some, OnOk, OnErr};
+ghost use Rattle.std.specs.Prelude.{◌≡◌, ◌<◌, ◌≤◌, ℕ, List, ◌∷◌, ◌++◌, [], length, slice_get, Some, OnOk, OnErr};
 ghost use Rattle.code_model.specs.declared.object.Object.{Object};
 ghost use Rattle.code_model.specs.Verdicts.{IsAccepted};
 ghost use Rattle.load_model.specs.Loading.{Loadable};
+ghost use Rattle.node_model.specs.Nodes.{IsFitting};
 
 use code_model::marks::Marks;
 use code_model::object::Object;
@@ -15,9 +16,9 @@ pub const MOST_OBJECTS: usize = 16;
 
 /// An accepted object and the marks of its unit starts.
 #[derive(Drop)]
-struct Accepted {
-    object: Object,
-    marks: Marks,
+pub(crate) struct Accepted {
+    pub object: Object,
+    pub marks: Marks,
 }
 
 /// A list of at most 16 accepted objects with their marks.
@@ -80,5 +81,22 @@ impl ObjectList {
         ensures { (object : Object) × slice_get self.now at ≡ Some (record { object = object; units = result.now }) }
     {
         &self.items[at].marks
+    }
+
+    /// The object and its marks at a place, counted from 0.
+    pub(crate) fn item(&self, at: usize) -> &Accepted
+        requires { at < length self.now }
+        ensures found { slice_get self.now at ≡ Some (record { object = result.now.object; units = result.now.marks }) }
+        ensures accepted { IsAccepted result.now.object result.now.marks }
+    {
+        &self.items[at]
+    }
+
+    /// There are at most 16, and each is accepted.
+    pub(crate) fn are_accepted(&self)
+        ensures few { length self.now ≤ 16 }
+        ensures fitting { IsFitting self.now }
+    {
+        let _ = &self.items;
     }
 }
