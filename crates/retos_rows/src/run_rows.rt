@@ -403,7 +403,7 @@ fn each_call_gives_its_code(rt: HostRuntime) -> Result<(), Fail> {
     add(&mut files, b"c.o", object.as_slice())?;
     let case = Case {
         line: "run empty 100 c.o",
-        out: "a0 6000 6102 2000 2040\n13 a0.t0 emit 0000\n26 a0.t0 emit 0004\n39 a0.t0 emit 0003\n52 a0.t0 emit 0002\n\
+        out: "a0 6000 6104 2000 2040\n13 a0.t0 emit 0000\n26 a0.t0 emit 0004\n39 a0.t0 emit 0003\n52 a0.t0 emit 0002\n\
 67 a0.t0 emit 0001\n80 a0.t0 emit 0005\n86 a0.t0 exit last\nend quiet 86 emits 6 faults 0\n",
         err: "",
         status: 0,
