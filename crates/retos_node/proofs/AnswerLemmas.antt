@@ -1,21 +1,21 @@
 -- What calls answer, as turns.
-use Rattle.std.proofs.Common.{◌≡◌, ℕ, ◌<◌, Bool, true, List, length, Option, None, Some, Result, Ok, Err, refl, ap, sym, ◌∙◌, subst, arith}
-use Rattle.machine_model.specs.Context.{reg, set_reg, IsContext}
+use Rattle.std.proofs.Common.{◌≡◌, ℕ, ◌<◌, Bool, List, length, Option, None, Some, Result, Ok, Err, refl, ap, sym, ◌∙◌, subst}
+use Rattle.machine_model.specs.Context.{set_reg}
 use Rattle.kernel_model.specs.Kernel.{Kernel}
 use Rattle.kernel_model.specs.Words.{running, number_of}
 use Rattle.kernel_model.specs.Layout.{kernel_of}
 use Rattle.kernel_model.specs.Queues.{Leaves}
-use Rattle.kernel_model.specs.Dispatching.{saved, moved_to_front, dispatched, dispatched_context}
+use Rattle.kernel_model.specs.Dispatching.{saved, moved_to_front}
 use Rattle.kernel_model.specs.Entries.{next_thread, spawned}
 use Rattle.kernel_model.specs.declared.code.Code.{Code}
 use Rattle.kernel_threads.specs.Entries.{AnswersBy, SpawnedBy}
 use Rattle.kernel_modules.specs.Calls.{BecomesBy}
 use Rattle.kernel_sync.specs.Answers.{AnswersBy as SyncAnswers}
 use Rattle.trace_model.specs.declared.records.Record.{Record}
-use Rattle.node_model.specs.Entries.{Work, Turn, Call, Spawn, dispatches, goes_on, called, unless, after, after_giving, after_leaving, code_number, entry_address}
+use Rattle.node_model.specs.Entries.{Work, Turn, Call, Spawn, dispatches, called, unless, after, after_giving, after_leaving, code_number, entry_address}
 use Rattle.retos_node.specs.declared.turns.Moment.{Moment}
 use Rattle.retos_node.specs.Codes.{answer_number}
-use Rattle.retos_node.specs.Turns.{Becomes, DispatchesFrom, Turned, work_of}
+use Rattle.retos_node.specs.Turns.{DispatchesFrom, Turned, work_of}
 use Rattle.retos_node.proofs.TurnLemmas.{dispatches_by, saved_again}
 
 -- ---- a dispatch is a turn

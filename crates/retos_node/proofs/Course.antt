@@ -1,5 +1,5 @@
 -- How far a run has come, a step further and at its end.
-use Rattle.std.proofs.Common.{◌≡◌, ℕ, suc, zero, ◌<◌, ◌≤◌, ◌+◌, ◌-◌, Bool, true, false, cond, not, List, [], ◌∷◌, ◌++◌, length, map, Option, ap, ◌∙◌, sym, refl, subst, arith, append_assoc, length-append, add-one}
+use Rattle.std.proofs.Common.{◌≡◌, ℕ, suc, zero, ◌<◌, ◌≤◌, ◌+◌, ◌-◌, Bool, true, false, cond, not, List, [], ◌∷◌, ◌++◌, length, map, Option, ap, ◌∙◌, sym, refl, subst, arith, append_assoc, length-append}
 use Rattle.std.specs.List.{concat, filter, flat_map}
 use Rattle.std.proofs.lemmas.List.{append-nil}
 use Rattle.std.proofs.lemmas.List.Folds.{concat-append}
@@ -10,7 +10,7 @@ use Rattle.trace_model.specs.declared.scripts.Script.{Script}
 use Rattle.trace_model.specs.Texts.{is_emit, is_fault, shown_text, shown_after, shown_texts, record_text, is_always_shown}
 use Rattle.load_model.specs.Loading.{Loadable}
 use Rattle.node_model.specs.Systems.{System}
-use Rattle.node_model.specs.Runs.{Run, run, next, is_quiet, ended_run, after, emits, faults}
+use Rattle.node_model.specs.Runs.{Run, run, next, is_quiet, ended_run, after}
 use Rattle.node_model.specs.Sound.{IsSound}
 use Rattle.kernel_model.specs.Kernel.{Kernel}
 use Rattle.kernel_model.specs.Layout.{kernel_of}

@@ -1,5 +1,5 @@
 -- The record of each step has a line: an entry that is recorded has a name.
-use Rattle.std.proofs.Common.{◌≡◌, ℕ, Bool, true, false, cond, List, Option, Some, None, refl}
+use Rattle.std.proofs.Common.{ℕ, Bool, true, false, cond, Option, Some, None, refl}
 use Rattle.std.specs.Prelude.{◌==◌}
 use Rattle.msp_encode.specs.declared.instr.Instr.{Instr}
 use Rattle.machine_model.specs.Context.{reg, set_reg}

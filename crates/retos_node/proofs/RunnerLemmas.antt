@@ -1,5 +1,5 @@
 -- Who runs in a settled kernel, and that nothing does behind a rule.
-use Rattle.std.proofs.Common.{◌≡◌, ◌≢◌, ℕ, ◌<◌, ◌≤◌, ◌+◌, Bool, true, false, not, eqb, cond, List, [], ◌∷◌, refl, ap, sym, ◌∙◌, subst, arith, Contains, inl, inr}
+use Rattle.std.proofs.Common.{◌≡◌, ◌≢◌, ℕ, ◌<◌, ◌+◌, Bool, true, false, not, eqb, List, [], ◌∷◌, refl, ap, sym, ◌∙◌, subst, arith, Contains, inl, inr}
 use Rattle.std.proofs.lemmas.Bool.{cases_eq, ne_eqb, eq-eqb, cond-true, cond-false, cond_both}
 use Rattle.kernel_model.specs.Kernel.{Kernel, with_thread, empty_row}
 use Rattle.kernel_model.specs.Words.{none, running, running_module, app_of, none_running, waiters_of}
@@ -13,7 +13,7 @@ use Rattle.kernel_model.specs.Modules.{module_ended}
 use Rattle.kernel_model.specs.Sync.{handed_to, own_app, waiting_condition}
 use Rattle.kernel_model.specs.declared.ends.AppEnd.{AppEnd}
 use Rattle.kernel_model.specs.declared.ends.AppEnd.TheVariants.{Done, Faulted}
-use Rattle.kernel_model.specs.Orderly.{only, listed, runner, caller_of, IsOrderly}
+use Rattle.kernel_model.specs.Orderly.{only, listed, IsOrderly}
 use Rattle.kernel_model.specs.Orderly.Spot.{Runs, Calls}
 use Rattle.kernel_threads.proofs.ChainLemmas.{leaves_as, leaves_then}
 use Rattle.thread_laws.proofs.ListEdits.{single_has}

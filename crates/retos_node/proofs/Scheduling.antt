@@ -1,5 +1,5 @@
 -- What a script gives for a step, from what a schedule has ready.
-use Rattle.std.proofs.Common.{◌≡◌, ◌≢◌, ℕ, zero, suc, ◌<◌, ◌≤◌, ◌+◌, ◌-◌, ◌*◌, ◌/◌, ◌%◌, ◌^◌, ◌⊎◌, Bool, true, false, cond, eqb, ltb, List, [], ◌∷◌, ◌++◌, length, map, get_or, drop, Option, Some, None, ap, ◌∙◌, sym, refl, subst, arith, add-one, inl, inr, ⊎_elim}
+use Rattle.std.proofs.Common.{◌≡◌, ◌≢◌, ℕ, zero, suc, ◌<◌, ◌≤◌, ◌+◌, ◌-◌, ◌%◌, ◌^◌, ◌⊎◌, true, cond, ltb, List, [], ◌∷◌, ◌++◌, length, map, get_or, drop, Option, Some, None, ap, ◌∙◌, sym, refl, subst, arith, inl, inr}
 use Rattle.std.specs.Prelude.{All, bit_or}
 use Rattle.std.specs.Int.Bits.{or_zero_r}
 use Rattle.std.specs.List.{fold, filter_map, cons_option, slice_get, list_any, AllPairs}
@@ -15,11 +15,11 @@ use Rattle.trace_model.specs.declared.scripts.At.{At}
 use Rattle.trace_model.specs.declared.scripts.Every.{Every}
 use Rattle.trace_model.specs.declared.scripts.Script.{Script}
 use Rattle.trace_model.specs.Scripts.{IsAt, IsKind, Rises}
-use Rattle.trace_model.specs.Draws.{kind_mask, at_mask, kind_pick, at_pick, all_masks, every_mask, first_or, mixed, mix_pick, raised_at, pick_at}
+use Rattle.trace_model.specs.Draws.{kind_mask, at_mask, kind_pick, at_pick, all_masks, every_mask, first_or, mix_pick, raised_at, pick_at}
 use Rattle.retos_node.specs.declared.schedule.Schedule.{Schedule}
 use Rattle.retos_node.specs.declared.schedule.AtLines.{AtLines}
 use Rattle.retos_node.specs.declared.schedule.EveryLines.{EveryLines}
-use Rattle.retos_node.specs.Readiness.{ArePassed, AreAhead, NoneBetween, IsDrawn, IsReady, listed, or_kind_pick, AreTaken, AreAtLines, AreEveryLines}
+use Rattle.retos_node.specs.Readiness.{ArePassed, AreAhead, IsReady, listed, or_kind_pick, AreTaken, AreAtLines, AreEveryLines}
 
 -- ---- lines of other steps
 

@@ -1,7 +1,6 @@
 -- A whole run's lines: the placement's, the records', and the end's.
-use Rattle.std.proofs.Common.{◌≡◌, ℕ, ◌≤◌, ◌+◌, Bool, false, List, [], ◌∷◌, ◌++◌, length, Option, Result, Ok, Err, ap, ◌∙◌, sym, refl, subst, arith, append_assoc}
+use Rattle.std.proofs.Common.{◌≡◌, ℕ, ◌≤◌, Bool, false, List, [], ◌∷◌, ◌++◌, length, Result, ap, ◌∙◌, refl, subst, arith}
 use Rattle.std.specs.Prelude.{codes, decimal}
-use Rattle.std.specs.List.{concat}
 use Rattle.edge_io.specs.Known.{SinkState, appended, GotPrefix}
 use Rattle.edge_io.specs.declared.whole.SinkFault.{SinkFault}
 use Rattle.trace_model.specs.declared.scripts.Script.{Script}
@@ -10,12 +9,12 @@ use Rattle.kernel_model.specs.Kernel.{Kernel}
 use Rattle.kernel_model.specs.Layout.{kernel_of}
 use Rattle.load_model.specs.Loading.{Loadable}
 use Rattle.node_model.specs.Systems.{System}
-use Rattle.node_model.specs.Runs.{Run, run, is_quiet, emits, faults}
+use Rattle.node_model.specs.Runs.{Run, is_quiet, emits}
 use Rattle.node_model.specs.Sound.{IsSound}
 use Rattle.node_model.specs.Nodes.{Parts, Represents, IsEnd, end_line, reason_text, trace_text, most_steps, IsSoundRun, RunLaw, Ran, RanUpTo}
 use Rattle.retos_node.specs.declared.running.Counts.{Counts}
-use Rattle.retos_node.specs.Printing.{Writes, CutWrites, Printed, PrintedUpTo, placement_lines, shown_lines, trace_lines}
-use Rattle.retos_node.specs.Underway.{IsUnderWay, HasReached, HasEnded}
+use Rattle.retos_node.specs.Printing.{Printed, PrintedUpTo, placement_lines, shown_lines, trace_lines}
+use Rattle.retos_node.specs.Underway.{HasReached, HasEnded}
 use Rattle.retos_node.proofs.Writing.{printed_then, cut_after, cut_within}
 use Rattle.retos_node.proofs.Course.{course_start, reached, trace_is}
 

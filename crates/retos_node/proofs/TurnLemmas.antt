@@ -1,5 +1,5 @@
 -- How the parts of a turn make the whole.
-use Rattle.std.proofs.Common.{◌≡◌, ℕ, ◌<◌, Bool, true, false, cond, List, length, get_or, set, Option, None, Some, Result, Ok, Err, refl, ap, sym, ◌∙◌, subst, arith}
+use Rattle.std.proofs.Common.{◌≡◌, ℕ, ◌<◌, Bool, List, length, set, Option, ap, ◌∙◌, subst}
 use Rattle.std.proofs.lemmas.List.{set-set, set-get_or, get_or-set_same}
 use Rattle.machine_model.specs.Memory.{word_at}
 use Rattle.machine_model.specs.Context.{reg, set_reg, IsContext}
@@ -13,7 +13,7 @@ use Rattle.kernel_threads.proofs.ChainLemmas.{leaves_then}
 use Rattle.retos_node.specs.declared.turns.Moment.{Moment}
 use Rattle.trace_model.specs.declared.records.Record.{Record}
 use Rattle.node_model.specs.Entries.{Work, Turn}
-use Rattle.retos_node.specs.Turns.{AreOwnMarks, Becomes, DispatchesFrom, Turned, TurnsBy, work_of}
+use Rattle.retos_node.specs.Turns.{AreOwnMarks, DispatchesFrom, Turned, TurnsBy, work_of}
 
 -- a dispatch behind another call
 pub dispatches_by : (rule : Kernel → Kernel) (m m1 m' r' : List ℕ) (moment : Moment) (j : Kernel) → Leaves m m1 j

@@ -14,7 +14,7 @@ use Rattle.kernel_model.specs.Kernel.{Kernel}
 use Rattle.trace_model.specs.declared.records.Record.{Record}
 use Rattle.trace_model.specs.Texts.{is_always_shown, record_text}
 use Rattle.node_model.specs.Nodes.{in_order, nobody, placement_line}
-use Rattle.retos_node.specs.Printing.{Writes, no_line, next_line, CutWrites, Printed, PrintedUpTo, numbers_below, numbers_of, placement_lines, shown_line, shown_lines}
+use Rattle.retos_node.specs.Printing.{Writes, no_line, next_line, Printed, PrintedUpTo, numbers_below, numbers_of, placement_lines, shown_line}
 
 -- ---- what was appended
 

@@ -1,5 +1,5 @@
 -- What holds of memory and owners while a node boots.
-use Rattle.std.specs.Prelude.{◌≡◌, ℕ, ◌+◌, List}
+use Rattle.std.specs.Prelude.{◌≡◌, ℕ, List}
 use Rattle.kernel_model.specs.Layout.{kernel_of}
 use Rattle.kernel_model.specs.Queues.{Leaves}
 use Rattle.place_model.specs.Settled.{IsSettled}

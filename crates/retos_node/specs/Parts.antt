@@ -1,5 +1,5 @@
 -- What the contracts of a node see of it.
-use Rattle.std.specs.Prelude.{◌≡◌, ℕ, ◌<◌, ◌≤◌, ◌⊎◌, Bool, true, false, List, length, Option, Result, Ok, Err}
+use Rattle.std.specs.Prelude.{◌≡◌, ℕ, true, false, List, length, Result, Ok, Err}
 use Rattle.retos_node.specs.declared.node.Node.{Node}
 use Rattle.retos_node.specs.declared.node.BootFault.{BootFault}
 use Rattle.retos_node.specs.declared.node.BootFault.TheVariants.{NoRoom, Memory}
@@ -15,7 +15,7 @@ use Rattle.node_model.specs.Runs.{Run, run}
 use Rattle.node_model.specs.Sound.{IsSound}
 use Rattle.load_model.specs.Loading.{Loadable}
 use Rattle.node_model.specs.Booting.{booted}
-use Rattle.node_model.specs.Nodes.{Parts, Represents, Boots, IsBootRefusal, Ran, RanUpTo, IsEnd, trace_text}
+use Rattle.node_model.specs.Nodes.{Parts, Represents, IsBootRefusal, Ran, RanUpTo, IsEnd, trace_text}
 
 abbrev pub parts : Node → Parts
 parts n = record { mem = n.mem; regs = n.regs; steps = n.steps; owner = n.owner }

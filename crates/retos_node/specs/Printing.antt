@@ -1,5 +1,5 @@
 -- The lines that a run prints, each by a write of its own.
-use Rattle.std.specs.Prelude.{◌≡◌, ℕ, ◌+◌, Bool, if◌then◌else◌, ◌==◌, List, [], ◌∷◌, ◌++◌, length, map, slice_index_or, Ok, Err}
+use Rattle.std.specs.Prelude.{◌≡◌, ℕ, Bool, if◌then◌else◌, ◌==◌, List, [], ◌∷◌, ◌++◌, map, slice_index_or, Ok, Err}
 use Rattle.std.specs.List.{concat, filter, flat_map, range_with_len}
 use Rattle.std.specs.declared.result.Result.{Result}
 use Rattle.edge_io.specs.Known.{SinkState, appended, GotPrefix}

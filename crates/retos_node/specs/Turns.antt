@@ -1,5 +1,5 @@
 -- What a routine of the kernel is given, and what it leaves, in a memory and registers.
-use Rattle.std.specs.Prelude.{◌≡◌, ◌↔◌, ℕ, ◌<◌, ◌≤◌, Bool, true, List, Option, Some}
+use Rattle.std.specs.Prelude.{◌≡◌, ◌↔◌, ℕ, ◌<◌, Bool, true, List, Option, Some}
 use Rattle.machine_model.specs.Memory.{word_at}
 use Rattle.machine_model.specs.Context.{reg, IsContext}
 use Rattle.kernel_model.specs.Kernel.{Kernel}

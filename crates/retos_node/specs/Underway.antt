@@ -1,5 +1,5 @@
 -- How far a run has come.
-use Rattle.std.specs.Prelude.{◌≡◌, ℕ, ◌+◌, ◌-◌, ◌≤◌, Bool, ◌==◌, nat_lt, nat_le, if◌then◌else◌, ◌&&◌, ◌||◌, not, List, [], ◌∷◌, ◌++◌, length}
+use Rattle.std.specs.Prelude.{◌≡◌, ℕ, ◌+◌, ◌-◌, ◌≤◌, Bool, ◌==◌, nat_lt, if◌then◌else◌, ◌&&◌, ◌||◌, not, List, ◌++◌, length}
 use Rattle.std.specs.List.{filter, list_any}
 use Rattle.machine_model.specs.Context.{reg}
 use Rattle.kernel_model.specs.Kernel.{Kernel}
@@ -11,7 +11,7 @@ use Rattle.trace_model.specs.Texts.{is_emit, is_fault}
 use Rattle.load_model.specs.Loading.{Loadable}
 use Rattle.node_model.specs.Systems.{System}
 use Rattle.node_model.specs.Steps.{pending}
-use Rattle.node_model.specs.Runs.{Run, run, next, is_quiet, is_serving, is_live_app}
+use Rattle.node_model.specs.Runs.{Run, run, next, is_serving, is_live_app}
 use Rattle.node_model.specs.Sound.{IsSound}
 use Rattle.node_model.specs.Nodes.{Parts, Represents, IsEnd}
 use Rattle.retos_node.specs.declared.running.Counts.{Counts}

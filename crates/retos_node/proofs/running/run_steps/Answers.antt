@@ -1,6 +1,4 @@
-use Rattle.std.proofs.Common.{◌≡◌, List, [], ◌++◌, ◌∷◌, ℕ, Bool, true, false, refl, sym, ◌∙◌, ap, subst, arith}
-use Rattle.trace_model.specs.declared.records.Record.{Record}
-use Rattle.node_model.specs.Systems.{System}
+use Rattle.std.proofs.Common.{◌≡◌, List, ◌++◌, ℕ, Bool, false, refl, sym, ◌∙◌, ap, subst, arith}
 use Rattle.node_model.specs.Runs.{run, next}
 use Rattle.retos_node.specs.declared.running.Counts.{Counts}
 use Rattle.retos_node.specs.declared.node.Show.{Show}

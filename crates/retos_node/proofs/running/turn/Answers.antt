@@ -1,11 +1,8 @@
-use Rattle.std.proofs.Common.{List, ℕ, sym, subst, ap}
-use Rattle.trace_model.specs.declared.records.Record.{Record}
-use Rattle.node_model.specs.Systems.{System}
-use Rattle.node_model.specs.Nodes.{Stepped, system_of}
+use Rattle.std.proofs.Common.{List, ℕ, subst, ap}
+use Rattle.node_model.specs.Nodes.{system_of}
 use Rattle.node_model.specs.Runs.{next}
 use Rattle.retos_node.specs.declared.node.Show.{Show}
 use Rattle.retos_node.specs.Parts.{parts}
-use Rattle.retos_node.specs.Underway.{AreCounted}
 use Rattle.retos_node.specs.Printing.{Printed, PrintedUpTo}
 use Rattle.retos_node.proofs.Course.{stepped_next, told_has_line, told_line, next_counted}
 use Rattle.retos_node.proofs.running.turn.Goals as goal

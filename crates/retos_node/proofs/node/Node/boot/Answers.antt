@@ -1,6 +1,5 @@
-use Rattle.std.proofs.Common.{ℕ, List, replicate, refl}
+use Rattle.std.proofs.Common.{replicate, refl}
 use Rattle.node_model.specs.Booting.{booted}
-use Rattle.retos_node.specs.Parts.{parts}
 use Rattle.retos_node.proofs.BootLemmas.{boots, boots_sound, underway_first}
 use Rattle.retos_node.proofs.node.Node.boot.Goals as goal
 

@@ -1,4 +1,4 @@
-use Rattle.std.proofs.Common.{List, ℕ, length, ap, subst}
+use Rattle.std.proofs.Common.{List, ℕ, length, subst}
 use Rattle.node_model.specs.Runs.{run}
 use Rattle.retos_node.specs.Parts.{parts}
 use Rattle.retos_node.specs.Printing.{Printed, PrintedUpTo}
