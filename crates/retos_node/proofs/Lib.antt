@@ -11,3 +11,4 @@ pub mod Naming
 pub mod Course
 pub mod Traced
 pub mod BootLemmas
+pub mod SoundRuns

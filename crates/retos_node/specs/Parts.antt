@@ -1,5 +1,5 @@
 -- What the contracts of a node see of it.
-use Rattle.std.specs.Prelude.{◌≡◌, ℕ, true, false, List, length, Result, Ok, Err}
+use Rattle.std.specs.Prelude.{◌≡◌, ℕ, ◌≤◌, true, false, List, length, Result, Ok, Err}
 use Rattle.retos_node.specs.declared.node.Node.{Node}
 use Rattle.retos_node.specs.declared.node.BootFault.{BootFault}
 use Rattle.retos_node.specs.declared.node.BootFault.TheVariants.{NoRoom, Memory}
@@ -10,6 +10,7 @@ use Rattle.edge_io.specs.Known.{SinkState, appended, GotPrefix}
 use Rattle.std.specs.List.{concat}
 use Rattle.edge_io.specs.declared.whole.SinkFault.{SinkFault}
 use Rattle.retos_node.specs.Printing.{Writes, CutWrites, trace_lines}
+use Rattle.kernel_model.specs.Locks.{LocksHeld}
 use Rattle.node_model.specs.Systems.{System}
 use Rattle.node_model.specs.Runs.{Run, run}
 use Rattle.node_model.specs.Sound.{IsSound}
@@ -50,3 +51,7 @@ abbrev pub GoesByLines : {S E : Type 0} → (S → List ℕ → Result ℕ E →
 GoesByLines called old os limit t o0 o1 result = (s : System) → Represents (parts old) os s → IsSound s
     → (concat (trace_lines old.show.all (length os) t s (run limit t s)) ≡ trace_text old.show.all false (length os) t s (run limit t s))
     × GoBy called o0 o1 (trace_lines old.show.all (length os) t s (run limit t s)) result
+
+-- at each system of a run from a node's what is promised of owners and waiters holds
+abbrev pub HoldLocks : Parts → List Loadable → (limit : ℕ) → Script → Type 0
+HoldLocks n os limit t = (s : System) → Represents n os s → IsSound s → (made : ℕ) → made ≤ limit → LocksHeld (run made t s).last.kernel

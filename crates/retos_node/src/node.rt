@@ -5,12 +5,12 @@ ghost use Rattle.edge_io.specs.Causes.{HasCause};
 ghost use Rattle.node_model.specs.Booting.{booted};
 ghost use Rattle.node_model.specs.Nodes.{most_steps, IsSoundNode, Boots, Steps};
 ghost use Rattle.trace_model.specs.Scripts.{IsScript};
-ghost use Rattle.retos_node.specs.Parts.{parts, IsBootFault, GoesByLines, RunsTo, RunsUpTo};
+ghost use Rattle.retos_node.specs.Parts.{parts, IsBootFault, GoesByLines, HoldLocks, RunsTo, RunsUpTo};
 
 use crate::booting::{NOBODY, Unplaced, begin, cleared, place_all};
 use crate::objects::ObjectList;
 use crate::printing::{print_line, print_placement};
-use crate::running::{run_law, run_steps};
+use crate::running::{locks_law, run_law, run_steps};
 use crate::step_laws::step_law;
 use crate::stepping;
 use crate::turns::Moment;
@@ -136,9 +136,11 @@ impl Node {
         ensures prefix { OnErr result (RunsUpTo self.old self.new objects.now limit script.now (S.state out.old) (S.state out.new)) }
         ensures cause { HasCause (S.state out.old).faults (S.state out.new).faults result }
         ensures sound { IsSoundNode (parts self.new) objects.now }
+        ensures locks { HoldLocks (parts self.old) objects.now limit script.now }
         ensures lines { GoesByLines S.called self.old objects.now limit script.now out.old out.new result }
     {
         run_law();
+        locks_law();
         match print_placement(&self.mem, &self.owner, objects.len(), out) {
             Ok(()) => {}
             Err(fault) => return Err(fault),

@@ -2,14 +2,15 @@
 
 ghost use Rattle.std.specs.Prelude.{◌≡◌, ◌<◌, ◌≤◌, ◌+◌, ℕ, List, ◌++◌, codes, decimal, IfOk, IfErr, OnOk};
 ghost use Rattle.edge_io.specs.Causes.{HasCause};
+ghost use Rattle.load_model.specs.Loading.{Loadable};
 ghost use Rattle.trace_model.specs.declared.scripts.Script.{Script as ScriptOf};
 ghost use Rattle.trace_model.specs.Scripts.{IsScript};
 ghost use Rattle.trace_model.specs.Texts.{end_of_line};
 ghost use Rattle.node_model.specs.Systems.{System};
 ghost use Rattle.node_model.specs.Sound.{IsSound};
 ghost use Rattle.node_model.specs.Runs.{is_quiet, next, run, Run};
-ghost use Rattle.node_model.specs.Nodes.{most_steps, IsSoundNode, reason_text, IsEnd, Represents, RunLaw};
-ghost use Rattle.retos_node.specs.Parts.{parts, IsRunEnd};
+ghost use Rattle.node_model.specs.Nodes.{most_steps, IsSoundNode, reason_text, IsEnd, Parts, Represents, RunLaw};
+ghost use Rattle.retos_node.specs.Parts.{parts, HoldLocks, IsRunEnd};
 ghost use Rattle.retos_node.specs.Readiness.{IsReady};
 ghost use Rattle.retos_node.specs.Printing.{Printed, PrintedUpTo, shown_line, shown_lines};
 ghost use Rattle.retos_node.specs.Underway.{AreWithin, IsNext, HasReached, HasEnded};
@@ -25,7 +26,7 @@ use edge_io::sink::Sink;
 use edge_io::whole::SinkFault;
 use kernel_tables::laws::orderly_queues_hold;
 use line_text::line::Line;
-use node_laws::code::memory_is_shown;
+use node_laws::code::{locks_are_held, memory_is_shown};
 use node_laws::runs_are_sound;
 use trace_model::scripts::Script;
 
@@ -77,6 +78,14 @@ pub(crate) fn run_law()
 {
     next_law();
     runs_are_sound();
+}
+
+/// What is promised of owners and waiters holds at each system of a run.
+pub(crate) fn locks_law()
+    ensures { (n : Parts) (os : List Loadable) (limit : ℕ) (t : ScriptOf) → n.steps ≡ 0 → limit ≤ most_steps → HoldLocks n os limit t }
+{
+    run_law();
+    locks_are_held();
 }
 
 /// The steps of a run, with the lines of their records.

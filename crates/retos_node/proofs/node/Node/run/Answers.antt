@@ -88,3 +88,19 @@ returns-in-Ok-print_line-clause-lines g c = λ s r h. (
       c.in-Ok-run_steps.ended.counts.faults c.line.result c.as_slice.result.now c.as_slice.ensures c.line.ensures
       (c.in-Ok-run_steps.ensures.ended s r h).end) c.in-Ok-print_line.ensures.whole)).writes,
 )
+
+pub returns-in-Err-clause-locks : goal.returns-in-Err-clause-locks
+returns-in-Err-clause-locks g c =
+    c.locks_law.ensures (parts c.args.self.now) c.args.objects.now c.args.limit c.args.script.now c.requires.first c.requires.limit
+
+pub returns-in-Err-run_steps-clause-locks : goal.returns-in-Err-run_steps-clause-locks
+returns-in-Err-run_steps-clause-locks g c =
+    c.locks_law.ensures (parts c.args.self.now) c.args.objects.now c.args.limit c.args.script.now c.requires.first c.requires.limit
+
+pub returns-in-Ok-print_line-clause-locks : goal.returns-in-Ok-print_line-clause-locks
+returns-in-Ok-print_line-clause-locks g c =
+    c.locks_law.ensures (parts c.args.self.now) c.args.objects.now c.args.limit c.args.script.now c.requires.first c.requires.limit
+
+pub returns-in-Err-print_line-clause-locks : goal.returns-in-Err-print_line-clause-locks
+returns-in-Err-print_line-clause-locks g c =
+    c.locks_law.ensures (parts c.args.self.now) c.args.objects.now c.args.limit c.args.script.now c.requires.first c.requires.limit
