@@ -145,69 +145,6 @@ pub fn do_words(
     retos(alloc, words, files, out, err)
 }
 
-/// Whether a piece stands somewhere in bytes.
-fn has(bytes: &[u8], piece: &[u8]) -> bool {
-    for at in 0..bytes.len() {
-        if bytes[at..].starts_with(piece) {
-            return true;
-        }
-    }
-    false
-}
-
-/// Does what words say, and tells where out lacks one of these pieces, something stands on err, or the status is another.
-pub fn try_pieces(
-    rt: &impl Abort,
-    alloc: Global,
-    files: &mut MemFolder,
-    line: &str,
-    pieces: &[&str],
-    status: u8,
-) -> Result<(), Fail>
-    requires { files.old.created ≡ None }
-{
-    let words = words_of(alloc, line)?;
-    let mut out = MemSink::new(alloc, 1_000_000, calls(alloc, &[])?, calls(alloc, &[])?)?;
-    let mut err = sink(alloc, &[])?;
-    let got = do_words(alloc, &words, files, &mut out, &mut err);
-    assert_eq!(rt; err.bytes(), b"".as_slice(), "err of {line}");
-    assert_eq!(rt; got.number(), status, "status of {line}");
-    for piece in pieces {
-        assert!(rt; has(out.bytes(), piece.as_bytes()), "{piece} in {line}");
-    }
-    Ok(())
-}
-
-/// What a command with one input writes under a name.
-fn made(
-    alloc: Global,
-    line: &str,
-    input: &[u8],
-    whole: &[u8],
-    output: &[u8],
-) -> Result<Bytes, Fail> {
-    let calls = Failing {
-        reads: &[],
-        writes: &[],
-        out: &[],
-    };
-    let mut files = writable(alloc, 2000, &calls)?;
-    add(&mut files, input, whole)?;
-    let words = words_of(alloc, line)?;
-    let mut out = sink(alloc, &[])?;
-    let mut err = sink(alloc, &[])?;
-    let _ = do_words(alloc, &words, &mut files, &mut out, &mut err);
-    let name = Name::from_slice(output).ok_or("a name")?;
-    let held = files.held(&name).ok_or("an output")?;
-    Ok(Bytes::from_slice(alloc, held)?)
-}
-
-/// The object of a source text with its guards.
-pub fn guarded(alloc: Global, source: &[u8]) -> Result<Bytes, Fail> {
-    let plain = made(alloc, "asm x.s x.o", b"x.s", source, b"x.o")?;
-    made(alloc, "insert x.o y.o", b"x.o", plain.as_slice(), b"y.o")
-}
-
 /// Does what a case's words say, and tells where it comes to something else.
 pub fn try_case(
     rt: &impl Abort,
