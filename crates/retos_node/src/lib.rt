@@ -26,4 +26,4 @@ mod turns;
 
 pub use node::{BootFault, End, Node, Show};
 pub use objects::ObjectList;
-pub use trace_model::scripts::{At, AtKind, Ats, Every, Everys, Script};
+pub use trace_model::scripts::{At, AtKind, Ats, Every, Everys, Script, ScriptFault};
