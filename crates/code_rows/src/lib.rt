@@ -1,4 +1,4 @@
-//! Rows on code and objects: words and what they spell, what instructions do, sources, objects with guards and texts.
+//! Rows on code and objects: words and what they spell, what instructions do, sources, objects with guards, verdicts and texts.
 //!
 //! Nothing but tests stands here. They make public calls of the crates whose names they have, so none of those is proved a second
 //! time for them. What is expected is worked out by hand from the tables, or comes from outside of the program.
@@ -9,6 +9,8 @@ mod assembler;
 #[cfg(test)]
 mod assembler_faults;
 #[cfg(test)]
+mod checker;
+#[cfg(test)]
 mod decoder;
 #[cfg(test)]
 mod encoder;
@@ -16,5 +18,7 @@ mod encoder;
 mod inserter;
 #[cfg(test)]
 mod machine;
+#[cfg(test)]
+mod object_parts;
 #[cfg(test)]
 mod object_texts;

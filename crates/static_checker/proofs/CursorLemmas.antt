@@ -7,7 +7,7 @@ use Rattle.code_model.specs.Form.{InOrder, key}
 use Rattle.code_model.specs.Relocs.{HasReloc}
 use Rattle.static_checker.specs.declared.cursor.Cursor.{Cursor}
 use Rattle.static_checker.specs.Cursors.{IsCursor}
-use Rattle.static_checker.proofs.Search.{on_word, indexed, key_got, all_above}
+use Rattle.static_checker.proofs.RelocLemmas.{on_word, indexed, key_got, all_above}
 use Rattle.std.proofs.lemmas.Bool.{cases_lt}
 
 pub below_at : (relocs : List Reloc) (c : Cursor) (at : ℕ) → IsCursor relocs c → c.at ≡ at → (k : ℕ) (d : Reloc) → k < c.reloc → key (slice_index_or relocs k d) < 2 * at

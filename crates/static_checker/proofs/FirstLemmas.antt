@@ -11,10 +11,6 @@ use Rattle.code_laws.proofs.Numbers.{same_rule}
 use Rattle.static_checker.specs.declared.refusal.Refusal.{Refusal}
 use Rattle.static_checker.specs.Firsts.{IsLocal, IsLanding, IsChecked, IsFirst, NoneIn, FirstIn, IsFirstRule, NoneBelow, FirstBelow}
 
-pub none_in : (o : Object) (Among : Rule → Type 0) (low high b : ℕ) (s : Rule) → NoneIn o Among low high → low ≤ b → b < high → Among s → Refuses s o b → ⊥
-unfolding NoneIn
-none_in o Among low high b s none = none b s
-
 pub none_first : (o : Object) (Among : Rule → Type 0) (low high : ℕ) (x : Option Refusal) → x ≡ None → FirstIn o Among low high x → NoneIn o Among low high
 none_first o Among low high x e = subst (λ (y : Option Refusal). FirstIn o Among low high y) e
 

@@ -60,9 +60,6 @@ refuses_first o p r n place is first e at = (
   },
 )
 
-pub refuses_unspelled : (o : Object) (at place : ℕ) → Bad o.code at → place ≡ 2 * at → IsVerdict o (Refused 1 place)
-refuses_unspelled o at place bad is = (at, is, record { why = inl (refl, bad) })
-
 pub guards_dangers : (o : Object) (v : Verdict) → IsVerdict o v → IsAcceptance v → DangersGuarded o
 guards_dangers o (Accepted m) is yes' = accepted_guarded o m is
 guards_dangers o (Refused r at) is yes' = absurd yes'

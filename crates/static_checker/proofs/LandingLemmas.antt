@@ -53,14 +53,6 @@ module _ (o : Object) (at : ℕ) (s : Spot) (transfer : TransferAt o at) (is : I
 
 -- ---- rules at a place
 
-pub target_first : (o : Object) (at : ℕ) → Refuses rule.Target o at → IsFirstRule o IsLanding at rule.Target
-target_first o at x = record { of_these = inl refl; refuses = x; first = least }
-  where
-    least : (s : Rule) → IsLanding s → Refuses s o at → 10 ≤ number s
-    least s (inl e) y = omega (arith, ap number e)
-    least s (inr (inl e)) y = omega (arith, ap number e)
-    least s (inr (inr e)) y = omega (arith, ap number e)
-
 pub jump_first : (o : Object) (at : ℕ) → (Refuses rule.Target o at → ⊥) → Refuses rule.Jump o at → IsFirstRule o IsLanding at rule.Jump
 jump_first o at no_target x = record { of_these = inr (inl refl); refuses = x; first = least }
   where
@@ -118,9 +110,6 @@ landing_on o at none here b s low high h refused =
       | inl before ↦ none b s low before h refused
       | inr from ↦ let same : b ≡ at = omega arith in none_below o IsLanding at 15 s here (omega (arith, number_most s)) h (subst (λ (n : ℕ). Refuses s o n) same refused)
     ]
-
-pub none_to_end : (o : Object) (at : ℕ) → at ≡ length o.code → NoneIn o IsLanding 0 at → NoneIn o IsLanding 0 (length o.code)
-none_to_end o at e = subst (λ (n : ℕ). NoneIn o IsLanding 0 n) e
 
 pub nothing_first : (o : Object) → NoneIn o IsLanding 0 0
 nothing_first o = none_at_first o IsLanding 0

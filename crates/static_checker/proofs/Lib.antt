@@ -1,4 +1,4 @@
-pub mod Search
+pub mod RelocLemmas
 pub mod Standing
 pub mod CursorLemmas
 pub mod Guarding

@@ -179,19 +179,7 @@ whole o p is past =
 pub stops : (o : Object) (p : Pass) → IsPassed o p → p.cursor.at < length o.code → NoneStands o.code p.cursor.at → Bad o.code p.cursor.at
 stops o p is inside none = record { start = start_here o p is inside; none = none }
 
--- ---- over a word of a guard
-
-pub passed_word : (o : Object) (p : Pass) (b : BegunGuard) → IsPassed o p → IsBegun o p.cursor.at b → IsPassed o (record p { begun = Some b })
-passed_word o p b is begun = record {
-  cursor = is.cursor;
-  reached = is.reached;
-  clear = is.clear;
-  begun = begun;
-  units = is.units;
-  transfers = is.transfers;
-  each = is.each;
-  first = is.first;
-}
+-- ---- what is left to do
 
 seen_most : (o : Object) (at : ℕ) (x : Option BegunGuard) → BegunAt o at x → seen x ≤ 14
 seen_most o at None is = omega arith

@@ -26,12 +26,6 @@ use Rattle.static_checker.specs.declared.code_units.BegunGuard.{BegunGuard}
 use Rattle.static_checker.specs.Advances.{IsBegun}
 use Rattle.static_checker.specs.CodeUnits.{NoGuardFrom, OnlyKind, GuardsFrom, IsGuardOf, NoGuardAcross, IsCodeUnit}
 
-some_words : (g : GuardKind) → 1 ≤ length (guard_words g)
-some_words guard.Store = omega arith
-some_words guard.Growth = omega arith
-some_words guard.Pop = omega arith
-some_words guard.Sp = omega arith
-
 start_spot : (o : Object) (at : ℕ) (s : Spot) → Start o.code at → IsSpot o.code at s → IsStartSpot o.code s
 start_spot o at s start is = record {
   start = subst (λ (n : ℕ). Start o.code n) (sym is.place) start;
@@ -282,11 +276,6 @@ fit_whole o at [] n past fit = tt
 fit_whole o at (x ∷ ss) zero past fit = absurd (omega arith)
 fit_whole o at (x ∷ ss) (suc n) past fit = (fit.0, fit_whole o (at + 1) ss n (omega arith) fit.1)
 
-pub past_slots : (ss : List Slot) (n : ℕ) → slice_get ss n ≡ None → length ss ≤ n
-past_slots [] n is = omega arith
-past_slots (x ∷ ss) zero is = cc
-past_slots (x ∷ ss) (suc n) is = omega (arith, past_slots ss n is)
-
 pub before_slots : (ss : List Slot) (n : ℕ) (s : Slot) → slice_get ss n ≡ Some s → n < length ss
 before_slots [] n s is = cc
 before_slots (x ∷ ss) zero s is = omega arith
@@ -309,30 +298,6 @@ unfolding OnlyKind
 only_kind o at w k is by guarded g h e =
     let f : SecondIs g (slice_index o.code (at + 1)) = subst (λ (n : ℕ). SecondIs g (slice_index o.code (n + 1))) e (second_is o h.first g h.fit) in
     by g (subst (λ (v : ℕ). SecondIs g v) (sym is) f)
-
-pub is_store : (w : ℕ) → w ≢ 0x9211 → w ≢ 0x9182 → w ≢ 0x9214 → (g : GuardKind) → SecondIs g w → g ≡ guard.Store
-is_store w a b c guard.Store h = refl
-is_store w a b c guard.Growth h = absurd (a h)
-is_store w a b c guard.Pop h = absurd (b h)
-is_store w a b c guard.Sp h = absurd (c h)
-
-pub is_growth : (w : ℕ) → w ≡ 0x9211 → (g : GuardKind) → SecondIs g w → g ≡ guard.Growth
-is_growth w e guard.Store h = absurd (omega arith)
-is_growth w e guard.Growth h = refl
-is_growth w e guard.Pop h = absurd (omega arith)
-is_growth w e guard.Sp h = absurd (omega arith)
-
-pub is_pop : (w : ℕ) → w ≡ 0x9182 → (g : GuardKind) → SecondIs g w → g ≡ guard.Pop
-is_pop w e guard.Store h = absurd (omega arith)
-is_pop w e guard.Growth h = absurd (omega arith)
-is_pop w e guard.Pop h = refl
-is_pop w e guard.Sp h = absurd (omega arith)
-
-pub is_sp : (w : ℕ) → w ≡ 0x9214 → (g : GuardKind) → SecondIs g w → g ≡ guard.Sp
-is_sp w e guard.Store h = absurd (omega arith)
-is_sp w e guard.Growth h = absurd (omega arith)
-is_sp w e guard.Pop h = absurd (omega arith)
-is_sp w e guard.Sp h = refl
 
 -- how a begun guard goes on, or breaks off
 

@@ -7,7 +7,6 @@ ghost use Rattle.code_model.specs.Form.{key};
 ghost use Rattle.code_model.specs.Relocs.{HasReloc, Unrelocated};
 ghost use Rattle.static_checker.specs.Cursors.{IsCursor};
 
-use crate::relocs::{key, kind_at};
 use code_model::lists::Relocs;
 use code_model::object::Object;
 use code_model::parts::{RelKind, Reloc};
@@ -70,7 +69,7 @@ pub fn reloc_on(o: &Object, cursor: Cursor, at: usize) -> Option<RelKind>
 }
 
 /// Tells whether the code word at a place has a relocation of this kind.
-#[tactic(auto, using(crate::proofs::Search::reloc_rules))]
+#[tactic(auto, using(crate::proofs::RelocLemmas::reloc_rules))]
 pub fn has_reloc(o: &Object, cursor: Cursor, at: usize, kind: RelKind) -> bool
     requires is { IsCursor o.now.relocs cursor }
     requires order { cursor.at ≤ at }
@@ -84,7 +83,7 @@ pub fn has_reloc(o: &Object, cursor: Cursor, at: usize, kind: RelKind) -> bool
 }
 
 /// Tells whether the code word at a place has no relocation.
-#[tactic(auto, using(crate::proofs::Search::reloc_rules))]
+#[tactic(auto, using(crate::proofs::RelocLemmas::reloc_rules))]
 pub fn unrelocated(o: &Object, cursor: Cursor, at: usize) -> bool
     requires is { IsCursor o.now.relocs cursor }
     requires order { cursor.at ≤ at }
@@ -92,4 +91,27 @@ pub fn unrelocated(o: &Object, cursor: Cursor, at: usize) -> bool
     ensures { IsTrue result ↔ Unrelocated o.now.relocs at }
 {
     reloc_on(o, cursor, at).is_none()
+}
+
+/// The kind of a relocation, if it stands on the code word at this offset.
+fn kind_at(r: &Reloc, offset: usize) -> Option<RelKind>
+    requires { offset < 65536 }
+    ensures { MatchOption result (key r.now ≢ offset) (λ k. r.now ≡ record { in_code = true; kind = k; offset = offset }) }
+{
+    if r.in_code && usize::from(r.offset) == offset {
+        Some(r.kind)
+    } else {
+        None
+    }
+}
+
+/// What relocations are ordered by.
+fn key(r: &Reloc) -> usize
+    ensures { result ≡ key r.now }
+{
+    if r.in_code {
+        usize::from(r.offset)
+    } else {
+        usize::from(r.offset) + 65536
+    }
 }

@@ -13,8 +13,8 @@
 //! at a guard that breaks off with its second instruction.
 //!
 //! Public beside `check` are questions that other crates ask of instructions too: what their operations and operands do
-//! (`forms`), which of their words may have a relocation (`operand_words`) and which have one (`relocs`, at any place), what
-//! stands at a place (`spot`), and marks by places (`marking`).
+//! (`forms`), which of their words may have a relocation (`operand_words`), what stands at a place (`spot`), and marks by
+//! places (`marking`).
 #![tactic(auto)]
 
 mod code_units;
@@ -29,7 +29,6 @@ pub mod operand_words;
 mod pass;
 mod refusal;
 mod registers;
-pub mod relocs;
 mod rules;
 mod slots;
 pub mod spot;
@@ -40,8 +39,3 @@ mod verdict;
 pub use code_model::marks::Marks;
 pub use code_model::verdict::Verdict;
 pub use verdict::check;
-
-#[cfg(test)]
-mod guard_tests;
-#[cfg(test)]
-mod tests;

@@ -1,7 +1,8 @@
 //! Faults of small objects, and the unit that passes the most words.
 
 use super::faulty::{BAD_TARGETS, CHECK_REGISTERS, FIRST_FAULTS, FORBIDDEN, UNDECODED};
-use super::{Answer, CODE, Parts, code, inserted};
+use super::{Answer, inserted};
+use crate::object_parts::{CODE, Parts, code};
 use check_inserter::InsertKind;
 use std::alloc::{AllocError, Global};
 use std::test::*;

@@ -1,7 +1,7 @@
 //! Source objects with a fault.
 
 use super::faults::Faulty;
-use super::{CODE, DATA, HI, LO};
+use crate::object_parts::{CODE, DATA, HI, LO};
 use check_inserter::InsertKind;
 
 pub(super) const UNDECODED: [Faulty; 3] = [

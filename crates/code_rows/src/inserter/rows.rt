@@ -1,7 +1,7 @@
 //! Source instructions and their units.
 
 use super::table::Row;
-use super::{CODE, DATA, HI, LO};
+use crate::object_parts::{CODE, DATA, HI, LO};
 
 pub(super) const STORE: [u16; 3] = [0x4786, 0x0000, 0x3FFD];
 

@@ -1,7 +1,8 @@
 //! Units of small objects: each row of the table, and what moves with a unit.
 
 use super::rows::{GUARDED_STORE, GUARDED_STORE_RELOCS, STACKS, STORE, STORES, TARGETS};
-use super::{Answer, CODE, DATA, HI, LO, Parts, code, inserted};
+use super::{Answer, inserted};
+use crate::object_parts::{CODE, DATA, HI, LO, Parts, code};
 use check_inserter::InsertKind;
 use std::alloc::Global;
 use std::test::*;

@@ -1,5 +1,5 @@
 use Rattle.std.proofs.Common.{sym}
-use Rattle.static_checker.proofs.Search.{one_kind, none_at, is_there, past}
+use Rattle.static_checker.proofs.RelocLemmas.{one_kind, none_at, is_there, past}
 use Rattle.static_checker.proofs.CursorLemmas.{below_at, above_at}
 use Rattle.static_checker.proofs.cursor.reloc_on.Goals as goal
 

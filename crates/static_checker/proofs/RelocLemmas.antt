@@ -1,4 +1,4 @@
--- The binary search for a relocation.
+-- The relocation of a code word, in a list that rises.
 use Rattle.std.proofs.Common.{◌≡◌, ◌≢◌, ◌↔◌, IsTrue, Bool, false, ℕ, ◌+◌, ◌*◌, ◌<◌, ◌≤◌, List, length, slice_index_or, slice_get, Option, Some, None, MatchOption, true, arith, rules, below_more, subst, ap, sym, refl, inl, inr}
 use Rattle.std.proofs.Math.Nat.{eq-or-lt_of_le}
 use Rattle.std.proofs.lemmas.Bool.{cases_order, cases_lt}
@@ -8,22 +8,6 @@ use Rattle.code_model.specs.declared.parts.RelKind.{RelKind}
 use Rattle.code_model.specs.Form.{InOrder, key}
 use Rattle.code_model.specs.Relocs.{HasReloc, Unrelocated}
 use Rattle.code_laws.proofs.GuardRelocs.{none_has}
-
--- what lies below `low` is below the target, and what lies from `high` on isn't
-pub record IsSplit (relocs : List Reloc) (target low high : ℕ) : Type 0 where
-  pub within : high ≤ length relocs
-  pub order : low ≤ high
-  pub below : (k : ℕ) (d : Reloc) → k < low → key (slice_index_or relocs k d) < target
-  pub above : (k : ℕ) (d : Reloc) → high ≤ k → k < length relocs → target ≤ key (slice_index_or relocs k d)
-
-pub not_less : (b : Bool) (k t : ℕ) → (IsTrue b ↔ (k < t)) → b ≡ false → t ≤ k
-not_less b k t iff is = elim (cases_lt k t) [ inl less ↦ let yes : IsTrue b = iff.1 less in absurd (search rules) | inr more ↦ more ]
-
-pub all_below : (relocs : List Reloc) (target m : ℕ) → InOrder relocs → m < length relocs
-    → ((d : Reloc) → key (slice_index_or relocs m d) < target) → (k : ℕ) (d : Reloc) → k < m + 1 → key (slice_index_or relocs k d) < target
-all_below relocs target m rise inside here k d h =
-    below_more (λ n. key (slice_index_or relocs n d) < target) m
-    (λ n less. omega (arith, rise n m d less inside, here d)) (here d) k h
 
 pub all_above : (relocs : List Reloc) (target m : ℕ) → InOrder relocs → m < length relocs
     → ((d : Reloc) → target ≤ key (slice_index_or relocs m d)) → (k : ℕ) (d : Reloc) → m ≤ k → k < length relocs → target ≤ key (slice_index_or relocs k d)
@@ -51,9 +35,6 @@ indexed relocs at j h = (h.0, record { inside = h.1; is = h.2 })
 contains : (relocs : List Reloc) (at i : ℕ) (j : RelKind) → IsIndexed relocs at j i → HasReloc relocs at j
 unfolding HasReloc
 contains relocs at i j h = (i, h.inside, h.is)
-
-key_of : (relocs : List Reloc) (at : ℕ) (j : RelKind) (i : ℕ) → IsIndexed relocs at j i → key (slice_index_or relocs i (on_word at j)) ≡ 2 * at
-key_of relocs at j i h = ap key h.is
 
 got : (relocs : List Reloc) (at : ℕ) (j : RelKind) (i : ℕ) → IsIndexed relocs at j i → slice_get relocs i ≡ Some (on_word at j)
 got relocs at j i h = let e : slice_get relocs i ≡ Some (slice_index_or relocs i (on_word at j)) = slice_get-get_or relocs i (on_word at j) h.inside in let f = h.is in cc

@@ -1,0 +1,103 @@
+//! Objects put together from their parts, by their texts.
+
+use code_model::object::Object;
+use object_form::reading::read_object;
+use std::alloc::{AllocError, Global};
+
+/// The kinds of relocations, as an object's text has them.
+pub(crate) const CODE: u8 = 1;
+
+pub(crate) const DATA: u8 = 2;
+
+pub(crate) const LO: u8 = 3;
+
+pub(crate) const HI: u8 = 4;
+
+/// An object's parts: of an application the entry and no exports, of a module exports.
+#[derive(Clone, Copy, Drop)]
+pub(crate) struct Parts<'a> {
+    pub(crate) entry: u16,
+    pub(crate) code: &'a [u16],
+    /// The section, the kind and the offset of each relocation.
+    pub(crate) relocs: &'a [(u8, u8, u16)],
+    pub(crate) init: &'a [u8],
+    pub(crate) exports: &'a [(u8, u16)],
+}
+
+fn push_word(text: &mut Vec<u8>, word: u16) -> Result<(), AllocError> {
+    text.push((word % 256) as u8)?;
+    text.push((word / 256) as u8)?;
+    Ok(())
+}
+
+fn push_numbers(text: &mut Vec<u8>, numbers: &[u16]) -> Result<(), AllocError> {
+    for number in numbers {
+        push_word(text, *number)?;
+    }
+    Ok(())
+}
+
+/// The head of a text, with two zeroed bytes.
+fn push_head(text: &mut Vec<u8>, parts: &Parts, is_module: bool) -> Result<(), AllocError> {
+    let kind = if is_module { 0x0201 } else { 0x0101 };
+    push_numbers(text, &[0x4552, 0x4F54, kind, count(parts.code.len())])?;
+    push_numbers(text, &[count(parts.init.len()), 2])?;
+    if is_module {
+        let exports = count(parts.exports.len());
+        push_numbers(text, &[0, 256 * u16::min(exports, 64), 0])?;
+    } else {
+        push_numbers(text, &[16, 1, parts.entry])?;
+    }
+    push_word(text, count(parts.relocs.len()))
+}
+
+fn count(len: usize) -> u16 {
+    u16::try_from(len).unwrap_or(0)
+}
+
+fn text(alloc: Global, parts: &Parts) -> Result<Vec<u8>, AllocError> {
+    let mut text = Vec::new(alloc);
+    push_head(&mut text, parts, !parts.exports.is_empty())?;
+    push_numbers(&mut text, parts.code)?;
+    text.extend_from_slice(parts.init)?;
+    push_relocs(&mut text, parts.relocs)?;
+    push_exports(&mut text, parts.exports)?;
+    Ok(text)
+}
+
+fn push_relocs(text: &mut Vec<u8>, relocs: &[(u8, u8, u16)]) -> Result<(), AllocError> {
+    for (section, kind, offset) in relocs {
+        text.push(*section)?;
+        text.push(*kind)?;
+        push_word(text, *offset)?;
+    }
+    Ok(())
+}
+
+fn push_exports(text: &mut Vec<u8>, exports: &[(u8, u16)]) -> Result<(), AllocError> {
+    for (number, offset) in exports {
+        text.push(*number)?;
+        text.push(0)?;
+        push_word(text, *offset)?;
+    }
+    Ok(())
+}
+
+/// The object of these parts. None where they are no object's, or there is no memory.
+pub(crate) fn object(alloc: Global, parts: &Parts) -> Option<Object> {
+    match text(alloc, parts) {
+        Ok(text) => read_object(alloc, &text).ok(),
+        Err(_) => None,
+    }
+}
+
+/// An application of code words and relocations of them alone, whose entry is its first word.
+pub(crate) fn code<'a>(code: &'a [u16], relocs: &'a [(u8, u8, u16)]) -> Parts<'a> {
+    Parts {
+        entry: 0,
+        code,
+        relocs,
+        init: &[],
+        exports: &[],
+    }
+}
