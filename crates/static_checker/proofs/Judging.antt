@@ -5,7 +5,6 @@ use Rattle.code_model.specs.declared.rules.Rule.{Rule}
 use Rattle.code_model.specs.declared.rules.Rule.TheVariants as rule
 use Rattle.code_model.specs.declared.verdict.Verdict.{Verdict}
 use Rattle.code_model.specs.declared.verdict.Verdict.TheVariants.{Accepted, Refused}
-use Rattle.code_model.specs.Starts.{Bad}
 use Rattle.code_model.specs.Rules.{number, Refuses}
 use Rattle.code_model.specs.Verdicts.{AllSpelled, IsVerdict, IsAcceptance}
 use Rattle.code_model.specs.Dangers.{DangersGuarded}

@@ -129,6 +129,7 @@ fn guarded_unit(o: &Object, cursor: Cursor, begun: BegunGuard) -> Advance
 }
 
 /// Takes the instruction that stands at a start where no guard begins.
+#[tactic(auto, using(crate::proofs::UnitLemmas::free_unit))]
 fn unguarded_unit(o: &Object, at: usize) -> Advance
     requires start { Start o.now.code at }
     requires clear { NoGuardAcross o.now at }
