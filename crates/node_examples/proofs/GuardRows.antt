@@ -1,6 +1,6 @@
 -- Each by computation.
 use Rattle.std.proofs.Common.{refl}
-use Rattle.node_examples.specs.Rows.{EmitsAndExits, StoresOutside, IsInterruptedInGuard, IsInterruptedWhenFull, PushesUntilFull, JumpsIntoGuard, JumpsToUnit}
+use Rattle.node_examples.specs.Rows.{EmitsAndExits, StoresOutside, IsInterruptedInGuard, IsInterruptedWhenFull, PushesUntilFull, JumpsIntoGuard, KeepsTheTail, JumpsToUnit}
 use Rattle.node_examples.specs.Programs.{emitting_code, emitting_relocs, emitting, storing_code, storing_relocs, storing, storing_low_code, storing_low_relocs, storing_low, pushing_code, pushing_relocs, pushing, jumping_astray_code, jumping_astray_relocs, jumping_astray, jumping_code, jumping_relocs, jumping}
 use Rattle.node_examples.specs.Running.{printed, steps_printed}
 use Rattle.flat_mem.specs.Bytes.{patch}
@@ -96,6 +96,17 @@ unfolding all_handed_over woken raised_at pick_at is_quiet run case_of fetched s
     reti jump does with_flags source_value after_source place_to value_in place_of put_context put_pairs word_at patch
     hex_word alu_added digits jumping_astray_code jumping_astray_relocs jumping_astray printed
 jumps_into_guard f0 = refl
+
+pub keeps_the_tail : KeepsTheTail
+unfolding all_handed_over woken raised_at pick_at is_quiet run case_of fetched step accepted is_unit_address mark_bytes
+    seen_in bytes_in first_memory empty_system places_of loaded booted all_owned system_of trace_text shown_texts ticked
+    woken_line threads_ended waits_ended ended exited app_bytes app_read module_bytes module_read function_bytes
+    function_read thread_bytes thread_read mutex_bytes mutex_read layout table_bytes outside tables kernel_in kernel_of
+    empty part filled rows free_from gaps longest lowest added placed_word placed_words code_image placed_byte region_image
+    read_two read_one read_jump read_instr reading set_reg logical decimal_byte decimal alu alu_one two change push call one
+    reti jump does with_flags source_value after_source place_to value_in place_of put_context put_pairs word_at patch
+    hex_word alu_added digits jumping_astray_code jumping_astray_relocs jumping_astray printed
+keeps_the_tail f0 f1 = refl
 
 pub jumps_to_unit : JumpsToUnit
 unfolding all_handed_over woken raised_at pick_at is_quiet run case_of fetched step accepted is_unit_address mark_bytes

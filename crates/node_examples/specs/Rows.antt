@@ -29,6 +29,22 @@ StoresOutside = (f0 : storing_form) → printed false true 100 no_script (storin
     ++ line (codes "10 a0.t0 fault store 2010")
     ++ line (codes "end quiet 10 emits 0 faults 1")
 
+-- two computed jumps into guards: before the second fault stand the instructions of both applications, since a fault empties no tail,
+-- and fewer than eight, since no more were made
+abbrev pub KeepsTheTail : Type 0
+KeepsTheTail = (f0 : jumping_astray_form) (f1 : jumping_astray_form) → printed false true 100 no_script (jumping_astray f0 ∷ jumping_astray f1 ∷ []) ≡
+    line (codes "a0 6000 601A 2000 2010")
+    ++ line (codes "a1 601A 6034 2010 2020")
+    ++ line (codes "| 1 a0.t0 6000 4034")
+    ++ line (codes "| 2 a0.t0 6004 4030")
+    ++ line (codes "3 a0.t0 fault jump 600A")
+    ++ line (codes "| 1 a0.t0 6000 4034")
+    ++ line (codes "| 2 a0.t0 6004 4030")
+    ++ line (codes "| 4 a1.t0 601A 4034")
+    ++ line (codes "| 5 a1.t0 601E 4030")
+    ++ line (codes "6 a1.t0 fault jump 6024")
+    ++ line (codes "end quiet 6 emits 0 faults 2")
+
 -- an interrupt inside of a store guard: the thread goes on inside of it, and stores in its region
 abbrev pub IsInterruptedInGuard : Type 0
 IsInterruptedInGuard = (f0 : storing_low_form) → steps_printed 5 12 (raises 1 6) (storing_low f0 ∷ []) ≡

@@ -217,7 +217,7 @@ end-faults t r (Limit n e f) h = h.fault_count
 end-faults t r (Quiet n e f) h = h.fault_count
 
 abbrev shown-text : Show → Job → Script → List Loadable → System → List ℕ
-shown-text show job t os s = trace_text show.all false (length os) t s (run job.steps t s)
+shown-text show job t os s = trace_text show.all show.tail (length os) t s (run job.steps t s)
 
 pub traced : (old new : Node) (os : List Loadable) (job : Job) (t : Script) (o0 o1 : SinkState) (end : End) (n : ℕ)
     → Boots (parts old) os (booted os) → old.show ≡ job.show → RunsTo old new os job.steps t o0 o1 end → n ≡ faults_of end → IsTraced job t os o0 o1 (nat_lt 0 n)

@@ -1,5 +1,5 @@
 -- The words of the commands.
-use Rattle.std.specs.Prelude.{ℕ, ◌+◌, ◌-◌, ◌*◌, ◌==◌, Bool, ◌&&◌, not, nat_le, nat_lt, bytes_eq, List, [], ◌∷◌, length, drop, slice_index, codes, Some, None, if◌then◌else◌}
+use Rattle.std.specs.Prelude.{ℕ, ◌+◌, ◌-◌, ◌*◌, ◌==◌, Bool, ◌&&◌, ◌||◌, not, nat_le, nat_lt, bytes_eq, List, [], ◌∷◌, length, drop, slice_index, codes, Some, None, if◌then◌else◌}
 use Rattle.std.specs.Option.{option_map, option_and_then}
 use Rattle.std.specs.declared.option.Option.{Option}
 use Rattle.retos_node.specs.declared.node.Show.{Show}
@@ -31,17 +31,25 @@ digits_value n (b ∷ bs) = if nat_le 48 b && nat_le b 57 && nat_le n 10000000 t
 abbrev pub steps_of : List ℕ → Option ℕ
 steps_of w = if slice_index w 0 == 48 then None else digits_value 0 w
 
--- ---- options: `--all` directly behind the first word
+-- ---- options: `--all` and `--tail` directly behind the first word, in either order, each at most once
 
 abbrev pub is_all : List ℕ → Bool
 is_all w = bytes_eq w (codes "--all")
 
+abbrev pub is_tail : List ℕ → Bool
+is_tail w = bytes_eq w (codes "--tail")
+
 abbrev pub show_of : List (List ℕ) → Show
-show_of words = record { all = is_all (word words 1) }
+show_of words = record {
+  all = is_all (word words 1) || (is_tail (word words 1) && is_all (word words 2));
+  tail = is_tail (word words 1) || (is_all (word words 1) && is_tail (word words 2));
+}
 
 -- where the words behind the options begin
 abbrev pub behind_options : List (List ℕ) → ℕ
-behind_options words = if is_all (word words 1) then 2 else 1
+behind_options words =
+    if (is_all (word words 1) && is_tail (word words 2)) || (is_tail (word words 1) && is_all (word words 2)) then 3
+    else (if is_all (word words 1) || is_tail (word words 1) then 2 else 1)
 
 -- ---- each command
 

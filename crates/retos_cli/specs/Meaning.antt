@@ -218,7 +218,7 @@ written m (Some file) = insert m file.0 file.1
 
 -- the trace of a run from a system
 abbrev pub job_text : Job → Script → List Loadable → System → List ℕ
-job_text job t os s = trace_text job.show.all false (length os) t s (run job.steps t s)
+job_text job t os s = trace_text job.show.all job.show.tail (length os) t s (run job.steps t s)
 
 -- whether a record of the run is a fault
 abbrev pub has_faulted : Job → Script → System → Bool

@@ -1,7 +1,7 @@
 //! The words of a command line, read as a command.
 
 ghost use Rattle.std.specs.Prelude.{◌≡◌, ◌+◌, ◌<◌, ◌≤◌, List, [], length, drop, true, false, IfOk, MatchOption};
-ghost use Rattle.retos_cli.specs.Commands.{command_of, is_all, is_name, name_of, names_of, steps_of, digits_value, show_of, behind_options, solo_of, run_of, check_of, asm_of, insert_of};
+ghost use Rattle.retos_cli.specs.Commands.{command_of, is_all, is_tail, is_name, name_of, names_of, steps_of, digits_value, show_of, behind_options, solo_of, run_of, check_of, asm_of, insert_of};
 ghost use Rattle.retos_cli.specs.Words.{word};
 
 use super::command::{Command, Job, Names};
@@ -54,21 +54,39 @@ fn is_all(word: &[u8]) -> bool
     word == b"--all".as_slice()
 }
 
-/// What the options say, which stand directly behind the first word.
+/// Whether a word is the option that shows the last instructions before a fault.
+fn is_tail(word: &[u8]) -> bool
+    ensures { result ≡ is_tail word.now }
+{
+    word == b"--tail".as_slice()
+}
+
+/// What the options say, which stand directly behind the first word, in either order.
 fn show_of(words: &Words) -> Show
     ensures { result ≡ show_of words.now }
 {
+    let first = word_at(words, 1);
+    let second = word_at(words, 2);
     Show {
-        all: is_all(word_at(words, 1)),
+        all: is_all(first) || (is_tail(first) && is_all(second)),
+        tail: is_tail(first) || (is_all(first) && is_tail(second)),
     }
 }
 
 /// Where the words behind the options begin.
 fn behind_options(words: &Words) -> usize
     ensures place { result ≡ behind_options words.now }
-    ensures size { result ≤ 2 }
+    ensures size { result ≤ 3 }
 {
-    if is_all(word_at(words, 1)) { 2 } else { 1 }
+    let first = word_at(words, 1);
+    let second = word_at(words, 2);
+    if (is_all(first) && is_tail(second)) || (is_tail(first) && is_all(second)) {
+        3
+    } else if is_all(first) || is_tail(first) {
+        2
+    } else {
+        1
+    }
 }
 
 fn solo(alloc: Global, words: &Words) -> Result<Option<Command>, AllocError>

@@ -1,6 +1,6 @@
 //! The commands `run` and `solo`.
 
-ghost use Rattle.std.specs.Prelude.{◌≡◌, ◌≤◌, length, None, IfOk};
+ghost use Rattle.std.specs.Prelude.{◌≡◌, ◌≤◌, [], length, None, IfOk};
 ghost use Rattle.node_model.specs.Booting.{booted};
 ghost use Rattle.node_model.specs.Nodes.{Boots, IsSoundNode};
 ghost use Rattle.retos_node.specs.Parts.{parts};
@@ -122,7 +122,7 @@ fn trace<O: Sink>(
 ) -> Outcome
     requires boots { Boots (parts node) objects.now (booted objects.now) }
     requires sound { IsSoundNode (parts node) objects.now }
-    requires fresh { node.steps ≡ 0 }
+    requires fresh { (node.steps ≡ 0) × (node.tail ≡ []) }
     requires shows { node.show ≡ job.now.show }
     requires bounded { job.now.steps ≤ 10000000 }
     requires script { IsScript script.now }

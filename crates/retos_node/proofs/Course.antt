@@ -1,13 +1,13 @@
 -- How far a run has come, a step further and at its end.
-use Rattle.std.proofs.Common.{◌≡◌, ℕ, suc, zero, ◌<◌, ◌≤◌, ◌+◌, ◌-◌, Bool, true, false, cond, not, List, [], ◌∷◌, ◌++◌, length, map, Option, ap, ◌∙◌, sym, refl, subst, arith, append_assoc, length-append}
+use Rattle.std.proofs.Common.{◌≡◌, ℕ, suc, zero, ◌<◌, ◌≤◌, ◌+◌, ◌-◌, Bool, true, false, cond, not, ◌&&◌, List, [], ◌∷◌, ◌++◌, length, map, Option, ap, ◌∙◌, sym, refl, subst, arith, append_assoc, length-append}
 use Rattle.std.specs.List.{concat, filter, flat_map}
 use Rattle.std.proofs.lemmas.List.{append-nil}
 use Rattle.std.proofs.lemmas.List.Folds.{concat-append}
 use Rattle.std.proofs.lemmas.List.Elements.{filter-append}
-use Rattle.std.proofs.lemmas.Grind.{flat_map-append}
 use Rattle.trace_model.specs.declared.records.Record.{Record}
 use Rattle.trace_model.specs.declared.scripts.Script.{Script}
-use Rattle.trace_model.specs.Texts.{is_emit, is_fault, shown_text, shown_after, shown_texts, record_text, is_always_shown}
+use Rattle.trace_model.specs.Texts.{is_emit, is_fault, is_instr, last_instrs, shown_text, shown_after, shown_texts, tail_line, tail_text, record_text, is_always_shown}
+use Rattle.trace_model.specs.declared.records.Record.TheVariants as record_of
 use Rattle.load_model.specs.Loading.{Loadable}
 use Rattle.node_model.specs.Systems.{System}
 use Rattle.node_model.specs.Runs.{Run, run, next, is_quiet, ended_run, after}
@@ -19,7 +19,9 @@ use Rattle.trace_print.specs.Named.{HasLine}
 use Rattle.retos_node.proofs.Naming.{step_has_line}
 use Rattle.node_model.specs.Nodes.{Parts, Represents, Steps, Stepped, IsEnd, placement_line, placement_text, end_line, in_order, trace_text}
 use Rattle.retos_node.specs.declared.running.Counts.{Counts}
-use Rattle.retos_node.specs.Printing.{placement_lines, shown_line, shown_lines, trace_lines}
+use Rattle.retos_node.specs.declared.node.Show.{Show}
+use Rattle.retos_node.specs.Printing.{placement_lines, shown_line, tail_lines, told_lines, lines_after, shown_lines, trace_lines}
+use Rattle.retos_node.specs.Tails.{kept_of, kept_with, last_kept}
 use Rattle.retos_node.specs.Underway.{one_if, AreCounted, IsNext, behind, quiet_in, IsUnderWay, HasReached, HasEnded}
 
 -- ---- the run, a step further
@@ -86,11 +88,29 @@ filter-more p made r =
     one true = refl
     one false = refl
 
-lines-more : (all : Bool) (made : List Record) (r : Record) → shown_lines all made ++ shown_line all r ≡ shown_lines all (made ++ r ∷ [])
+lines-split : (show : Show) (earlier xs ys : List Record)
+    → lines_after show earlier (xs ++ ys) ≡ lines_after show earlier xs ++ lines_after show (earlier ++ xs) ys
+unfolding lines_after
+lines-split show earlier [] ys = ap (λ (l : List Record). lines_after show l ys) (sym (append-nil earlier))
+lines-split show earlier (x ∷ xs) ys =
+    let first : List (List ℕ) = told_lines show (last_instrs earlier) x in
+    ap (λ (l : List (List ℕ)). first ++ l)
+    (lines-split show (earlier ++ x ∷ []) xs ys
+    ∙ ap (λ (l : List Record). lines_after show (earlier ++ x ∷ []) xs ++ lines_after show l ys) (append_assoc earlier (x ∷ []) xs))
+    ∙ sym (append_assoc first (lines_after show (earlier ++ x ∷ []) xs) (lines_after show (earlier ++ x ∷ xs) ys))
+
+line-after : (show : Show) (earlier : List Record) (r : Record) → lines_after show earlier (r ∷ []) ≡ told_lines show (last_instrs earlier) r
+unfolding lines_after
+line-after show earlier r = append-nil (told_lines show (last_instrs earlier) r)
+
+lines-joined : (show : Show) (made rest : List Record) → shown_lines show made ++ lines_after show made rest ≡ shown_lines show (made ++ rest)
 unfolding shown_lines
-lines-more all made r =
-    ap (λ (l : List (List ℕ)). flat_map (shown_line all) made ++ l) (sym (append-nil (shown_line all r)))
-    ∙ sym (flat_map-append (shown_line all) made (r ∷ []))
+lines-joined show made rest = sym (lines-split show [] made rest)
+
+lines-more : (show : Show) (made : List Record) (r : Record)
+    → shown_lines show made ++ told_lines show (last_instrs made) r ≡ shown_lines show (made ++ r ∷ [])
+lines-more show made r =
+    ap (λ (l : List (List ℕ)). shown_lines show made ++ l) (sym (line-after show made r)) ∙ lines-joined show made (r ∷ [])
 
 behind-more : (made : List Record) (r : Record) (rest : Run) → behind made (after r rest) ≡ behind (made ++ r ∷ []) rest
 behind-more made r rest = ap (λ (l : List Record). run_of l rest.last) (sym (append_assoc made (r ∷ []) rest.records))
@@ -148,6 +168,12 @@ reached os limit t first n c Told u =
       reached = subst (λ (s : System). Represents n os s) (sym (ap (λ (r : Run). r.last) u.part_is)) u.represents;
     }
 
+-- the tail holds the last instructions of so many steps
+pub kept_so_far : (os : List Loadable) (limit : ℕ) (t : Script) (first : System) (n : Parts) (c : Counts) (Told : List Record → Type 0)
+    (show : Show) (kept : List Record) (u : IsUnderWay os limit t first n c Told) → kept ≡ kept_of show u.made
+    → kept ≡ kept_of show (run n.steps t first).records
+kept_so_far os limit t first n c Told show kept u e = e ∙ ap (λ (r : Run). kept_of show r.records) (sym u.part_is)
+
 -- the run is at its end where it is quiet or has made all steps
 pub record IsOver (limit : ℕ) (t : Script) (now : System) (steps : ℕ) : Type 0 where
   pub rest : run (limit - steps) t now ≡ ended_run now
@@ -183,25 +209,76 @@ told_all os limit t first n c Told u o =
 
 -- a step more is within the run
 pub lines_within : (os : List Loadable) (limit : ℕ) (t : Script) (first : System) (n : Parts) (c : Counts) (Told : List Record → Type 0)
-    (all : Bool) (u : IsUnderWay os limit t first n c Told) → is_quiet t u.now ≡ false → n.steps < limit → (rest : List (List ℕ))
-    × ((shown_lines all u.made ++ shown_line all (next t u.now).shown) ++ rest ≡ shown_lines all (run limit t first).records)
-unfolding shown_lines
-lines_within os limit t first n c Told all u q l =
+    (show : Show) (u : IsUnderWay os limit t first n c Told) → is_quiet t u.now ≡ false → n.steps < limit → (rest : List (List ℕ))
+    × ((shown_lines show u.made ++ told_lines show (last_instrs u.made) (next t u.now).shown) ++ rest ≡ shown_lines show (run limit t first).records)
+lines_within os limit t first n c Told show u q l =
     let rest : List Record = (run (limit - (n.steps + 1)) t (next t u.now).system).records in
-    let whole : (run limit t first).records ≡ (u.made ++ (next t u.now).shown ∷ []) ++ rest =
+    let made : List Record = u.made ++ (next t u.now).shown ∷ [] in
+    let whole : (run limit t first).records ≡ made ++ rest =
     ap (λ (r : Run). r.records) (whole-more limit n.steps (n.steps + 1) t first u.made u.now u.whole_is q l refl) in (
-      shown_lines all rest,
-      ap (λ (x : List (List ℕ)). x ++ flat_map (shown_line all) rest) (lines-more all u.made (next t u.now).shown)
-          ∙ sym (flat_map-append (shown_line all) (u.made ++ (next t u.now).shown ∷ []) rest)
-          ∙ ap (λ (x : List Record). flat_map (shown_line all) x) (sym whole),
+      lines_after show made rest,
+      ap (λ (x : List (List ℕ)). x ++ lines_after show made rest) (lines-more show u.made (next t u.now).shown)
+          ∙ lines-joined show made rest
+          ∙ ap (λ (x : List Record). shown_lines show x) (sym whole),
     )
 
-pub lines_more : (all : Bool) (made : List Record) (r : Record) → shown_lines all made ++ shown_line all r ≡ shown_lines all (made ++ r ∷ [])
-lines_more = lines-more
+-- before the first step no line was printed
+pub no_lines : (show : Show) → shown_lines show [] ≡ []
+unfolding shown_lines lines_after
+no_lines show = refl
 
-pub no_lines : (all : Bool) → shown_lines all [] ≡ []
-unfolding shown_lines
-no_lines all = refl
+-- ---- the lines of a step
+
+kept-lines : (b : Bool) (made : List Record) (r : Record) → tail_lines b (cond b (last_instrs made) []) r ≡ tail_lines b (last_instrs made) r
+unfolding tail_lines
+kept-lines true made r = refl
+kept-lines false made r = refl
+
+-- where the tail holds the last instructions, its lines are theirs
+pub told_as : (show : Show) (kept made : List Record) (r : Record) → kept ≡ kept_of show made
+    → told_lines show kept r ≡ told_lines show (last_instrs made) r
+unfolding told_lines
+told_as show kept made r e =
+    ap (λ (l : List (List ℕ)). l ++ shown_line show.all r)
+    (ap (λ (ks : List Record). tail_lines show.tail ks r) e ∙ kept-lines show.tail made r)
+
+pub lines_more : (show : Show) (kept made : List Record) (r : Record) → kept ≡ kept_of show made
+    → shown_lines show made ++ told_lines show kept r ≡ shown_lines show (made ++ r ∷ [])
+lines_more show kept made r e = ap (λ (l : List (List ℕ)). shown_lines show made ++ l) (told_as show kept made r e) ∙ lines-more show made r
+
+-- a fault isn't kept, so its lines are those of the tail before it and after it
+same-tail : (b : Bool) (kept : List Record) (r : Record) → tail_lines b (cond (b && is_instr r) (last_kept (kept ++ r ∷ [])) kept) r ≡ tail_lines b kept r
+unfolding tail_lines
+same-tail false kept r = refl
+same-tail true kept (record_of.Instr n w pc word ws) = refl
+same-tail true kept (record_of.Entry n w e) = refl
+same-tail true kept (record_of.Emit n w v) = refl
+same-tail true kept (record_of.Exit n w l) = refl
+same-tail true kept (record_of.Fault n w k v) = refl
+same-tail true kept (record_of.Accept n w l pc ws) = refl
+same-tail true kept (record_of.Vector n l) = refl
+same-tail true kept (record_of.IdleTurn n) = refl
+
+-- the lines of the record of a step, by the tail behind it
+pub told_behind : (show after : Show) (kept new : List Record) (x y : Record) → after ≡ show → new ≡ kept_with show kept x → x ≡ y
+    → told_lines after new x ≡ told_lines show kept y
+unfolding told_lines
+told_behind show after kept new x y e f g =
+    ap (λ (v : Show). told_lines v new x) e ∙ ap (λ (ks : List Record). told_lines show ks x) f
+    ∙ ap (λ (l : List (List ℕ)). l ++ shown_line show.all x) (same-tail show.tail kept x) ∙ ap (λ (r : Record). told_lines show kept r) g
+
+none-kept : (b : Bool) → cond b (last_instrs []) [] ≡ []
+none-kept true = refl
+none-kept false = refl
+
+-- before the first step none is kept
+pub none_kept : (show : Show) → [] ≡ kept_of show []
+none_kept show = sym (none-kept show.tail)
+
+pub none_kept_yet : (n : Parts) (t : Script) (s : System) (show : Show) (kept : List Record) → n.steps ≡ 0 → kept ≡ []
+    → kept ≡ kept_of show (run n.steps t s).records
+none_kept_yet n t s show kept e f =
+    f ∙ none_kept show ∙ ap (λ (r : Run). kept_of show r.records) (sym (ap (λ k. run k t s) e ∙ run-none t s))
 
 -- ---- the text
 
@@ -214,35 +291,52 @@ line-text false r = by (is_always_shown r)
     by true = append-nil (record_text r)
     by false = refl
 
-lines-text : (all : Bool) (earlier rs : List Record) → concat (flat_map (shown_line all) rs) ≡ shown_after all false earlier rs
-lines-text all earlier [] = refl
-lines-text all earlier (r ∷ rs) =
-    concat-append (shown_line all r) (flat_map (shown_line all) rs)
-    ∙ ap (λ (x : List ℕ). x ++ concat (flat_map (shown_line all) rs)) (line-text all r)
-    ∙ ap (λ (x : List ℕ). shown_text all r ++ x) (lines-text all (earlier ++ r ∷ []) rs)
-
-shown-is : (all : Bool) (rs : List Record) → concat (shown_lines all rs) ≡ shown_texts all false rs
-unfolding shown_lines shown_texts
-shown-is all rs = lines-text all [] rs
-
 mapped : {A : Type 0} (f : A → List ℕ) (xs : List A) → concat (map f xs) ≡ flat_map f xs
 mapped f [] = refl
 mapped f (x ∷ xs) = ap (λ (l : List ℕ). f x ++ l) (mapped f xs)
+
+tail-by : (b : Bool) (ks : List Record) → concat (cond b (map tail_line ks) []) ≡ cond b (flat_map tail_line ks) []
+tail-by true ks = mapped tail_line ks
+tail-by false ks = refl
+
+tail-is : (tail : Bool) (earlier : List Record) (r : Record) → concat (tail_lines tail (last_instrs earlier) r) ≡ tail_text tail earlier r
+unfolding tail_lines
+tail-is tail earlier r = tail-by (tail && is_fault r) (last_instrs earlier)
+
+told-is : (show : Show) (earlier : List Record) (r : Record)
+    → concat (told_lines show (last_instrs earlier) r) ≡ tail_text show.tail earlier r ++ shown_text show.all r
+unfolding told_lines
+told-is show earlier r =
+    concat-append (tail_lines show.tail (last_instrs earlier) r) (shown_line show.all r)
+    ∙ ap (λ (x : List ℕ). x ++ concat (shown_line show.all r)) (tail-is show.tail earlier r)
+    ∙ ap (λ (x : List ℕ). tail_text show.tail earlier r ++ x) (line-text show.all r)
+
+lines-text : (show : Show) (earlier rs : List Record) → concat (lines_after show earlier rs) ≡ shown_after show.all show.tail earlier rs
+unfolding lines_after
+lines-text show earlier [] = refl
+lines-text show earlier (r ∷ rs) =
+    concat-append (told_lines show (last_instrs earlier) r) (lines_after show (earlier ++ r ∷ []) rs)
+    ∙ ap (λ (x : List ℕ). x ++ concat (lines_after show (earlier ++ r ∷ []) rs)) (told-is show earlier r)
+    ∙ ap (λ (x : List ℕ). (tail_text show.tail earlier r ++ shown_text show.all r) ++ x) (lines-text show (earlier ++ r ∷ []) rs)
+
+shown-is : (show : Show) (rs : List Record) → concat (shown_lines show rs) ≡ shown_texts show.all show.tail rs
+unfolding shown_lines shown_texts
+shown-is show rs = lines-text show [] rs
 
 placement-is : (s : System) (count : ℕ) → concat (placement_lines s.kernel s.owner count) ≡ placement_text s count
 unfolding placement_lines
 placement-is s count = mapped (placement_line s.kernel) (in_order s.owner count)
 
-pub trace_is : (all : Bool) (count : ℕ) (t : Script) (s : System) (r : Run)
-    → concat (trace_lines all count t s r) ≡ trace_text all false count t s r
+pub trace_is : (show : Show) (count : ℕ) (t : Script) (s : System) (r : Run)
+    → concat (trace_lines show count t s r) ≡ trace_text show.all show.tail count t s r
 unfolding trace_lines trace_text
-trace_is all count t s r =
-    concat-append (placement_lines s.kernel s.owner count) (shown_lines all r.records ++ end_line t r ∷ [])
-    ∙ ap (λ (x : List ℕ). x ++ concat (shown_lines all r.records ++ end_line t r ∷ [])) (placement-is s count)
+trace_is show count t s r =
+    concat-append (placement_lines s.kernel s.owner count) (shown_lines show r.records ++ end_line t r ∷ [])
+    ∙ ap (λ (x : List ℕ). x ++ concat (shown_lines show r.records ++ end_line t r ∷ [])) (placement-is s count)
     ∙ ap (λ (x : List ℕ). placement_text s count ++ x)
-    (concat-append (shown_lines all r.records) (end_line t r ∷ [])
-    ∙ ap (λ (x : List ℕ). x ++ concat (end_line t r ∷ [])) (shown-is all r.records)
-    ∙ ap (λ (x : List ℕ). shown_texts all false r.records ++ x) (append-nil (end_line t r)))
+    (concat-append (shown_lines show r.records) (end_line t r ∷ [])
+    ∙ ap (λ (x : List ℕ). x ++ concat (end_line t r ∷ [])) (shown-is show r.records)
+    ∙ ap (λ (x : List ℕ). shown_texts show.all show.tail r.records ++ x) (append-nil (end_line t r)))
 
 -- ---- a step, and the quiet test
 
@@ -257,9 +351,6 @@ stepped_next t old new os s raised pick told h e f r k =
 pub told_has_line : (new : Parts) (os : List Loadable) (s : System) (raised : ℕ) (pick : Option ℕ) (told : Record)
     → Stepped new os s raised pick told → HasLine told
 told_has_line new os s raised pick told h = subst HasLine (sym h.shown) (step_has_line s raised pick)
-
-pub told_line : (a b : Bool) (x y : Record) → a ≡ b → x ≡ y → shown_line a x ≡ shown_line b y
-told_line a b x y e f = ap (λ c. shown_line c x) e ∙ ap (λ (r : Record). shown_line b r) f
 
 pub quiet_is : (n : Parts) (os : List Loadable) (t : Script) (s : System) → Represents n os s
     → quiet_in t n.steps (kernel_of n.mem) n.regs ≡ is_quiet t s

@@ -9,6 +9,7 @@ pub mod Scheduling
 pub mod Writing
 pub mod Naming
 pub mod Course
+pub mod Keeping
 pub mod Traced
 pub mod BootLemmas
 pub mod SoundRuns

@@ -1,5 +1,5 @@
 -- The last system of a sound run.
-use Rattle.std.proofs.Common.{◌≡◌, List, [], ◌∷◌, subst, sym}
+use Rattle.std.proofs.Common.{List, [], ◌∷◌, subst, sym}
 use Rattle.trace_model.specs.declared.records.Record.{Record}
 use Rattle.trace_model.specs.declared.scripts.Script.{Script}
 use Rattle.node_model.specs.Systems.{System}

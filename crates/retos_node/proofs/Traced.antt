@@ -1,5 +1,5 @@
 -- A whole run's lines: the placement's, the records', and the end's.
-use Rattle.std.proofs.Common.{◌≡◌, ℕ, ◌≤◌, Bool, false, List, [], ◌∷◌, ◌++◌, length, Result, ap, ◌∙◌, refl, subst, arith}
+use Rattle.std.proofs.Common.{◌≡◌, ℕ, ◌≤◌, Bool, List, [], ◌∷◌, ◌++◌, length, Result, ap, ◌∙◌, refl, subst, arith}
 use Rattle.std.specs.Prelude.{codes, decimal}
 use Rattle.edge_io.specs.Known.{SinkState, appended, GotPrefix}
 use Rattle.edge_io.specs.declared.whole.SinkFault.{SinkFault}
@@ -12,6 +12,7 @@ use Rattle.node_model.specs.Systems.{System}
 use Rattle.node_model.specs.Runs.{Run, is_quiet, emits}
 use Rattle.node_model.specs.Sound.{IsSound}
 use Rattle.node_model.specs.Nodes.{Parts, Represents, IsEnd, end_line, reason_text, trace_text, most_steps, IsSoundRun, RunLaw, Ran, RanUpTo}
+use Rattle.retos_node.specs.declared.node.Show.{Show}
 use Rattle.retos_node.specs.declared.running.Counts.{Counts}
 use Rattle.retos_node.specs.Printing.{Printed, PrintedUpTo, placement_lines, shown_lines, trace_lines}
 use Rattle.retos_node.specs.Underway.{HasReached, HasEnded}
@@ -27,55 +28,55 @@ abbrev C : Script → Run → List (List ℕ)
 C t r = end_line t r ∷ []
 
 pub whole_lines : {S E : Type 0} (called : S → List ℕ → Result ℕ E → S → Type 0) (state : S → SinkState) (a b c d : S)
-    (all : Bool) (count : ℕ) (t : Script) (s : System) (r : Run) → Printed called state a b (placement_lines s.kernel s.owner count)
-    → Printed called state b c (shown_lines all r.records) → Printed called state c d (end_line t r ∷ [])
-    → Printed called state a d (trace_lines all count t s r)
+    (show : Show) (count : ℕ) (t : Script) (s : System) (r : Run) → Printed called state a b (placement_lines s.kernel s.owner count)
+    → Printed called state b c (shown_lines show r.records) → Printed called state c d (end_line t r ∷ [])
+    → Printed called state a d (trace_lines show count t s r)
 unfolding trace_lines
-whole_lines called state a b c d all count t s r h k l =
-    printed_then called state a b d (A s count) (shown_lines all r.records ++ C t r) h
-    (printed_then called state b c d (shown_lines all r.records) (C t r) k l)
+whole_lines called state a b c d show count t s r h k l =
+    printed_then called state a b d (A s count) (shown_lines show r.records ++ C t r) h
+    (printed_then called state b c d (shown_lines show r.records) (C t r) k l)
 
 pub cut_placement : {S E : Type 0} (called : S → List ℕ → Result ℕ E → S → Type 0) (state : S → SinkState) (a b : S)
-    (all : Bool) (count : ℕ) (t : Script) (s : System) (r : Run) (fault : SinkFault)
+    (show : Show) (count : ℕ) (t : Script) (s : System) (r : Run) (fault : SinkFault)
     → PrintedUpTo called state a b (placement_lines s.kernel s.owner count) fault
-    → PrintedUpTo called state a b (trace_lines all count t s r) fault
+    → PrintedUpTo called state a b (trace_lines show count t s r) fault
 unfolding trace_lines
-cut_placement called state a b all count t s r fault h =
-    cut_within called state a b (A s count) (shown_lines all r.records ++ C t r) (A s count ++ (shown_lines all r.records ++ C t r)) fault
+cut_placement called state a b show count t s r fault h =
+    cut_within called state a b (A s count) (shown_lines show r.records ++ C t r) (A s count ++ (shown_lines show r.records ++ C t r)) fault
     h refl
 
 pub cut_records : {S E : Type 0} (called : S → List ℕ → Result ℕ E → S → Type 0) (state : S → SinkState) (a b c : S)
-    (all : Bool) (count : ℕ) (t : Script) (s : System) (r : Run) (fault : SinkFault)
-    → Printed called state a b (placement_lines s.kernel s.owner count) → PrintedUpTo called state b c (shown_lines all r.records) fault
-    → PrintedUpTo called state a c (trace_lines all count t s r) fault
+    (show : Show) (count : ℕ) (t : Script) (s : System) (r : Run) (fault : SinkFault)
+    → Printed called state a b (placement_lines s.kernel s.owner count) → PrintedUpTo called state b c (shown_lines show r.records) fault
+    → PrintedUpTo called state a c (trace_lines show count t s r) fault
 unfolding trace_lines
-cut_records called state a b c all count t s r fault h k =
-    cut_after called state a b c (A s count) (shown_lines all r.records ++ C t r) fault h
-    (cut_within called state b c (shown_lines all r.records) (C t r) (shown_lines all r.records ++ C t r) fault k refl)
+cut_records called state a b c show count t s r fault h k =
+    cut_after called state a b c (A s count) (shown_lines show r.records ++ C t r) fault h
+    (cut_within called state b c (shown_lines show r.records) (C t r) (shown_lines show r.records ++ C t r) fault k refl)
 
 pub cut_end : {S E : Type 0} (called : S → List ℕ → Result ℕ E → S → Type 0) (state : S → SinkState) (a b c d : S)
-    (all : Bool) (count : ℕ) (t : Script) (s : System) (r : Run) (fault : SinkFault)
-    → Printed called state a b (placement_lines s.kernel s.owner count) → Printed called state b c (shown_lines all r.records)
-    → PrintedUpTo called state c d (end_line t r ∷ []) fault → PrintedUpTo called state a d (trace_lines all count t s r) fault
+    (show : Show) (count : ℕ) (t : Script) (s : System) (r : Run) (fault : SinkFault)
+    → Printed called state a b (placement_lines s.kernel s.owner count) → Printed called state b c (shown_lines show r.records)
+    → PrintedUpTo called state c d (end_line t r ∷ []) fault → PrintedUpTo called state a d (trace_lines show count t s r) fault
 unfolding trace_lines
-cut_end called state a b c d all count t s r fault h k l =
-    cut_after called state a b d (A s count) (shown_lines all r.records ++ C t r) fault h
-    (cut_after called state b c d (shown_lines all r.records) (C t r) fault k l)
+cut_end called state a b c d show count t s r fault h k l =
+    cut_after called state a b d (A s count) (shown_lines show r.records ++ C t r) fault h
+    (cut_after called state b c d (shown_lines show r.records) (C t r) fault k l)
 
 -- ---- what they say of the text
 
 pub text_got : {S E : Type 0} (called : S → List ℕ → Result ℕ E → S → Type 0) (state : S → SinkState) (a b : S)
-    (all : Bool) (count : ℕ) (t : Script) (s : System) (r : Run) → Printed called state a b (trace_lines all count t s r)
-    → (state b).bytes ≡ appended (state a).bytes (trace_text all false count t s r)
-text_got called state a b all count t s r h =
-    h.bytes ∙ ap (λ (x : List ℕ). appended (state a).bytes x) (trace_is all count t s r)
+    (show : Show) (count : ℕ) (t : Script) (s : System) (r : Run) → Printed called state a b (trace_lines show count t s r)
+    → (state b).bytes ≡ appended (state a).bytes (trace_text show.all show.tail count t s r)
+text_got called state a b show count t s r h =
+    h.bytes ∙ ap (λ (x : List ℕ). appended (state a).bytes x) (trace_is show count t s r)
 
 pub text_cut : {S E : Type 0} (called : S → List ℕ → Result ℕ E → S → Type 0) (state : S → SinkState) (a b : S)
-    (all : Bool) (count : ℕ) (t : Script) (s : System) (r : Run) (fault : SinkFault)
-    → PrintedUpTo called state a b (trace_lines all count t s r) fault
-    → GotPrefix (state a).bytes (state b).bytes (trace_text all false count t s r)
-text_cut called state a b all count t s r fault h =
-    subst (λ (x : List ℕ). GotPrefix (state a).bytes (state b).bytes x) (trace_is all count t s r) h.bytes
+    (show : Show) (count : ℕ) (t : Script) (s : System) (r : Run) (fault : SinkFault)
+    → PrintedUpTo called state a b (trace_lines show count t s r) fault
+    → GotPrefix (state a).bytes (state b).bytes (trace_text show.all show.tail count t s r)
+text_cut called state a b show count t s r fault h =
+    subst (λ (x : List ℕ). GotPrefix (state a).bytes (state b).bytes x) (trace_is show count t s r) h.bytes
 
 -- ---- the parts
 

@@ -1,8 +1,11 @@
 -- Lines that are written one behind the other.
-use Rattle.std.proofs.Common.{◌≡◌, ℕ, suc, zero, ◌<◌, ◌+◌, ◌-◌, Bool, true, false, cond, List, [], ◌∷◌, ◌++◌, length, get_or, map, Some, None, Ok, Err, Option, Result, ap, ◌∙◌, sym, refl, subst, arith, append_assoc, zero-add}
-use Rattle.std.specs.Prelude.{slice_index_or, ◌==◌}
+use Rattle.std.proofs.Common.{◌≡◌, ℕ, suc, zero, ◌<◌, ◌+◌, ◌-◌, Bool, true, false, cond, List, [], ◌∷◌, ◌++◌, length, get_or, slice_get, take, drop, map, Some, None, Ok, Err, Option, Result, ap, ◌∙◌, sym, refl, subst, arith, append_assoc, zero-add}
+use Rattle.std.specs.Prelude.{slice_index_or, ◌==◌, codes}
+use Rattle.std.specs.Option.{option_map}
 use Rattle.std.specs.List.{concat, filter, flat_map, range_with_len}
-use Rattle.std.proofs.lemmas.List.{append-nil, map-append}
+use Rattle.std.proofs.lemmas.List.{append-nil, map-append, take-append-drop}
+use Rattle.std.proofs.lemmas.Option.{slice_get_within, get_or_from_slice_get}
+use Rattle.std.proofs.Math.Seq.{take-nil, take-suc}
 use Rattle.std.proofs.lemmas.List.Folds.{concat-append}
 use Rattle.std.proofs.lemmas.List.Elements.{filter-append}
 use Rattle.std.proofs.lemmas.Grind.{flat_map-append, get_or_default_zero}
@@ -12,9 +15,11 @@ use Rattle.edge_io.specs.Turns.{WriteTurns}
 use Rattle.edge_io.specs.declared.whole.SinkFault.{SinkFault}
 use Rattle.kernel_model.specs.Kernel.{Kernel}
 use Rattle.trace_model.specs.declared.records.Record.{Record}
-use Rattle.trace_model.specs.Texts.{is_always_shown, record_text}
+use Rattle.trace_model.specs.declared.records.Record.TheVariants as record_of
+use Rattle.trace_model.specs.Texts.{is_always_shown, is_fault, record_text, tail_line}
 use Rattle.node_model.specs.Nodes.{in_order, nobody, placement_line}
-use Rattle.retos_node.specs.Printing.{Writes, no_line, next_line, Printed, PrintedUpTo, numbers_below, numbers_of, placement_lines, shown_line}
+use Rattle.retos_node.specs.declared.node.Show.{Show}
+use Rattle.retos_node.specs.Printing.{Writes, no_line, next_line, Printed, PrintedUpTo, numbers_below, numbers_of, placement_lines, shown_line, tail_lines, told_lines}
 
 -- ---- what was appended
 
@@ -219,20 +224,122 @@ rest_placed k owner i m l = let whole : i + 1 + (m - (i + 1)) ≡ m = omega (ari
 
 -- ---- records
 
-pub unshown : (all : Bool) (r : Record) → all ≡ false → is_always_shown r ≡ false → shown_line all r ≡ []
+shown-always : (all : Bool) (r : Record) → is_always_shown r ≡ true → record_text r ∷ [] ≡ shown_line all r
 unfolding shown_line
-unshown true r e h = absurd (cc)
-unshown false r e h = ap (λ b. cond b (record_text r ∷ []) []) h
+shown-always true r h = refl
+shown-always false r h = ap (λ b. cond b (record_text r ∷ []) []) (sym h)
 
-pub shown_always : (all : Bool) (r : Record) → is_always_shown r ≡ true → record_text r ∷ [] ≡ shown_line all r
-unfolding shown_line
-shown_always true r h = refl
-shown_always false r h = ap (λ b. cond b (record_text r ∷ []) []) (sym h)
+-- a record that is not always shown is no fault's
+no-tail : (tail : Bool) (kept : List Record) (r : Record) → is_always_shown r ≡ false → tail_lines tail kept r ≡ []
+unfolding tail_lines
+no-tail false kept r h = refl
+no-tail true kept (record_of.Instr n w pc word ws) h = refl
+no-tail true kept (record_of.Entry n w e) h = refl
+no-tail true kept (record_of.Emit n w v) h = refl
+no-tail true kept (record_of.Exit n w l) h = refl
+no-tail true kept (record_of.Fault n w k v) h = absurd (cc)
+no-tail true kept (record_of.Accept n w l pc ws) h = refl
+no-tail true kept (record_of.Vector n l) h = refl
+no-tail true kept (record_of.IdleTurn n) h = refl
 
-pub shown_all : (all : Bool) (r : Record) → all ≡ true → record_text r ∷ [] ≡ shown_line all r
+shown-alone : (all : Bool) (r : Record) → all ≡ true → record_text r ∷ [] ≡ shown_line all r
 unfolding shown_line
-shown_all true r h = refl
-shown_all false r h = absurd (cc)
+shown-alone true r h = refl
+shown-alone false r h = absurd (cc)
+
+shown-not : (all : Bool) (r : Record) → all ≡ false → is_always_shown r ≡ false → [] ≡ shown_line all r
+unfolding shown_line
+shown-not true r e h = absurd (cc)
+shown-not false r e h = ap (λ b. cond b (record_text r ∷ []) []) (sym h)
+
+-- without a line before it
+alone : (show : Show) (kept : List Record) (r : Record) → is_always_shown r ≡ false → shown_line show.all r ≡ told_lines show kept r
+unfolding told_lines
+alone show kept r h = ap (λ (l : List (List ℕ)). l ++ shown_line show.all r) (sym (no-tail show.tail kept r h))
+
+pub unshown : (show : Show) (kept : List Record) (r : Record) → show.all ≡ false → is_always_shown r ≡ false → [] ≡ told_lines show kept r
+unshown show kept r e h = shown-not show.all r e h ∙ alone show kept r h
+
+pub shown_all : (show : Show) (kept : List Record) (r : Record) → show.all ≡ true → is_always_shown r ≡ false
+    → record_text r ∷ [] ≡ told_lines show kept r
+shown_all show kept r e h = shown-alone show.all r e ∙ alone show kept r h
+
+pub shown_always : (show : Show) (kept : List Record) (r : Record) → is_always_shown r ≡ true
+    → tail_lines show.tail kept r ++ record_text r ∷ [] ≡ told_lines show kept r
+unfolding told_lines
+shown_always show kept r h = ap (λ (l : List (List ℕ)). tail_lines show.tail kept r ++ l) (shown-always show.all r h)
+
+-- ---- the tail
+
+tail-shown : (tail : Bool) (kept : List Record) (r : Record) (b : Bool) → tail ≡ true → is_fault r ≡ b
+    → cond b (map tail_line kept) [] ≡ tail_lines tail kept r
+unfolding tail_lines
+tail-shown true kept r b e h = ap (λ x. cond x (map tail_line kept) []) (sym h)
+tail-shown false kept r b e h = absurd (cc)
+
+pub tail_before_fault : (tail : Bool) (kept : List Record) (r : Record) → tail ≡ true → is_fault r ≡ true
+    → map tail_line kept ≡ tail_lines tail kept r
+tail_before_fault tail kept r e h = tail-shown tail kept r true e h
+
+pub no_tail_before : (tail : Bool) (kept : List Record) (r : Record) → tail ≡ true → is_fault r ≡ false → [] ≡ tail_lines tail kept r
+no_tail_before tail kept r e h = tail-shown tail kept r false e h
+
+pub tail_unshown : (tail : Bool) (kept : List Record) (r : Record) → tail ≡ false → [] ≡ tail_lines tail kept r
+unfolding tail_lines
+tail_unshown false kept r e = refl
+tail_unshown true kept r e = absurd (cc)
+
+abbrev pub tail_to : (kept : List Record) → (at : ℕ) → List (List ℕ)
+tail_to kept at = map tail_line (take at kept)
+
+taken-more : (kept : List Record) (at : ℕ) (r : Record) → slice_get kept at ≡ Some r → take (at + 1) kept ≡ take at kept ++ r ∷ []
+taken-more kept at r h =
+    let one : at + 1 ≡ suc at = omega arith in
+    ap (λ n. take n kept) one ∙ take-suc kept at r (slice_get_within kept at r h)
+    ∙ ap (λ (x : Record). take at kept ++ x ∷ []) (get_or_from_slice_get kept at r r h)
+
+tail-more : (kept : List Record) (at : ℕ) (r : Record) → slice_get kept at ≡ Some r
+    → tail_to kept at ++ tail_line r ∷ [] ≡ tail_to kept (at + 1)
+tail-more kept at r h =
+    sym (map-append tail_line (take at kept) (r ∷ [])) ∙ ap (λ (l : List Record). map tail_line l) (sym (taken-more kept at r h))
+
+record IsLineOf (o : Option Record) (line : List ℕ) : Type 0 where
+  rec : Record
+  is_there : o ≡ Some rec
+  text : line ≡ record_text rec
+
+line-of : (o : Option Record) (line : List ℕ) → option_map record_text o ≡ Some line → IsLineOf o line
+line-of None line h = absurd (cc)
+line-of (Some r) line h = record { rec = r; is_there = refl; text = cc }
+
+pub tail_more : (kept : List Record) (at : ℕ) (line : List ℕ) → option_map record_text (slice_get kept at) ≡ Some line
+    → tail_to kept at ++ (codes "| " ++ line) ∷ [] ≡ tail_to kept (at + 1)
+tail_more kept at line h =
+    let l : IsLineOf (slice_get kept at) line = line-of (slice_get kept at) line h in
+    ap (λ (x : List ℕ). tail_to kept at ++ (codes "| " ++ x) ∷ []) l.text ∙ tail-more kept at l.rec l.is_there
+
+pub tail_within : (kept : List Record) (at : ℕ) (line : List ℕ) → option_map record_text (slice_get kept at) ≡ Some line → at < length kept
+tail_within kept at line h =
+    let l : IsLineOf (slice_get kept at) line = line-of (slice_get kept at) line h in slice_get_within kept at l.rec l.is_there
+
+pub tail_rest : (kept : List Record) (at : ℕ) (line : List ℕ) → option_map record_text (slice_get kept at) ≡ Some line
+    → (tail_to kept at ++ (codes "| " ++ line) ∷ []) ++ map tail_line (drop (at + 1) kept) ≡ map tail_line kept
+tail_rest kept at line h =
+    ap (λ (l : List (List ℕ)). l ++ map tail_line (drop (at + 1) kept)) (tail_more kept at line h)
+    ∙ sym (map-append tail_line (take (at + 1) kept) (drop (at + 1) kept))
+    ∙ ap (λ (l : List Record). map tail_line l) (take-append-drop (at + 1) kept)
+
+tail-all : (kept : List Record) (at : ℕ) → slice_get kept at ≡ None → take at kept ≡ kept
+tail-all [] at h = take-nil at
+tail-all (x ∷ xs) zero h = absurd (cc)
+tail-all (x ∷ xs) (suc n) h = ap (λ (l : List Record). x ∷ l) (tail-all xs n h)
+
+no-line : (o : Option Record) → option_map record_text o ≡ None → o ≡ None
+no-line None h = refl
+no-line (Some r) h = absurd (cc)
+
+pub tail_all : (kept : List Record) (at : ℕ) → option_map record_text (slice_get kept at) ≡ None → tail_to kept at ≡ map tail_line kept
+tail_all kept at h = ap (λ (l : List Record). map tail_line l) (tail-all kept at (no-line (slice_get kept at) h))
 
 pub not_owned : (k : Kernel) (owner : List ℕ) (i n : ℕ) → length owner ≡ 12 → n < 12 → (get_or owner n 0 ≡ i → ⊥) → own_line k owner i n ≡ []
 not_owned k owner i n l b h =

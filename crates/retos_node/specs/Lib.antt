@@ -4,6 +4,7 @@ pub mod Cases
 pub mod Codes
 pub mod Readiness
 pub mod Printing
+pub mod Tails
 pub mod Underway
 pub mod EntryPoints
 pub mod Boots

@@ -1,6 +1,6 @@
 -- The lines that a run prints, each by a write of its own.
-use Rattle.std.specs.Prelude.{◌≡◌, ℕ, Bool, if◌then◌else◌, ◌==◌, List, [], ◌∷◌, ◌++◌, map, slice_index_or, Ok, Err}
-use Rattle.std.specs.List.{concat, filter, flat_map, range_with_len}
+use Rattle.std.specs.Prelude.{◌≡◌, ℕ, Bool, if◌then◌else◌, ◌==◌, ◌&&◌, List, [], ◌∷◌, ◌++◌, map, slice_index_or, Ok, Err}
+use Rattle.std.specs.List.{concat, filter, range_with_len}
 use Rattle.std.specs.declared.result.Result.{Result}
 use Rattle.edge_io.specs.Known.{SinkState, appended, GotPrefix}
 use Rattle.edge_io.specs.Turns.{WriteTurns}
@@ -8,10 +8,11 @@ use Rattle.edge_io.specs.declared.whole.SinkFault.{SinkFault}
 use Rattle.kernel_model.specs.Kernel.{Kernel}
 use Rattle.trace_model.specs.declared.records.Record.{Record}
 use Rattle.trace_model.specs.declared.scripts.Script.{Script}
-use Rattle.trace_model.specs.Texts.{is_always_shown, record_text}
+use Rattle.trace_model.specs.Texts.{is_always_shown, is_fault, last_instrs, record_text, tail_line}
 use Rattle.node_model.specs.Systems.{System}
 use Rattle.node_model.specs.Runs.{Run}
 use Rattle.node_model.specs.Nodes.{end_line, in_order, nobody, placement_line}
+use Rattle.retos_node.specs.declared.node.Show.{Show}
 
 -- ---- which lines
 
@@ -29,12 +30,25 @@ placement_lines k owner count = map (placement_line k) (in_order owner count)
 unfoldable pub shown_line : (all : Bool) → Record → List (List ℕ)
 shown_line all r = if all then record_text r ∷ [] else (if is_always_shown r then record_text r ∷ [] else [])
 
-unfoldable pub shown_lines : (all : Bool) → List Record → List (List ℕ)
-shown_lines all rs = flat_map (shown_line all) rs
+-- the lines of these instructions, which stand before a fault's with `--tail`
+unfoldable pub tail_lines : (tail : Bool) → (kept : List Record) → Record → List (List ℕ)
+tail_lines tail kept r = if tail && is_fault r then map tail_line kept else []
+
+-- the lines of a record, before which these instructions were the last
+unfoldable pub told_lines : Show → (kept : List Record) → Record → List (List ℕ)
+told_lines show kept r = tail_lines show.tail kept r ++ shown_line show.all r
+
+-- the lines of these records, after others
+unfoldable pub lines_after : Show → (earlier : List Record) → List Record → List (List ℕ)
+lines_after show earlier [] = []
+lines_after show earlier (r ∷ rs) = told_lines show (last_instrs earlier) r ++ lines_after show (earlier ++ r ∷ []) rs
+
+unfoldable pub shown_lines : Show → List Record → List (List ℕ)
+shown_lines show rs = lines_after show [] rs
 
 -- all lines of a run
-unfoldable pub trace_lines : (all : Bool) → (count : ℕ) → Script → System → Run → List (List ℕ)
-trace_lines all count t s r = placement_lines s.kernel s.owner count ++ (shown_lines all r.records ++ end_line t r ∷ [])
+unfoldable pub trace_lines : Show → (count : ℕ) → Script → System → Run → List (List ℕ)
+trace_lines show count t s r = placement_lines s.kernel s.owner count ++ (shown_lines show r.records ++ end_line t r ∷ [])
 
 -- ---- how they are written
 

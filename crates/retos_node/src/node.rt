@@ -1,11 +1,13 @@
 //! The node.
 
-ghost use Rattle.std.specs.Prelude.{◌≡◌, ◌<◌, ◌≤◌, ◌+◌, length, IfOk, IfErr, OnErr};
+ghost use Rattle.std.specs.Prelude.{◌≡◌, ◌<◌, ◌≤◌, ◌+◌, List, [], ◌∷◌, ◌++◌, length, IfOk, IfErr, OnErr};
 ghost use Rattle.edge_io.specs.Causes.{HasCause};
 ghost use Rattle.node_model.specs.Booting.{booted};
 ghost use Rattle.node_model.specs.Nodes.{most_steps, IsSoundNode, Boots, Steps};
+ghost use Rattle.trace_model.specs.declared.records.Record.{Record as RecordOf};
 ghost use Rattle.trace_model.specs.Scripts.{IsScript};
-ghost use Rattle.retos_node.specs.Parts.{parts, IsBootFault, GoesByLines, HoldLocks, RunsTo, RunsUpTo};
+ghost use Rattle.retos_node.specs.Parts.{parts, IsBootFault, GoesByLines, HoldLocks, HoldsLast, RunsTo, RunsUpTo};
+ghost use Rattle.retos_node.specs.Tails.{kept_of, kept_with};
 
 use crate::booting::{NOBODY, Unplaced, begin, cleared, place_all};
 use crate::objects::ObjectList;
@@ -13,6 +15,7 @@ use crate::printing::{print_line, print_placement};
 use crate::running::{locks_law, run_law, run_steps};
 use crate::step_laws::step_law;
 use crate::stepping;
+use crate::tails::keep;
 use crate::turns::Moment;
 use edge_io::sink::Sink;
 use edge_io::whole::SinkFault;
@@ -26,12 +29,15 @@ use std::alloc::{AllocError, Global};
 use thiserror::Error;
 use trace_model::records::Record;
 use trace_model::scripts::Script;
+use trace_print::Tail;
 
 /// What a run prints beside the lines that are always printed.
 #[derive(Clone, Copy, PartialEq, Eq, Debug, Drop)]
 pub struct Show {
     /// A line for each step.
     pub all: bool,
+    /// The lines of the last eight instructions before a fault's.
+    pub tail: bool,
 }
 
 /// Why a node isn't booted.
@@ -55,7 +61,7 @@ pub enum End {
 }
 
 /// A node: its memory, its registers, the steps that were made, each domain's object in the list by its place, 255 where there is
-/// none, and what a run prints.
+/// none, what a run prints, and the last instructions, which are kept only where they are shown.
 #[derive(Drop)]
 pub struct Node {
     pub mem: FlatMem,
@@ -63,6 +69,7 @@ pub struct Node {
     pub steps: u32,
     pub owner: [u8; 12],
     pub show: Show,
+    pub tail: Tail,
 }
 
 impl Node {
@@ -70,7 +77,7 @@ impl Node {
     /// doesn't fit.
     pub fn boot(alloc: Global, objects: &ObjectList, show: Show) -> Result<Node, BootFault>
         ensures booted { IfOk result (λ node. Boots (parts node) objects.now (booted objects.now)) }
-        ensures fresh { IfOk result (λ node. (node.steps ≡ 0) × (node.show ≡ show)) }
+        ensures fresh { IfOk result (λ node. (node.steps ≡ 0) × (node.show ≡ show) × (node.tail ≡ [])) }
         ensures sound { IfOk result (λ node. IsSoundNode (parts node) objects.now) }
         ensures refused { IfErr result (λ fault. IsBootFault objects.now fault) }
     {
@@ -81,6 +88,10 @@ impl Node {
         objects.are_accepted();
         let mut mem = match cleared(alloc) {
             Ok(mem) => mem,
+            Err(_) => return Err(BootFault::Memory),
+        };
+        let tail = match Tail::new(alloc) {
+            Ok(tail) => tail,
             Err(_) => return Err(BootFault::Memory),
         };
         let mut owner = [NOBODY; 12];
@@ -97,6 +108,7 @@ impl Node {
             steps: 0,
             owner,
             show,
+            tail,
         })
     }
 
@@ -108,6 +120,8 @@ impl Node {
         ensures sound { IsSoundNode (parts self.new) objects.now }
         ensures made { (self.new).steps ≡ (self.old).steps + 1 }
         ensures same { ((self.new).owner ≡ (self.old).owner) × ((self.new).show ≡ (self.old).show) }
+        ensures kept { (self.new).tail ≡ kept_with (self.old).show (self.old).tail result }
+        ensures holds { (made : List RecordOf) → (self.old).tail ≡ kept_of (self.old).show made → (self.new).tail ≡ kept_of (self.old).show (made ++ result ∷ []) }
     {
         step_law();
         memory_is_shown();
@@ -117,6 +131,7 @@ impl Node {
         let moment = Moment { step, pick };
         let record = stepping::step(&mut self.mem, &mut self.regs, raised, moment);
         self.steps = step;
+        keep(self.show, &mut self.tail, &record);
         record
     }
 
@@ -129,12 +144,14 @@ impl Node {
         out: &mut S,
     ) -> Result<End, SinkFault>
         requires first { (self.old).steps ≡ 0 }
+        requires fresh { (self.old).tail ≡ [] }
         requires limit { limit ≤ most_steps }
         requires script { IsScript script.now }
         requires sound { IsSoundNode (parts self.old) objects.now }
         ensures whole { IfOk result (λ end. RunsTo self.old self.new objects.now limit script.now (S.state out.old) (S.state out.new) end) }
         ensures prefix { OnErr result (RunsUpTo self.old self.new objects.now limit script.now (S.state out.old) (S.state out.new)) }
         ensures cause { HasCause (S.state out.old).faults (S.state out.new).faults result }
+        ensures holds { HoldsLast self.old self.new objects.now script.now }
         ensures sound { IsSoundNode (parts self.new) objects.now }
         ensures locks { HoldLocks (parts self.old) objects.now limit script.now }
         ensures lines { GoesByLines S.called self.old objects.now limit script.now out.old out.new result }

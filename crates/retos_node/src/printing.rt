@@ -1,21 +1,23 @@
 //! The lines that a run prints, each written whole by a call of its own.
 
-ghost use Rattle.std.specs.Prelude.{◌≡◌, ◌<◌, ◌+◌, ◌==◌, ℕ, List, [], ◌∷◌, map, length, slice_index_or, if◌then◌else◌, IfErr, OnOk, true};
+ghost use Rattle.std.specs.Prelude.{◌≡◌, ◌<◌, ◌+◌, ◌==◌, ℕ, List, [], ◌∷◌, ◌++◌, map, length, slice_index_or, if◌then◌else◌, IfErr, OnOk, true};
 ghost use Rattle.edge_io.specs.Causes.{HasCause};
 ghost use Rattle.kernel_model.specs.Layout.{kernel_of};
 ghost use Rattle.trace_model.specs.Texts.{is_always_shown, is_emit, is_fault, record_text};
 ghost use Rattle.trace_print.specs.Named.{HasLine};
 ghost use Rattle.node_model.specs.Nodes.{nobody, placement_line};
-ghost use Rattle.retos_node.specs.Printing.{Printed, PrintedUpTo, numbers_of, placement_lines, shown_line};
+ghost use Rattle.retos_node.specs.Printing.{Printed, PrintedUpTo, numbers_of, placement_lines, tail_lines, told_lines};
 ghost use Rattle.retos_node.specs.Underway.{AreCounted};
 
 use crate::lines::of_placement;
+use crate::node::Show;
 use crate::running::Counts;
+use crate::tails::print_before;
 use edge_io::sink::Sink;
 use edge_io::whole::{SinkFault, write_all};
 use flat_mem::FlatMem;
 use trace_model::records::Record;
-use trace_print::text;
+use trace_print::{Tail, text};
 
 /// How many domains there are.
 const DOMAINS: u8 = 12;
@@ -91,9 +93,11 @@ fn print_owned<S: Sink>(
     print_line(of_placement(m, number).as_slice(), out)
 }
 
-/// Prints a record's line, if it is shown, and counts the record.
+/// Prints a record's line, if it is shown, and counts the record. Before a fault's line stand those of the last instructions, if
+/// they are shown.
 pub(crate) fn tell<S: Sink>(
-    all: bool,
+    show: Show,
+    tail: &Tail,
     rec: &Record,
     counts: &mut Counts,
     out: &mut S,
@@ -101,18 +105,42 @@ pub(crate) fn tell<S: Sink>(
     requires line { HasLine rec.now }
     requires few { ((counts.old).emits < u32.MAX) × ((counts.old).faults < u32.MAX) }
     ensures counted { AreCounted counts.old counts.new rec.now }
-    ensures whole { OnOk result (Printed S.called S.state out.old out.new (shown_line all rec.now)) }
-    ensures prefix { IfErr result (λ fault. PrintedUpTo S.called S.state out.old out.new (shown_line all rec.now) fault) }
+    ensures whole { OnOk result (Printed S.called S.state out.old out.new (told_lines show tail.now rec.now)) }
+    ensures prefix { IfErr result (λ fault. PrintedUpTo S.called S.state out.old out.new (told_lines show tail.now rec.now) fault) }
     ensures cause { HasCause (S.state out.old).faults (S.state out.new).faults result }
 {
     if is_always_shown(rec) {
         counts.count(rec);
-        return print_record(rec, out);
+        return print_behind_tail(show.tail, tail, rec, out);
     }
-    if all {
+    if show.all {
         return print_record(rec, out);
     }
     Ok(())
+}
+
+/// Prints the lines of the last instructions, if a fault's is next and they are shown, and then a record's.
+#[cold]
+#[inline(never)]
+fn print_behind_tail<S: Sink>(
+    shown: bool,
+    tail: &Tail,
+    rec: &Record,
+    out: &mut S,
+) -> Result<(), SinkFault>
+    requires { HasLine rec.now }
+    ensures whole { OnOk result (Printed S.called S.state out.old out.new (tail_lines shown tail.now rec.now ++ record_text rec.now ∷ [])) }
+    ensures prefix { IfErr result (λ fault. PrintedUpTo S.called S.state out.old out.new (tail_lines shown tail.now rec.now ++ record_text rec.now ∷ []) fault) }
+    ensures cause { HasCause (S.state out.old).faults (S.state out.new).faults result }
+{
+    match print_before(shown, tail, rec, out) {
+        Ok(()) => {}
+        Err(fault) => return Err(fault),
+    }
+    match print_record(rec, out) {
+        Ok(()) => Ok(()),
+        Err(fault) => Err(fault),
+    }
 }
 
 /// Prints a record's line. It stands alone, so that a step without one doesn't pay for the line's room.

@@ -1,8 +1,9 @@
 //! A run, with its lines.
 
-ghost use Rattle.std.specs.Prelude.{◌≡◌, ◌<◌, ◌≤◌, ◌+◌, ℕ, List, ◌++◌, codes, decimal, IfOk, IfErr, OnOk};
+ghost use Rattle.std.specs.Prelude.{◌≡◌, ◌<◌, ◌≤◌, ◌+◌, ℕ, List, [], ◌∷◌, ◌++◌, codes, decimal, IfOk, IfErr, OnOk};
 ghost use Rattle.edge_io.specs.Causes.{HasCause};
 ghost use Rattle.load_model.specs.Loading.{Loadable};
+ghost use Rattle.trace_model.specs.declared.records.Record.{Record};
 ghost use Rattle.trace_model.specs.declared.scripts.Script.{Script as ScriptOf};
 ghost use Rattle.trace_model.specs.Scripts.{IsScript};
 ghost use Rattle.trace_model.specs.Texts.{end_of_line};
@@ -10,9 +11,10 @@ ghost use Rattle.node_model.specs.Systems.{System};
 ghost use Rattle.node_model.specs.Sound.{IsSound};
 ghost use Rattle.node_model.specs.Runs.{is_quiet, next, run, Run};
 ghost use Rattle.node_model.specs.Nodes.{most_steps, IsSoundNode, reason_text, IsEnd, Parts, Represents, RunLaw};
-ghost use Rattle.retos_node.specs.Parts.{parts, HoldLocks, IsRunEnd};
+ghost use Rattle.retos_node.specs.Parts.{parts, HoldLocks, HoldsLast, IsRunEnd};
 ghost use Rattle.retos_node.specs.Readiness.{IsReady};
-ghost use Rattle.retos_node.specs.Printing.{Printed, PrintedUpTo, shown_line, shown_lines};
+ghost use Rattle.retos_node.specs.Printing.{Printed, PrintedUpTo, shown_lines, told_lines};
+ghost use Rattle.retos_node.specs.Tails.{kept_of};
 ghost use Rattle.retos_node.specs.Underway.{AreWithin, IsNext, HasReached, HasEnded};
 
 use crate::lines::of_end;
@@ -97,13 +99,15 @@ pub(crate) fn run_steps<S: Sink>(
     out: &mut S,
 ) -> Result<Ended, SinkFault>
     requires first { (node.old).steps ≡ 0 }
+    requires fresh { (node.old).tail ≡ [] }
     requires limit { limit ≤ most_steps }
     requires script { IsScript script.now }
     requires sound { IsSoundNode (parts node.old) objects.now }
     ensures ended { IfOk result (λ ended. (s : System) → Represents (parts node.old) objects.now s → IsSound s → HasEnded objects.now limit script.now s (parts node.new) ended.quiet ended.counts) }
-    ensures whole { OnOk result ((s : System) → Represents (parts node.old) objects.now s → IsSound s → Printed S.called S.state out.old out.new (shown_lines (node.old).show.all (run limit script.now s).records)) }
+    ensures whole { OnOk result ((s : System) → Represents (parts node.old) objects.now s → IsSound s → Printed S.called S.state out.old out.new (shown_lines (node.old).show (run limit script.now s).records)) }
     ensures reached { (s : System) → Represents (parts node.old) objects.now s → IsSound s → HasReached objects.now limit script.now s (parts node.new) }
-    ensures prefix { IfErr result (λ fault. (s : System) → Represents (parts node.old) objects.now s → IsSound s → PrintedUpTo S.called S.state out.old out.new (shown_lines (node.old).show.all (run limit script.now s).records) fault) }
+    ensures holds { HoldsLast node.old node.new objects.now script.now }
+    ensures prefix { IfErr result (λ fault. (s : System) → Represents (parts node.old) objects.now s → IsSound s → PrintedUpTo S.called S.state out.old out.new (shown_lines (node.old).show (run limit script.now s).records) fault) }
     ensures cause { HasCause (S.state out.old).faults (S.state out.new).faults result }
     ensures sound { IsSoundNode (parts node.new) objects.now }
 {
@@ -142,14 +146,15 @@ fn turn<S: Sink>(
     ensures within { AreWithin (node.new).steps counts.new }
     ensures made { (node.new).steps ≡ (node.old).steps + 1 }
     ensures show { (node.new).show ≡ (node.old).show }
+    ensures holds { (s : System) (made : List Record) → Represents (parts node.old) objects.now s → IsSound s → (node.old).tail ≡ kept_of (node.old).show made → (node.new).tail ≡ kept_of (node.old).show (made ++ (next script.now s).shown ∷ []) }
     ensures next { (s : System) → Represents (parts node.old) objects.now s → IsSound s → IsNext script.now s objects.now (parts node.new) counts.old counts.new }
-    ensures whole { OnOk result ((s : System) → Represents (parts node.old) objects.now s → IsSound s → Printed S.called S.state out.old out.new (shown_line (node.old).show.all (next script.now s).shown)) }
-    ensures prefix { IfErr result (λ fault. (s : System) → Represents (parts node.old) objects.now s → IsSound s → PrintedUpTo S.called S.state out.old out.new (shown_line (node.old).show.all (next script.now s).shown) fault) }
+    ensures whole { OnOk result ((s : System) → Represents (parts node.old) objects.now s → IsSound s → Printed S.called S.state out.old out.new (told_lines (node.old).show (node.old).tail (next script.now s).shown)) }
+    ensures prefix { IfErr result (λ fault. (s : System) → Represents (parts node.old) objects.now s → IsSound s → PrintedUpTo S.called S.state out.old out.new (told_lines (node.old).show (node.old).tail (next script.now s).shown) fault) }
     ensures cause { HasCause (S.state out.old).faults (S.state out.new).faults result }
 {
     let stimulus = schedule.next(script, node.steps);
     let record = node.step(stimulus.raised, stimulus.pick, objects);
-    match tell(node.show.all, &record, counts, out) {
+    match tell(node.show, &node.tail, &record, counts, out) {
         Ok(()) => Ok(()),
         Err(fault) => Err(fault),
     }

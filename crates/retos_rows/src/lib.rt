@@ -2,11 +2,14 @@
 //!
 //! Nothing but tests stands here. They call `retos` (`retos_cli`) alone, so that crate isn't proved a second time for them.
 //! `command_rows` has words, refusals and failing devices, `check_rows`, `solo_rows`, `run_rows`, `asm_rows` and `insert_rows` a
-//! command each, `system_rows` the system's own files. What they leave comes from outside of the program.
+//! command each, `tail_rows` the option `--tail`, `attack_rows` programs that leave their stack, `system_rows` the system's
+//! own files. What they leave comes from outside of the program.
 #![tactic(auto)]
 
 #[cfg(test)]
 mod asm_rows;
+#[cfg(test)]
+mod attack_rows;
 #[cfg(test)]
 mod check_rows;
 #[cfg(test)]
@@ -19,5 +22,7 @@ mod run_rows;
 mod solo_rows;
 #[cfg(test)]
 mod system_rows;
+#[cfg(test)]
+mod tail_rows;
 #[cfg(test)]
 mod test_support;

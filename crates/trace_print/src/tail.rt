@@ -1,6 +1,6 @@
 //! The last instructions of a run.
 
-ghost use Rattle.std.specs.Prelude.{◌≡◌, ◌∷◌, ◌++◌, [], List, IsTrue, IsFalse, slice_get, length, IfOk};
+ghost use Rattle.std.specs.Prelude.{◌≡◌, ◌∷◌, ◌++◌, [], List, IsTrue, IsFalse, slice_get, length, ◌<◌, IfOk, IfSome};
 ghost use Rattle.std.specs.Option.{option_map};
 ghost use Rattle.trace_model.specs.declared.records.Record.{Record};
 ghost use Rattle.trace_model.specs.Texts.{is_instr, last_instrs, record_text, tail_length};
@@ -73,7 +73,8 @@ impl Tail {
 
     /// The line of the record at a place, the oldest at 0. None exactly past the last.
     pub fn lines(&self, at: usize) -> Option<Line>
-        ensures { result ≡ option_map record_text (slice_get self.now at) }
+        ensures line { result ≡ option_map record_text (slice_get self.now at) }
+        ensures few { IfSome result (λ line. at < TAIL_LENGTH) }
     {
         match self.kept.get(at) {
             None => None,

@@ -1,4 +1,4 @@
-use Rattle.std.proofs.Common.{◌≡◌, ◌+◌, ◌≤◌, arith, sym}
+use Rattle.std.proofs.Common.{◌+◌, ◌≤◌, arith}
 use Rattle.node_model.specs.Nodes.{IsSoundRun}
 use Rattle.node_model.specs.Runs.{run}
 use Rattle.retos_node.proofs.SoundRuns.{sound_last}

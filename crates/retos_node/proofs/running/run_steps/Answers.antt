@@ -1,12 +1,13 @@
-use Rattle.std.proofs.Common.{◌≡◌, List, ◌++◌, ℕ, Bool, false, refl, sym, ◌∙◌, ap, subst, arith}
+use Rattle.std.proofs.Common.{◌≡◌, List, ℕ, false, refl, sym, ◌∙◌, subst, arith}
 use Rattle.node_model.specs.Runs.{run, next}
 use Rattle.retos_node.specs.declared.running.Counts.{Counts}
-use Rattle.retos_node.specs.declared.node.Show.{Show}
 use Rattle.retos_node.specs.Parts.{parts}
 use Rattle.retos_node.specs.Readiness.{IsReady}
-use Rattle.retos_node.specs.Printing.{Printed, PrintedUpTo, shown_line, shown_lines}
-use Rattle.retos_node.proofs.Writing.{printed_none, printed_then, cut_after, cut_within}
-use Rattle.retos_node.proofs.Course.{course_start, course_more, reached, over_quiet, over_limit, ended, told_all, lines_within, lines_more, no_lines}
+use Rattle.retos_node.specs.Printing.{Printed, shown_lines}
+use Rattle.retos_node.specs.Tails.{AreTold, kept_of}
+use Rattle.retos_node.proofs.Writing.{printed_none}
+use Rattle.retos_node.proofs.Keeping.{told_more, told_cut, holds_more}
+use Rattle.retos_node.proofs.Course.{course_start, course_more, reached, over_quiet, over_limit, ended, told_all, kept_so_far, lines_within, none_kept, no_lines}
 use Rattle.retos_node.proofs.running.run_steps.Goals as goal
 
 pub loop-quiet-init : goal.loop-quiet-init
@@ -14,9 +15,12 @@ loop-quiet-init g c =
     let none : Counts = record { emits = 0; faults = 0 } in
     record {
       runs = λ s r h.
-          course_start c.args.objects.now c.args.limit c.args.script.now s (parts c.args.node.now) none (λ made. Printed g.S.Sink.called g.S.Sink.state c.args.out.now c.args.out.now (shown_lines c.args.node.now.show.all made))
+          course_start c.args.objects.now c.args.limit c.args.script.now s (parts c.args.node.now) none (λ made. AreTold g.S.Sink.called g.S.Sink.state c.args.out.now c.args.out.now c.args.node.now.show c.args.node.now.tail made)
           c.requires.first r h refl refl
-          (subst (λ (l : List (List ℕ)). Printed g.S.Sink.called g.S.Sink.state c.args.out.now c.args.out.now l) (sym (no_lines c.args.node.now.show.all)) (printed_none g.S.Sink.called g.S.Sink.state c.args.out.now));
+          (record {
+            printed = subst (λ (l : List (List ℕ)). Printed g.S.Sink.called g.S.Sink.state c.args.out.now c.args.out.now l) (sym (no_lines c.args.node.now.show)) (printed_none g.S.Sink.called g.S.Sink.state c.args.out.now);
+            holds = c.requires.fresh ∙ none_kept c.args.node.now.show;
+          });
       quiet = c.is_quiet-quiet.ensures;
       ready = subst (λ n. IsReady c.args.script.now n c.new-schedule.result) (sym c.requires.first) c.new-schedule.ensures;
       sound = c.requires.sound;
@@ -29,19 +33,17 @@ loop-quiet-init g c =
 pub loop-quiet-preserved : goal.loop-quiet-preserved
 loop-quiet-preserved g c =
     let off : c.loop-quiet.quiet ≡ false = c.loop-quiet-test.true in
-    let all : c.loop-quiet.node.show.all ≡ c.args.node.now.show.all = ap (λ (v : Show). v.all) c.loop-quiet.invariant.show in
+    let show : c.loop-quiet.node.show ≡ c.args.node.now.show = c.loop-quiet.invariant.show in
     record {
       runs = λ s r h.
           let u = c.loop-quiet.invariant.runs s r h in
           course_more c.args.objects.now c.args.limit c.args.script.now s (parts c.loop-quiet.node) (parts c.turn.new.node) c.loop-quiet.counts c.turn.new.counts
-          (λ made. Printed g.S.Sink.called g.S.Sink.state c.args.out.now c.loop-quiet.out (shown_lines c.args.node.now.show.all made))
-          (λ made. Printed g.S.Sink.called g.S.Sink.state c.args.out.now c.turn.new.out (shown_lines c.args.node.now.show.all made)) u
+          (λ made. AreTold g.S.Sink.called g.S.Sink.state c.args.out.now c.loop-quiet.out c.args.node.now.show c.loop-quiet.node.tail made)
+          (λ made. AreTold g.S.Sink.called g.S.Sink.state c.args.out.now c.turn.new.out c.args.node.now.show c.turn.new.node.tail made) u
           (sym (c.loop-quiet.invariant.quiet u.now u.represents) ∙ off) c.if-node-limit.true c.turn.ensures.made
           (c.turn.ensures.next u.now u.represents u.sound)
-          (subst (λ (l : List (List ℕ)). Printed g.S.Sink.called g.S.Sink.state c.args.out.now c.turn.new.out l) (lines_more c.args.node.now.show.all u.made (next c.args.script.now u.now).shown)
-          (printed_then g.S.Sink.called g.S.Sink.state c.args.out.now c.loop-quiet.out c.turn.new.out (shown_lines c.args.node.now.show.all u.made) (shown_line c.args.node.now.show.all (next c.args.script.now u.now).shown) u.told
-          (subst (λ (b : Bool). Printed g.S.Sink.called g.S.Sink.state c.loop-quiet.out c.turn.new.out (shown_line b (next c.args.script.now u.now).shown)) all
-          (c.in-Ok.ensures.whole u.now u.represents u.sound))));
+          (told_more g.S.Sink.called g.S.Sink.state c.args.out.now c.loop-quiet.out c.turn.new.out c.args.node.now.show c.loop-quiet.node.show c.loop-quiet.node.tail c.turn.new.node.tail u.made (next c.args.script.now u.now).shown show u.told
+          (c.in-Ok.ensures.whole u.now u.represents u.sound) (c.turn.ensures.holds u.now u.made u.represents u.sound));
       quiet = c.is_quiet-quiet-in-loop-quiet.ensures;
       ready = c.turn.ensures.ready;
       sound = c.turn.ensures.sound;
@@ -57,51 +59,68 @@ returns-in-Err-clause-reached g c = λ s r h.
     let u = c.loop-quiet.invariant.runs s r h in
     reached c.args.objects.now c.args.limit c.args.script.now s (parts c.turn.new.node) c.turn.new.counts (λ made. Unit {0})
     (course_more c.args.objects.now c.args.limit c.args.script.now s (parts c.loop-quiet.node) (parts c.turn.new.node) c.loop-quiet.counts c.turn.new.counts
-    (λ made. Printed g.S.Sink.called g.S.Sink.state c.args.out.now c.loop-quiet.out (shown_lines c.args.node.now.show.all made)) (λ made. Unit {0}) u
+    (λ made. AreTold g.S.Sink.called g.S.Sink.state c.args.out.now c.loop-quiet.out c.args.node.now.show c.loop-quiet.node.tail made) (λ made. Unit {0}) u
     (sym (c.loop-quiet.invariant.quiet u.now u.represents) ∙ off) c.if-node-limit.true c.turn.ensures.made
     (c.turn.ensures.next u.now u.represents u.sound) tt)
+
+pub returns-in-Err-clause-holds : goal.returns-in-Err-clause-holds
+returns-in-Err-clause-holds g c = λ s r h.
+    let off : c.loop-quiet.quiet ≡ false = c.loop-quiet-test.true in
+    let u = c.loop-quiet.invariant.runs s r h in
+    let more =
+    course_more c.args.objects.now c.args.limit c.args.script.now s (parts c.loop-quiet.node) (parts c.turn.new.node) c.loop-quiet.counts c.turn.new.counts
+    (λ made. AreTold g.S.Sink.called g.S.Sink.state c.args.out.now c.loop-quiet.out c.args.node.now.show c.loop-quiet.node.tail made)
+    (λ made. c.turn.new.node.tail ≡ kept_of c.args.node.now.show made) u
+    (sym (c.loop-quiet.invariant.quiet u.now u.represents) ∙ off) c.if-node-limit.true c.turn.ensures.made
+    (c.turn.ensures.next u.now u.represents u.sound)
+    (holds_more c.args.node.now.show c.loop-quiet.node.show c.loop-quiet.node.tail c.turn.new.node.tail u.made (next c.args.script.now u.now).shown c.loop-quiet.invariant.show u.told.holds
+    (c.turn.ensures.holds u.now u.made u.represents u.sound)) in
+    kept_so_far c.args.objects.now c.args.limit c.args.script.now s (parts c.turn.new.node) c.turn.new.counts
+    (λ made. c.turn.new.node.tail ≡ kept_of c.args.node.now.show made) c.args.node.now.show c.turn.new.node.tail more more.told
 
 pub returns-in-Err-clause-prefix : goal.returns-in-Err-clause-prefix
 returns-in-Err-clause-prefix g c = λ s r h.
     let off : c.loop-quiet.quiet ≡ false = c.loop-quiet-test.true in
-    let all : c.loop-quiet.node.show.all ≡ c.args.node.now.show.all = ap (λ (v : Show). v.all) c.loop-quiet.invariant.show in
     let u = c.loop-quiet.invariant.runs s r h in
     let rest =
     lines_within c.args.objects.now c.args.limit c.args.script.now s (parts c.loop-quiet.node) c.loop-quiet.counts
-    (λ made. Printed g.S.Sink.called g.S.Sink.state c.args.out.now c.loop-quiet.out (shown_lines c.args.node.now.show.all made)) c.args.node.now.show.all u
+    (λ made. AreTold g.S.Sink.called g.S.Sink.state c.args.out.now c.loop-quiet.out c.args.node.now.show c.loop-quiet.node.tail made) c.args.node.now.show u
     (sym (c.loop-quiet.invariant.quiet u.now u.represents) ∙ off) c.if-node-limit.true in
-    cut_within g.S.Sink.called g.S.Sink.state c.args.out.now c.turn.new.out (shown_lines c.args.node.now.show.all u.made ++ shown_line c.args.node.now.show.all (next c.args.script.now u.now).shown) rest.0
-    (shown_lines c.args.node.now.show.all (run c.args.limit c.args.script.now s).records) c.in-Err.fault
-    (cut_after g.S.Sink.called g.S.Sink.state c.args.out.now c.loop-quiet.out c.turn.new.out (shown_lines c.args.node.now.show.all u.made) (shown_line c.args.node.now.show.all (next c.args.script.now u.now).shown) c.in-Err.fault u.told
-    (subst (λ (b : Bool). PrintedUpTo g.S.Sink.called g.S.Sink.state c.loop-quiet.out c.turn.new.out (shown_line b (next c.args.script.now u.now).shown) c.in-Err.fault) all
-    (c.in-Err.ensures.prefix u.now u.represents u.sound)))
-    rest.1
+    told_cut g.S.Sink.called g.S.Sink.state c.args.out.now c.loop-quiet.out c.turn.new.out c.args.node.now.show c.loop-quiet.node.show c.loop-quiet.node.tail u.made (next c.args.script.now u.now).shown c.in-Err.fault
+    (shown_lines c.args.node.now.show (run c.args.limit c.args.script.now s).records) c.loop-quiet.invariant.show u.told
+    (c.in-Err.ensures.prefix u.now u.represents u.sound) rest
 
 pub returns-else-node-limit-clause-ended : goal.returns-else-node-limit-clause-ended
 returns-else-node-limit-clause-ended g c = λ s r h.
     let u = c.loop-quiet.invariant.runs s r h in
     ended c.args.objects.now c.args.limit c.args.script.now s (parts c.loop-quiet.node) c.loop-quiet.counts
-    (λ made. Printed g.S.Sink.called g.S.Sink.state c.args.out.now c.loop-quiet.out (shown_lines c.args.node.now.show.all made)) c.loop-quiet.quiet u
+    (λ made. AreTold g.S.Sink.called g.S.Sink.state c.args.out.now c.loop-quiet.out c.args.node.now.show c.loop-quiet.node.tail made) c.loop-quiet.quiet u
     (c.loop-quiet.invariant.quiet u.now u.represents)
     (over_limit c.args.limit c.args.script.now u.now c.loop-quiet.node.steps (omega (arith, c.if-node-limit.false)))
 
 pub returns-else-node-limit-clause-whole : goal.returns-else-node-limit-clause-whole
 returns-else-node-limit-clause-whole g c = λ s r h.
     let u = c.loop-quiet.invariant.runs s r h in
-    told_all c.args.objects.now c.args.limit c.args.script.now s (parts c.loop-quiet.node) c.loop-quiet.counts
-    (λ made. Printed g.S.Sink.called g.S.Sink.state c.args.out.now c.loop-quiet.out (shown_lines c.args.node.now.show.all made)) u
-    (over_limit c.args.limit c.args.script.now u.now c.loop-quiet.node.steps (omega (arith, c.if-node-limit.false)))
+    (told_all c.args.objects.now c.args.limit c.args.script.now s (parts c.loop-quiet.node) c.loop-quiet.counts
+    (λ made. AreTold g.S.Sink.called g.S.Sink.state c.args.out.now c.loop-quiet.out c.args.node.now.show c.loop-quiet.node.tail made) u
+    (over_limit c.args.limit c.args.script.now u.now c.loop-quiet.node.steps (omega (arith, c.if-node-limit.false)))).printed
 
 pub returns-else-node-limit-clause-reached : goal.returns-else-node-limit-clause-reached
 returns-else-node-limit-clause-reached g c = λ s r h.
     reached c.args.objects.now c.args.limit c.args.script.now s (parts c.loop-quiet.node) c.loop-quiet.counts
-    (λ made. Printed g.S.Sink.called g.S.Sink.state c.args.out.now c.loop-quiet.out (shown_lines c.args.node.now.show.all made)) (c.loop-quiet.invariant.runs s r h)
+    (λ made. AreTold g.S.Sink.called g.S.Sink.state c.args.out.now c.loop-quiet.out c.args.node.now.show c.loop-quiet.node.tail made) (c.loop-quiet.invariant.runs s r h)
+
+pub returns-else-node-limit-clause-holds : goal.returns-else-node-limit-clause-holds
+returns-else-node-limit-clause-holds g c = λ s r h.
+    let u = c.loop-quiet.invariant.runs s r h in
+    kept_so_far c.args.objects.now c.args.limit c.args.script.now s (parts c.loop-quiet.node) c.loop-quiet.counts
+    (λ made. AreTold g.S.Sink.called g.S.Sink.state c.args.out.now c.loop-quiet.out c.args.node.now.show c.loop-quiet.node.tail made) c.args.node.now.show c.loop-quiet.node.tail u u.told.holds
 
 pub returns-after-loop-quiet-clause-ended : goal.returns-after-loop-quiet-clause-ended
 returns-after-loop-quiet-clause-ended g c = λ s r h.
     let u = c.loop-quiet.invariant.runs s r h in
     ended c.args.objects.now c.args.limit c.args.script.now s (parts c.loop-quiet.node) c.loop-quiet.counts
-    (λ made. Printed g.S.Sink.called g.S.Sink.state c.args.out.now c.loop-quiet.out (shown_lines c.args.node.now.show.all made)) c.loop-quiet.quiet u
+    (λ made. AreTold g.S.Sink.called g.S.Sink.state c.args.out.now c.loop-quiet.out c.args.node.now.show c.loop-quiet.node.tail made) c.loop-quiet.quiet u
     (c.loop-quiet.invariant.quiet u.now u.represents)
     (over_quiet c.args.limit c.args.script.now u.now c.loop-quiet.node.steps
     (sym (c.loop-quiet.invariant.quiet u.now u.represents)
@@ -110,13 +129,19 @@ returns-after-loop-quiet-clause-ended g c = λ s r h.
 pub returns-after-loop-quiet-clause-whole : goal.returns-after-loop-quiet-clause-whole
 returns-after-loop-quiet-clause-whole g c = λ s r h.
     let u = c.loop-quiet.invariant.runs s r h in
-    told_all c.args.objects.now c.args.limit c.args.script.now s (parts c.loop-quiet.node) c.loop-quiet.counts
-    (λ made. Printed g.S.Sink.called g.S.Sink.state c.args.out.now c.loop-quiet.out (shown_lines c.args.node.now.show.all made)) u
+    (told_all c.args.objects.now c.args.limit c.args.script.now s (parts c.loop-quiet.node) c.loop-quiet.counts
+    (λ made. AreTold g.S.Sink.called g.S.Sink.state c.args.out.now c.loop-quiet.out c.args.node.now.show c.loop-quiet.node.tail made) u
     (over_quiet c.args.limit c.args.script.now u.now c.loop-quiet.node.steps
     (sym (c.loop-quiet.invariant.quiet u.now u.represents)
-    ∙ c.loop-quiet-test.false))
+    ∙ c.loop-quiet-test.false))).printed
 
 pub returns-after-loop-quiet-clause-reached : goal.returns-after-loop-quiet-clause-reached
 returns-after-loop-quiet-clause-reached g c = λ s r h.
     reached c.args.objects.now c.args.limit c.args.script.now s (parts c.loop-quiet.node) c.loop-quiet.counts
-    (λ made. Printed g.S.Sink.called g.S.Sink.state c.args.out.now c.loop-quiet.out (shown_lines c.args.node.now.show.all made)) (c.loop-quiet.invariant.runs s r h)
+    (λ made. AreTold g.S.Sink.called g.S.Sink.state c.args.out.now c.loop-quiet.out c.args.node.now.show c.loop-quiet.node.tail made) (c.loop-quiet.invariant.runs s r h)
+
+pub returns-after-loop-quiet-clause-holds : goal.returns-after-loop-quiet-clause-holds
+returns-after-loop-quiet-clause-holds g c = λ s r h.
+    let u = c.loop-quiet.invariant.runs s r h in
+    kept_so_far c.args.objects.now c.args.limit c.args.script.now s (parts c.loop-quiet.node) c.loop-quiet.counts
+    (λ made. AreTold g.S.Sink.called g.S.Sink.state c.args.out.now c.loop-quiet.out c.args.node.now.show c.loop-quiet.node.tail made) c.args.node.now.show c.loop-quiet.node.tail u u.told.holds

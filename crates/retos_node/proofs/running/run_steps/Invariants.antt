@@ -5,7 +5,7 @@ use Rattle.node_model.specs.Runs.{is_quiet}
 use Rattle.node_model.specs.Nodes.{IsSoundNode, Represents}
 use Rattle.retos_node.specs.Parts.{parts}
 use Rattle.retos_node.specs.Readiness.{IsReady}
-use Rattle.retos_node.specs.Printing.{Printed, shown_lines}
+use Rattle.retos_node.specs.Tails.{AreTold}
 use Rattle.retos_node.specs.Underway.{AreWithin, IsUnderWay}
 use Rattle.retos_node.proofs.running.run_steps.Given as goal
 
@@ -13,7 +13,7 @@ abbrev pub invariant-loop-quiet : goal.invariant-loop-quiet
 invariant-loop-quiet g l = record {
   runs : (s : System) → Represents (parts l.initial.node) l.objects s → IsSound s
       → IsUnderWay l.objects l.limit l.script s (parts l.node) l.counts
-      (λ made. Printed g.S.Sink.called g.S.Sink.state l.initial.out l.out (shown_lines l.initial.node.show.all made));
+      (λ made. AreTold g.S.Sink.called g.S.Sink.state l.initial.out l.out l.initial.node.show l.node.tail made);
   quiet : (s : System) → Represents (parts l.node) l.objects s → l.quiet ≡ is_quiet l.script s;
   ready : IsReady l.script l.node.steps l.schedule;
   sound : IsSoundNode (parts l.node) l.objects;

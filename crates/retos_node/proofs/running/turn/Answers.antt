@@ -1,10 +1,11 @@
-use Rattle.std.proofs.Common.{List, ℕ, subst, ap}
+use Rattle.std.proofs.Common.{List, [], ◌∷◌, ◌++◌, ℕ, subst, ap, ◌∙◌}
+use Rattle.trace_model.specs.declared.records.Record.{Record}
 use Rattle.node_model.specs.Nodes.{system_of}
 use Rattle.node_model.specs.Runs.{next}
-use Rattle.retos_node.specs.declared.node.Show.{Show}
 use Rattle.retos_node.specs.Parts.{parts}
 use Rattle.retos_node.specs.Printing.{Printed, PrintedUpTo}
-use Rattle.retos_node.proofs.Course.{stepped_next, told_has_line, told_line, next_counted}
+use Rattle.retos_node.specs.Tails.{kept_of}
+use Rattle.retos_node.proofs.Course.{stepped_next, told_has_line, told_behind, next_counted}
 use Rattle.retos_node.proofs.running.turn.Goals as goal
 
 pub tell-requires-clause-line : goal.tell-requires-clause-line
@@ -28,8 +29,8 @@ returns-in-Err-clause-next g c = λ s r h.
 pub returns-in-Ok-clause-whole : goal.returns-in-Ok-clause-whole
 returns-in-Ok-clause-whole g c = λ s r h.
     subst (λ (l : List (List ℕ)). Printed g.S.Sink.called g.S.Sink.state c.args.out.now c.tell.new.out l)
-    (told_line c.step-record.new.self.show.all c.args.node.now.show.all c.step-record.result (next c.args.script.now s).shown
-    (ap (λ (v : Show). v.all) c.step-record.ensures.same.1)
+    (told_behind c.args.node.now.show c.step-record.new.self.show c.args.node.now.tail c.step-record.new.self.tail c.step-record.result (next c.args.script.now s).shown
+    c.step-record.ensures.same.1 c.step-record.ensures.kept
     (stepped_next c.args.script.now (parts c.args.node.now) (parts c.step-record.new.self) c.args.objects.now s
     c.next-stimulus.result.raised c.next-stimulus.result.pick c.step-record.result c.step-record.ensures.step
     c.next-stimulus.ensures.raised c.next-stimulus.ensures.pick r h).shown)
@@ -38,9 +39,25 @@ returns-in-Ok-clause-whole g c = λ s r h.
 pub returns-in-Err-clause-prefix : goal.returns-in-Err-clause-prefix
 returns-in-Err-clause-prefix g c = λ s r h.
     subst (λ (l : List (List ℕ)). PrintedUpTo g.S.Sink.called g.S.Sink.state c.args.out.now c.tell.new.out l c.in-Err.fault)
-    (told_line c.step-record.new.self.show.all c.args.node.now.show.all c.step-record.result (next c.args.script.now s).shown
-    (ap (λ (v : Show). v.all) c.step-record.ensures.same.1)
+    (told_behind c.args.node.now.show c.step-record.new.self.show c.args.node.now.tail c.step-record.new.self.tail c.step-record.result (next c.args.script.now s).shown
+    c.step-record.ensures.same.1 c.step-record.ensures.kept
     (stepped_next c.args.script.now (parts c.args.node.now) (parts c.step-record.new.self) c.args.objects.now s
     c.next-stimulus.result.raised c.next-stimulus.result.pick c.step-record.result c.step-record.ensures.step
     c.next-stimulus.ensures.raised c.next-stimulus.ensures.pick r h).shown)
     c.in-Err.ensures.prefix
+
+pub returns-in-Ok-clause-holds : goal.returns-in-Ok-clause-holds
+returns-in-Ok-clause-holds g c = λ s made r h e.
+    c.step-record.ensures.holds made e
+    ∙ ap (λ (x : Record). kept_of c.args.node.now.show (made ++ x ∷ []))
+    (stepped_next c.args.script.now (parts c.args.node.now) (parts c.step-record.new.self) c.args.objects.now s
+    c.next-stimulus.result.raised c.next-stimulus.result.pick c.step-record.result c.step-record.ensures.step
+    c.next-stimulus.ensures.raised c.next-stimulus.ensures.pick r h).shown
+
+pub returns-in-Err-clause-holds : goal.returns-in-Err-clause-holds
+returns-in-Err-clause-holds g c = λ s made r h e.
+    c.step-record.ensures.holds made e
+    ∙ ap (λ (x : Record). kept_of c.args.node.now.show (made ++ x ∷ []))
+    (stepped_next c.args.script.now (parts c.args.node.now) (parts c.step-record.new.self) c.args.objects.now s
+    c.next-stimulus.result.raised c.next-stimulus.result.pick c.step-record.result c.step-record.ensures.step
+    c.next-stimulus.ensures.raised c.next-stimulus.ensures.pick r h).shown
