@@ -212,9 +212,9 @@ booted-by : (n : Parts) (os : List Loadable) (b : Result System Refusal) → Boo
 booted-by n os (Ok s) h = record { system = s; boots = refl; represents = h.0; sound = h.1 }
 booted-by n os (Err e) h = absurd h
 
-end-faults : (t : Script) (r : Made) (end : End) → IsRunEnd t r end → faults_of end ≡ faults r
-end-faults t r (Limit n e f) h = h.fault_count
-end-faults t r (Quiet n e f) h = h.fault_count
+pub end_faults : (t : Script) (r : Made) (end : End) → IsRunEnd t r end → faults_of end ≡ faults r
+end_faults t r (Limit n e f) h = h.fault_count
+end_faults t r (Quiet n e f) h = h.fault_count
 
 abbrev shown-text : Show → Job → Script → List Loadable → System → List ℕ
 shown-text show job t os s = trace_text show.all false (length os) t s (run job.steps t s)
@@ -228,7 +228,7 @@ traced old new os job t o0 o1 end n b w h e =
       system = k.system;
       boots = k.boots;
       trace = r.2 ∙ ap (λ (show : Show). appended o0.bytes (shown-text show job t os k.system)) w;
-      faulted_is = ap (λ (j : ℕ). nat_lt 0 j) (e ∙ end-faults t (run job.steps t k.system) end r.0);
+      faulted_is = ap (λ (j : ℕ). nat_lt 0 j) (e ∙ end_faults t (run job.steps t k.system) end r.0);
     }
 
 pub trace_cut : (old new : Node) (os : List Loadable) (job : Job) (t : Script) (o0 o1 : SinkState)

@@ -1,8 +1,8 @@
 //! Rows: commands over files and streams in memory, with what each has to leave on out and on err, and its status.
 //!
 //! Nothing but tests stands here. They call `retos` (`retos_cli`) alone, so that crate isn't proved a second time for them.
-//! `command_rows` has words, refusals and failing devices, `check_rows`, `solo_rows`, `run_rows`, `asm_rows` and `insert_rows` a
-//! command each, `system_rows` the system's own files. What they leave comes from outside of the program.
+//! `command_rows` has words, refusals and failing devices, `check_rows`, `solo_rows`, `run_rows`, `asm_rows`, `insert_rows` and
+//! `gen_rows` a command each, `system_rows` the system's own files. What they leave comes from outside of the program.
 #![tactic(auto)]
 
 #[cfg(test)]
@@ -11,6 +11,8 @@ mod asm_rows;
 mod check_rows;
 #[cfg(test)]
 mod command_rows;
+#[cfg(test)]
+mod gen_rows;
 #[cfg(test)]
 mod insert_rows;
 #[cfg(test)]
