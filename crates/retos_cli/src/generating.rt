@@ -11,7 +11,7 @@ ghost use Rattle.retos_cli.specs.Generating.{IsGuardedAlone, HasRun, IsMade};
 ghost use Rattle.retos_cli.specs.declared.command.Command.TheVariants.{Gen};
 
 use super::counted::{count_units, count_words};
-use super::lines::of_generated;
+use super::lines::{of_end, of_generated};
 use super::outcome::{Outcome, Stop};
 use super::running::{faults_of, no_script};
 use super::writing::put_lines;
@@ -83,7 +83,7 @@ fn put_made<F: Folder, O: Sink>(
         made.objects.object(0),
         made.objects.marks(0),
     );
-    let last = made.end.line();
+    let last = of_end(made.end);
     match put_lines(files, to, made.text.as_slice(), &first, &last, out) {
         Ok(()) => Outcome::Done(faults_of(made.end) > 0),
         Err(_) => Outcome::WriteFault,

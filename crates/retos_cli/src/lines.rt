@@ -3,6 +3,10 @@
 ghost use Rattle.std.specs.Prelude.{◌≡◌, ◌+◌, ◌≤◌, ◌++◌, length, codes, decimal};
 ghost use Rattle.retos_cli.specs.Lines.{words_line, write_line, memory_line, read_line, refused_line, room_text, why_text, form_word, asm_word, insert_word};
 ghost use Rattle.line_text.specs.Hexadecimal.{hex_word};
+ghost use Rattle.trace_model.specs.declared.scripts.Script.{Script as ScriptOf};
+ghost use Rattle.node_model.specs.Runs.{Run};
+ghost use Rattle.node_model.specs.Nodes.{end_line};
+ghost use Rattle.retos_node.specs.Parts.{IsRunEnd};
 
 use super::outcome::{Refused, Why};
 use asm_model::fault::AsmKind;
@@ -11,6 +15,7 @@ use insert_model::fault::InsertKind;
 use line_text::line::Line;
 use object_form::fault::FormKind;
 use place_model::places::NoRoom;
+use retos_node::End;
 
 /// A line of fixed words.
 fn fixed(text: &[u8]) -> Line
@@ -274,6 +279,40 @@ pub fn of_generated(seed: u32, source_words: u32, words: u32, units: u32) -> Lin
     line.push_decimal(words);
     line.push_text(b" words, units ");
     line.push_decimal(units);
+    line.push(b'\n');
+    line
+}
+
+/// The last line of a run with this end.
+pub fn of_end(end: End) -> Line
+    ensures { (t : ScriptOf) (r : Run) → IsRunEnd t r end → result ≡ end_line t r }
+{
+    match end {
+        End::Limit {
+            steps,
+            emits,
+            faults,
+        } => of_counts(b"end limit ", steps, emits, faults),
+        End::Quiet {
+            steps,
+            emits,
+            faults,
+        } => of_counts(b"end quiet ", steps, emits, faults),
+    }
+}
+
+/// How a run ended, with its steps, printed values and faults.
+fn of_counts(reason: &[u8], steps: u32, emits: u32, faults: u32) -> Line
+    requires { length reason.now ≤ 10 }
+    ensures { result ≡ reason.now ++ decimal steps ++ codes " emits " ++ decimal emits ++ codes " faults " ++ decimal faults ++ codes "\n" }
+{
+    let mut line = Line::new();
+    line.push_text(reason);
+    line.push_decimal(steps);
+    line.push_text(b" emits ");
+    line.push_decimal(emits);
+    line.push_text(b" faults ");
+    line.push_decimal(faults);
     line.push(b'\n');
     line
 }
