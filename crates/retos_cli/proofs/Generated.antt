@@ -5,23 +5,27 @@ use Rattle.edge_io.specs.Known.{Files, FolderState, SinkState, appended, put}
 use Rattle.code_model.specs.declared.object.Object.{Object}
 use Rattle.object_form.specs.Spelling.{object_bytes}
 use Rattle.load_model.specs.Loading.{Loadable}
+use Rattle.trace_model.specs.declared.scripts.Script.{Script}
 use Rattle.trace_model.specs.Grammar.{empty_script}
 use Rattle.node_model.specs.Systems.{System}
 use Rattle.node_model.specs.Runs.{faults}
 use Rattle.node_model.specs.Booting.{booted}
-use Rattle.node_model.specs.Nodes.{end_line}
+use Rattle.node_model.specs.Nodes.{Boots, end_line}
+use Rattle.retos_node.specs.declared.node.Node.{Node}
+use Rattle.retos_node.specs.declared.node.End.{End}
+use Rattle.retos_node.specs.Parts.{parts, RunsTo}
 use Rattle.retos_cli.specs.declared.command.Command.TheVariants.{Gen}
 use Rattle.retos_cli.specs.declared.generating.Made.{Made}
 use Rattle.retos_cli.specs.declared.outcome.Outcome.TheVariants.{Done, WriteFault}
 use Rattle.retos_cli.specs.Lines.{generated_line}
-use Rattle.retos_cli.specs.Meaning.{Output, IsOutput, generated_run, written}
+use Rattle.retos_cli.specs.Meaning.{Output, IsOutput, generated_steps, generated_run, written}
 use Rattle.retos_cli.specs.Ends.{Told, Ended, CutAt, FileCut}
 use Rattle.retos_cli.specs.Writing.{LineCut}
-use Rattle.retos_cli.specs.Generating.{IsMade}
+use Rattle.retos_cli.specs.Generating.{HasRun, IsMade}
 use Rattle.retos_cli.specs.Tracing.{faults_of}
 use Rattle.retos_cli.proofs.Told.{told_map, told_all}
 use Rattle.retos_cli.proofs.Sources.{put_over}
-use Rattle.retos_cli.proofs.Runs.{end_faults}
+use Rattle.retos_cli.proofs.Runs.{IsBooted, booted_by, end_faults}
 
 -- ---- the object of a list of one
 
@@ -36,6 +40,14 @@ object_alone os o q u e h = ap (λ (x : Loadable). x.object) (alone_is os o (rec
 
 pub units_alone : (os : List Loadable) (o : Loadable) (q : Object) (u : List ℕ) → os ≡ o ∷ [] → slice_get os 0 ≡ Some (record { object = q; units = u }) → u ≡ o.units
 units_alone os o q u e h = ap (λ (x : Loadable). x.units) (alone_is os o (record { object = q; units = u }) e h)
+
+-- ---- the run
+
+pub has_run : {o0 o1 : SinkState} (old new : Node) (os : List Loadable) (t : Script) (end : End) → Boots (parts old) os (booted os) → t ≡ empty_script → RunsTo old new os generated_steps t o0 o1 end → HasRun os end
+has_run {o0} {o1} old new os t end b e r =
+    let k : IsBooted (parts old) os (booted os) = booted_by (parts old) os (booted os) b in
+    let P : Script → Type 0 = λ u. RunsTo old new os generated_steps u o0 o1 end in
+    record { system = k.system; boots = k.boots; ends = (subst P e r k.system k.represents k.sound).0 }
 
 -- ---- the output
 

@@ -1,5 +1,5 @@
 -- A file, and then two lines, each by itself.
-use Rattle.std.proofs.Common.{◌≡◌, ℕ, ◌≤◌, List, ◌++◌, Some, Ok, Err, OnOk, OnErr, inl, ap, ◌∙◌, append_assoc}
+use Rattle.std.proofs.Common.{◌≡◌, ℕ, ◌≤◌, List, ◌++◌, Some, Ok, Err, OnOk, OnErr, inl, ap, subst, ◌∙◌, append_assoc}
 use Rattle.std.specs.declared.option.Option.{Option}
 use Rattle.std.specs.declared.result.Result.{Result}
 use Rattle.std.specs.FinMap.{insert}
@@ -40,12 +40,12 @@ module _ (f0 f1 : FolderState) (o0 o1 o2 : SinkState) (name bytes first second :
   }
 
   -- what the second came to
-  pub two_lines : (r : Result Unit SinkFault) → f1.files ≡ put f0.files name bytes → o1.bytes ≡ appended o0.bytes first → o0.faults ≤ o1.faults
-      → OnOk r (o2.bytes ≡ appended o1.bytes second) → OnErr r (GotPrefix o1.bytes o2.bytes second) → HasCause o1.faults o2.faults r
+  pub two_lines : (piece : List ℕ) → piece ≡ second → (r : Result Unit SinkFault) → f1.files ≡ put f0.files name bytes → o1.bytes ≡ appended o0.bytes first → o0.faults ≤ o1.faults
+      → OnOk r (o2.bytes ≡ appended o1.bytes piece) → OnErr r (GotPrefix o1.bytes o2.bytes piece) → HasCause o1.faults o2.faults r
       → FileThenLine f0 f1 o0 o2 name bytes (first ++ second) r
-  two_lines (Ok done) files out later whole cut cause = (files, whole ∙ ap (λ (o : Option (List ℕ)). appended o second) out ∙ appended_twice o0.bytes first second)
-  two_lines (Err e) files out later whole cut cause = record {
+  two_lines piece e (Ok done) files out later whole cut cause = (files, whole ∙ ap (λ (l : List ℕ). appended o1.bytes l) e ∙ ap (λ (o : Option (List ℕ)). appended o second) out ∙ appended_twice o0.bytes first second)
+  two_lines piece e (Err fault) files out later whole cut cause = record {
     cause = inl (rose_before o0.faults o1.faults o2.faults later cause.failed);
     left = told_all f0.files (λ m. FileCut name bytes (first ++ second) m f1.files o0.bytes o2.bytes)
-        (λ m t. OfLine (put_over f0.files f1.files m name bytes files t) (second-cut o0.bytes o1.bytes o2.bytes first second out cut));
+        (λ m t. OfLine (put_over f0.files f1.files m name bytes files t) (second-cut o0.bytes o1.bytes o2.bytes first second out (subst (λ (l : List ℕ). GotPrefix o1.bytes o2.bytes l) e cut)));
   }

@@ -1,6 +1,6 @@
 //! The command `gen`.
 
-ghost use Rattle.std.specs.Prelude.{◌≡◌, ℕ, ⊥, length, Err, IfOk};
+ghost use Rattle.std.specs.Prelude.{◌≡◌, ℕ, Err, IfOk};
 ghost use Rattle.edge_io.specs.Known.{MayCreate};
 ghost use Rattle.insert_model.specs.declared.fault.InsertKind.{InsertKind as Kind};
 ghost use Rattle.insert_model.specs.Faults.{IsFault};
