@@ -6,3 +6,4 @@ pub mod CleanBlocks
 pub mod MadeLines
 pub mod Growth
 pub mod Refusing
+pub mod Room

@@ -48,7 +48,7 @@ lines_have o ls k x c (j, l, h, e, p) = clean_has o l k (clean_at o ls l j c h e
 
 -- ---- relocations of code alone
 
-abbrev InCode : List Reloc → Type 0
+abbrev pub InCode : List Reloc → Type 0
 InCode [] = Unit {0}
 InCode (r ∷ rs) = (r.in_code ≡ true) × InCode rs
 
@@ -56,7 +56,7 @@ with_second : (at : ℕ) (k : Option RelKind) (rs : List Reloc) → InCode rs �
 with_second at None rs h = h
 with_second at (Some k) rs h = (refl, h)
 
-all_in_code : (at : ℕ) (bs : List Block) → InCode (relocs_from at bs)
+pub all_in_code : (at : ℕ) (bs : List Block) → InCode (relocs_from at bs)
 unfolding relocs_from
 all_in_code at [] = tt
 all_in_code at (b ∷ bs) = with_second at (second b) (relocs_from (at + length (words b)) bs) (all_in_code (at + length (words b)) bs)

@@ -1,10 +1,10 @@
 //! Laws of generated objects, for the layers above: each is used by calling it.
 //!
 //! `specs/Laws.antt` states them: the inserter never refuses the source object of a number, and what it makes of it has at
-//! most 7,664 words. `specs/Instructions.antt` has the instructions of each block.
+//! most 7,664 words and has room on an empty node. `specs/Instructions.antt` has the instructions of each block.
 #![tactic(auto)]
 
-ghost use Rattle.gen_laws.specs.Laws.{NeverRefused, StaysSmall};
+ghost use Rattle.gen_laws.specs.Laws.{NeverRefused, StaysSmall, HasRoom};
 
 use code_laws::one_stands;
 use insert_model::laws::line_stands;
@@ -20,6 +20,13 @@ pub fn never_refused()
 /// A generated object with its guards has at most 7,664 words.
 pub fn stays_small()
     ensures { StaysSmall }
+{
+    line_stands();
+}
+
+/// A generated object with its guards has room on an empty node.
+pub fn has_room()
+    ensures { HasRoom }
 {
     line_stands();
 }

@@ -1,6 +1,6 @@
 //! The reader of scripts: the script that a text stands for, or the first line that breaks a rule.
 //!
-//! `read_script` is the one call of the layers above. Its contract is `GivesScript` of
+//! `read_script` and `number` are the calls of the layers above. The first has the contract `GivesScript` of
 //! `trace_model/specs/Grammar.antt`, whose definitions say what a text stands for; each function here
 //! computes one of them and says so in its contract.
 //!
@@ -16,3 +16,4 @@ mod tests;
 mod text;
 
 pub use reading::read_script;
+pub use text::number;

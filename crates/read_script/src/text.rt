@@ -143,7 +143,7 @@ fn value_up_to(most: u32, digits: &[u8]) -> Option<u32>
 
 /// The number of a word, where it is from the one to the other.
 #[tactic(auto, unfolding(trace_model::specs::Grammar::number_in))]
-pub(crate) fn number(least: u32, most: u32, word: &[u8]) -> Option<u32>
+pub fn number(least: u32, most: u32, word: &[u8]) -> Option<u32>
     ensures value { result ≡ number_in least most word.now }
     ensures bounded { IfSome result (λ n. n ≤ most) }
 {

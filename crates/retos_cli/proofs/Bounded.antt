@@ -4,11 +4,13 @@ use Rattle.std.proofs.lemmas.Bool.{leb-true, eqb-true, and_parts}
 use Rattle.std.proofs.lemmas.List.{length-drop}
 use Rattle.std.specs.Option.{option_map, option_and_then}
 use Rattle.std.specs.declared.option.Option.{Option}
+use Rattle.std.specs.Str.Parse.{digits_value}
+use Rattle.trace_model.specs.Grammar.{is_decimal, number_in}
 use Rattle.retos_node.specs.declared.node.Show.{Show}
 use Rattle.retos_cli.specs.declared.command.Command.{Command}
-use Rattle.retos_cli.specs.declared.command.Command.TheVariants.{Run, Check, Asm, Insert}
+use Rattle.retos_cli.specs.declared.command.Command.TheVariants.{Run, Check, Asm, Insert, Gen}
 use Rattle.retos_cli.specs.Words.{word}
-use Rattle.retos_cli.specs.Commands.{is_name, name_of, names_of, in_range, digits_value, steps_of, show_of, solo_job, run_job, solo_from, run_from, behind_options, solo_of, run_of, check_of, asm_of, insert_of, command_of}
+use Rattle.retos_cli.specs.Commands.{is_name, name_of, names_of, steps_of, seed_of, show_of, solo_job, run_job, solo_from, run_from, behind_options, solo_of, run_of, check_of, asm_of, insert_of, gen_of, command_of}
 use Rattle.retos_cli.specs.Bounds.{IsBounded, IsBoundedIfSome}
 
 -- ---- numbers of steps
@@ -17,28 +19,15 @@ abbrev AtMost : Option ℕ → Type 0
 AtMost None = Unit {0}
 AtMost (Some n) = n ≤ 10000000
 
-if-low : (a b : Bool) (n : ℕ) → (b ≡ true → n ≤ 10000000) → AtMost (cond (a && b) (Some n) None)
-if-low false b n h = tt
-if-low true false n h = tt
-if-low true true n h = h refl
-
-low-in-range : (n : ℕ) → AtMost (in_range n)
-low-in-range n = if-low (nat_le 1 n) (nat_le n 10000000) n (λ e. leb-true n 10000000 e)
-
-if-then : (b : Bool) (o : Option ℕ) → AtMost o → AtMost (cond b o None)
-if-then true o h = h
-if-then false o h = tt
-
-low-digits : (n : ℕ) (bs : List ℕ) → AtMost (digits_value n bs)
-low-digits n [] = low-in-range n
-low-digits n (b ∷ bs) = if-then (nat_le 48 b && nat_le b 57 && nat_le n 10000000) (digits_value (10 * n + (b - 48)) bs) (low-digits (10 * n + (b - 48)) bs)
-
-unless : (b : Bool) (o : Option ℕ) → AtMost o → AtMost (cond b None o)
-unless true o h = tt
-unless false o h = h
+if-low : (a b c : Bool) (n : ℕ) → (c ≡ true → n ≤ 10000000) → AtMost (cond (a && b && c) (Some n) None)
+if-low false b c n h = tt
+if-low true false c n h = tt
+if-low true true false n h = tt
+if-low true true true n h = h refl
 
 low-steps : (w : List ℕ) → AtMost (steps_of w)
-low-steps w = unless (slice_index w 0 == 48) (digits_value 0 w) (low-digits 0 w)
+unfolding number_in
+low-steps w = if-low (is_decimal w) (nat_le 1 (digits_value 10 w)) (nat_le (digits_value 10 w) 10000000) (digits_value 10 w) (λ e. leb-true (digits_value 10 w) 10000000 e)
 
 -- ---- numbers of names
 
@@ -127,12 +116,23 @@ insert-bounded words =
     if-some (length words == 3) (option_and_then (λ from. option_map (λ to. Insert from to) (name_of (word words 2))) (name_of (word words 1)))
     (λ e. insert-named (name_of (word words 1)) (name_of (word words 2)))
 
+gen-named : (seed : Option ℕ) (to : Option (List ℕ)) → IsBoundedIfSome (option_and_then (λ seed. option_map (λ to. Gen seed to) to) seed)
+gen-named None to = tt
+gen-named (Some seed) None = tt
+gen-named (Some seed) (Some to) = tt
+
+gen-bounded : (words : List (List ℕ)) → IsBoundedIfSome (gen_of words)
+gen-bounded words =
+    if-some (length words == 3) (option_and_then (λ seed. option_map (λ to. Gen seed to) (name_of (word words 2))) (seed_of (word words 1)))
+    (λ e. gen-named (seed_of (word words 1)) (name_of (word words 2)))
+
 -- so each command is
 pub command_bounded : (words : List (List ℕ)) → IsBoundedIfSome (command_of words)
 unfolding command_of
 command_bounded words =
     let is : List ℕ → Bool = λ text. bytes_eq (word words 0) text in
-    let last : Option Command = cond (is (codes "insert")) (insert_of words) None in
+    let final : Option Command = cond (is (codes "gen")) (gen_of words) None in
+    let last : Option Command = cond (is (codes "insert")) (insert_of words) final in
     let third : Option Command = cond (is (codes "asm")) (asm_of words) last in
     let second : Option Command = cond (is (codes "check")) (check_of words) third in
     let first : Option Command = cond (is (codes "run")) (run_of words) second in
@@ -140,7 +140,8 @@ command_bounded words =
     (either-one (is (codes "run")) (run_of words) second (run-bounded (behind_options words) words)
     (either-one (is (codes "check")) (check_of words) third (check-bounded words)
     (either-one (is (codes "asm")) (asm_of words) last (asm-bounded words)
-    (either-one (is (codes "insert")) (insert_of words) None (insert-bounded words) tt))))
+    (either-one (is (codes "insert")) (insert_of words) final (insert-bounded words)
+    (either-one (is (codes "gen")) (gen_of words) None (gen-bounded words) tt)))))
 
 bounded-same : (o : Option Command) (c : Command) → o ≡ Some c → IsBoundedIfSome o → IsBounded c
 bounded-same o c e h = let P : Option Command → Type 0 = λ p. IsBoundedIfSome p in subst P e h

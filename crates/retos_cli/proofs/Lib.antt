@@ -4,6 +4,7 @@ pub mod Confining
 pub mod Counting
 pub mod Gathered
 pub mod Gathering
+pub mod Generated
 pub mod Guarding
 pub mod Inputs
 pub mod Joined
@@ -12,3 +13,4 @@ pub mod Pieces
 pub mod Runs
 pub mod Sources
 pub mod Told
+pub mod TwoLines

@@ -202,19 +202,19 @@ unplaced os names i cause name h e =
 
 -- ---- the run of a booted node
 
-record IsBooted (n : Parts) (os : List Loadable) (b : Result System Refusal) : Type 0 where
+pub record IsBooted (n : Parts) (os : List Loadable) (b : Result System Refusal) : Type 0 where
   pub system : System
   pub boots : b ≡ Ok system
   pub represents : Represents n os system
   pub sound : IsSound system
 
-booted-by : (n : Parts) (os : List Loadable) (b : Result System Refusal) → Boots n os b → IsBooted n os b
-booted-by n os (Ok s) h = record { system = s; boots = refl; represents = h.0; sound = h.1 }
-booted-by n os (Err e) h = absurd h
+pub booted_by : (n : Parts) (os : List Loadable) (b : Result System Refusal) → Boots n os b → IsBooted n os b
+booted_by n os (Ok s) h = record { system = s; boots = refl; represents = h.0; sound = h.1 }
+booted_by n os (Err e) h = absurd h
 
-end-faults : (t : Script) (r : Made) (end : End) → IsRunEnd t r end → faults_of end ≡ faults r
-end-faults t r (Limit n e f) h = h.fault_count
-end-faults t r (Quiet n e f) h = h.fault_count
+pub end_faults : (t : Script) (r : Made) (end : End) → IsRunEnd t r end → faults_of end ≡ faults r
+end_faults t r (Limit n e f) h = h.fault_count
+end_faults t r (Quiet n e f) h = h.fault_count
 
 abbrev shown-text : Show → Job → Script → List Loadable → System → List ℕ
 shown-text show job t os s = trace_text show.all show.tail (length os) t s (run job.steps t s)
@@ -222,19 +222,19 @@ shown-text show job t os s = trace_text show.all show.tail (length os) t s (run 
 pub traced : (old new : Node) (os : List Loadable) (job : Job) (t : Script) (o0 o1 : SinkState) (end : End) (n : ℕ)
     → Boots (parts old) os (booted os) → old.show ≡ job.show → RunsTo old new os job.steps t o0 o1 end → n ≡ faults_of end → IsTraced job t os o0 o1 (nat_lt 0 n)
 traced old new os job t o0 o1 end n b w h e =
-    let k : IsBooted (parts old) os (booted os) = booted-by (parts old) os (booted os) b in
+    let k : IsBooted (parts old) os (booted os) = booted_by (parts old) os (booted os) b in
     let r = h k.system k.represents k.sound in
     record {
       system = k.system;
       boots = k.boots;
       trace = r.2 ∙ ap (λ (show : Show). appended o0.bytes (shown-text show job t os k.system)) w;
-      faulted_is = ap (λ (j : ℕ). nat_lt 0 j) (e ∙ end-faults t (run job.steps t k.system) end r.0);
+      faulted_is = ap (λ (j : ℕ). nat_lt 0 j) (e ∙ end_faults t (run job.steps t k.system) end r.0);
     }
 
 pub trace_cut : (old new : Node) (os : List Loadable) (job : Job) (t : Script) (o0 o1 : SinkState)
     → Boots (parts old) os (booted os) → old.show ≡ job.show → RunsUpTo old new os job.steps t o0 o1 → Rose o0.faults o1.faults → IsTraceCut job t os o0 o1
 trace_cut old new os job t o0 o1 b w h r =
-    let k : IsBooted (parts old) os (booted os) = booted-by (parts old) os (booted os) b in
+    let k : IsBooted (parts old) os (booted os) = booted_by (parts old) os (booted os) b in
     let P : Show → Type 0 = λ show. GotPrefix o0.bytes o1.bytes (shown-text show job t os k.system) in
     record { system = k.system; boots = k.boots; rose = r; prefix = subst P w (h k.system k.represents k.sound).1 }
 

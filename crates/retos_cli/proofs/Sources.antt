@@ -7,7 +7,7 @@ use Rattle.edge_io.specs.Causes.{Rose}
 use Rattle.code_model.specs.declared.object.Object.{Object}
 use Rattle.object_form.specs.Spelling.{object_bytes}
 use Rattle.retos_cli.specs.declared.command.Command.{Command}
-use Rattle.retos_cli.specs.declared.command.Command.TheVariants.{Run, Check, Asm, Insert}
+use Rattle.retos_cli.specs.declared.command.Command.TheVariants.{Run, Check, Asm, Insert, Gen}
 use Rattle.retos_cli.specs.declared.form.Form.TheVariants.{Source}
 use Rattle.retos_cli.specs.declared.outcome.Outcome.{Outcome}
 use Rattle.retos_cli.specs.declared.outcome.Outcome.TheVariants.{Done, BadWords, Stopped, WriteFault}
@@ -81,3 +81,4 @@ may_run_fresh c created e = let P : Option (List ℕ) → Type 0 = λ n. MayRun 
     by-command (Some (Check names)) = tt
     by-command (Some (Asm from to)) = tt
     by-command (Some (Insert from to)) = tt
+    by-command (Some (Gen seed to)) = tt

@@ -1,19 +1,21 @@
 -- The clauses of the top call: what each status says of the folder and the two sinks.
-use Rattle.std.specs.Prelude.{◌≡◌, ℕ, ◌⊎◌, List, Some, None, Ok}
+use Rattle.std.specs.Prelude.{◌≡◌, ℕ, ◌⊎◌, List, [], ◌∷◌, Some, None, Ok}
 use Rattle.std.specs.declared.option.Option.{Option}
 use Rattle.edge_io.specs.Known.{Files, FolderState, SinkState, appended, held, GotPrefix}
 use Rattle.edge_io.specs.Causes.{Rose, Still}
 use Rattle.retos_cli.specs.declared.command.Command.{Command}
-use Rattle.retos_cli.specs.declared.command.Command.TheVariants.{Run, Check, Asm, Insert}
+use Rattle.retos_cli.specs.declared.command.Command.TheVariants.{Run, Check, Asm, Insert, Gen}
 use Rattle.retos_cli.specs.declared.outcome.Status.{Status}
 use Rattle.retos_cli.specs.declared.outcome.Status.TheVariants.{Done, Refused, BadWords, ReadFault, WriteFault, NoMemory, Faulted}
 use Rattle.retos_cli.specs.Commands.{command_of}
 use Rattle.retos_cli.specs.Lines.{words_line, write_line, memory_line, read_line}
-use Rattle.retos_cli.specs.Meaning.{Answer, IsAnswer, IsRefusal, Output, IsDone, status_by, inputs, written, IsReached, IsSupplied}
+use Rattle.retos_cli.specs.Meaning.{Answer, IsAnswer, IsRefusal, Output, IsDone, status_by, inputs, written, IsReached, IsSupplied, IsGenerated, generated_steps}
 use Rattle.retos_cli.specs.Ends.{Told, CutAt, IsHeld}
 use Rattle.retos_cli.specs.declared.command.Job.{Job}
+use Rattle.code_model.specs.declared.object.Object.{Object}
 use Rattle.load_model.specs.Loading.{Loadable}
 use Rattle.trace_model.specs.declared.scripts.Script.{Script}
+use Rattle.trace_model.specs.Grammar.{empty_script}
 use Rattle.node_model.specs.Systems.{System}
 use Rattle.node_model.specs.Booting.{booted}
 use Rattle.node_model.specs.Nodes.{IsSoundRun}
@@ -151,12 +153,18 @@ NoCommandClause call given = call.command ≡ None → (given ≡ BadWords) ⊎ 
 abbrev pub IsConfinedJob : Files → Job → Type 0
 IsConfinedJob m job = (t : Script) (os : List Loadable) (s : System) → IsSupplied m job t os → booted os ≡ Ok s → IsSoundRun job.steps t s
 
+-- the same of the run of the object of a number
+abbrev pub IsConfinedGenerated : (seed : ℕ) → Type 0
+IsConfinedGenerated seed =
+    (source : Object) (o : Loadable) (s : System) → IsGenerated seed source o → booted (o ∷ []) ≡ Ok s → IsSoundRun generated_steps empty_script s
+
 abbrev pub RunsConfined : Option Command → Files → Type 0
 RunsConfined None m = Unit {0}
 RunsConfined (Some (Run job)) m = IsConfinedJob m job
 RunsConfined (Some (Check names)) m = Unit {0}
 RunsConfined (Some (Asm from to)) m = Unit {0}
 RunsConfined (Some (Insert from to)) m = Unit {0}
+RunsConfined (Some (Gen seed to)) m = IsConfinedGenerated seed
 
 abbrev pub ConfinedClause : Call → Type 0
 ConfinedClause call = Told call.f0.files (RunsConfined call.command)

@@ -1,11 +1,12 @@
 -- The words of the commands.
-use Rattle.std.specs.Prelude.{ℕ, ◌+◌, ◌-◌, ◌*◌, ◌==◌, Bool, ◌&&◌, ◌||◌, not, nat_le, nat_lt, bytes_eq, List, [], ◌∷◌, length, drop, slice_index, codes, Some, None, if◌then◌else◌}
+use Rattle.std.specs.Prelude.{ℕ, ◌+◌, ◌==◌, Bool, ◌&&◌, ◌||◌, not, nat_le, nat_lt, bytes_eq, List, [], ◌∷◌, length, drop, slice_index, codes, Some, None, if◌then◌else◌}
 use Rattle.std.specs.Option.{option_map, option_and_then}
 use Rattle.std.specs.declared.option.Option.{Option}
+use Rattle.trace_model.specs.Grammar.{number_in}
 use Rattle.retos_node.specs.declared.node.Show.{Show}
 use Rattle.retos_cli.specs.Words.{word}
 use Rattle.retos_cli.specs.declared.command.Command.{Command}
-use Rattle.retos_cli.specs.declared.command.Command.TheVariants.{Run, Check, Asm, Insert}
+use Rattle.retos_cli.specs.declared.command.Command.TheVariants.{Run, Check, Asm, Insert, Gen}
 
 -- a name has 1 to 255 bytes and doesn't begin with a dash
 abbrev pub is_name : List ℕ → Bool
@@ -19,17 +20,13 @@ abbrev pub names_of : List (List ℕ) → Option (List (List ℕ))
 names_of [] = Some []
 names_of (w ∷ ws) = if is_name w then option_map (λ names. w ∷ names) (names_of ws) else None
 
-abbrev pub in_range : ℕ → Option ℕ
-in_range n = if nat_le 1 n && nat_le n 10000000 then Some n else None
-
--- the value of decimal digits behind those of a value; behind one over 10000000 it can only be greater
-abbrev pub digits_value : ℕ → List ℕ → Option ℕ
-digits_value n [] = in_range n
-digits_value n (b ∷ bs) = if nat_le 48 b && nat_le b 57 && nat_le n 10000000 then digits_value (10 * n + (b - 48)) bs else None
-
 -- a number of steps: decimal, from 1 to 10000000, without sign or leading zero
 abbrev pub steps_of : List ℕ → Option ℕ
-steps_of w = if slice_index w 0 == 48 then None else digits_value 0 w
+steps_of w = number_in 1 10000000 w
+
+-- what an object is generated from: such a number from 0 to 4294967295
+abbrev pub seed_of : List ℕ → Option ℕ
+seed_of w = number_in 0 4294967295 w
 
 -- ---- options: `--all` and `--tail` directly behind the first word, in either order, each at most once
 
@@ -98,9 +95,16 @@ insert_of words =
     if length words == 3 then option_and_then (λ from. option_map (λ to. Insert from to) (name_of (word words 2))) (name_of (word words 1))
     else None
 
+-- a number and an output
+abbrev pub gen_of : List (List ℕ) → Option Command
+gen_of words =
+    if length words == 3 then option_and_then (λ seed. option_map (λ to. Gen seed to) (name_of (word words 2))) (seed_of (word words 1))
+    else None
+
 unfoldable pub command_of : List (List ℕ) → Option Command
 command_of words =
     if bytes_eq (word words 0) (codes "solo") then solo_of words
     else (if bytes_eq (word words 0) (codes "run") then run_of words
     else (if bytes_eq (word words 0) (codes "check") then check_of words else (if bytes_eq (word words 0) (codes "asm") then asm_of words
-    else (if bytes_eq (word words 0) (codes "insert") then insert_of words else None))))
+    else (if bytes_eq (word words 0) (codes "insert") then insert_of words
+    else (if bytes_eq (word words 0) (codes "gen") then gen_of words else None)))))

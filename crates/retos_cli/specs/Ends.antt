@@ -8,7 +8,7 @@ use Rattle.edge_io.specs.Known.{Files, FolderState, SinkState, appended, held, G
 use Rattle.edge_io.specs.Causes.{Rose}
 use Rattle.code_model.specs.declared.object.Object.{Object}
 use Rattle.retos_cli.specs.declared.command.Command.{Command}
-use Rattle.retos_cli.specs.declared.command.Command.TheVariants.{Run, Check, Asm, Insert}
+use Rattle.retos_cli.specs.declared.command.Command.TheVariants.{Run, Check, Asm, Insert, Gen}
 use Rattle.retos_cli.specs.declared.outcome.Stop.{Stop}
 use Rattle.retos_cli.specs.declared.outcome.Stop.TheVariants.{Refuse, ReadFault, NoMemory}
 use Rattle.retos_cli.specs.declared.outcome.Outcome.{Outcome}
@@ -170,6 +170,7 @@ MayRun (Some (Run job)) created = Unit {0}
 MayRun (Some (Check names)) created = Unit {0}
 MayRun (Some (Asm from to)) created = MayCreate created to
 MayRun (Some (Insert from to)) created = MayCreate created to
+MayRun (Some (Gen seed to)) created = MayCreate created to
 
 -- ---- the report
 

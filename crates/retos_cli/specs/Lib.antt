@@ -9,3 +9,4 @@ pub mod Writing
 pub mod Judging
 pub mod Tracing
 pub mod Statuses
+pub mod Generating

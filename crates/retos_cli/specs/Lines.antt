@@ -98,6 +98,12 @@ accepted_lines (name ∷ names) (o ∷ os) = accepted_line name o.object o.units
 unfoldable pub assembled_line : List ℕ → Object → List ℕ
 assembled_line name o = name ++ codes ": assembled " ++ decimal (length o.code) ++ codes " words" ++ 10 ∷ []
 
+-- the line of an object that is generated and written: the code words of its source, and its code words and its units
+unfoldable pub generated_line : (seed source_words : ℕ) → Object → List ℕ → List ℕ
+generated_line seed source_words o units =
+    codes "gen " ++ decimal seed ++ codes ": source " ++ decimal source_words ++ codes " words, inserted " ++ decimal (length o.code) ++ codes " words, units "
+    ++ decimal (marked_below units (length o.code)) ++ 10 ∷ []
+
 -- the line of an object that has got its guards and is written: its code words
 unfoldable pub inserted_line : List ℕ → Object → List ℕ
 inserted_line name o = name ++ codes ": inserted " ++ decimal (length o.code) ++ codes " words" ++ 10 ∷ []

@@ -7,6 +7,7 @@ use Rattle.code_model.specs.declared.object.Object.{Object}
 use Rattle.kernel_model.specs.declared.kinds.Kind.TheVariants as kind
 use Rattle.object_form.specs.Spelling.{object_bytes}
 use Rattle.code_model.specs.Fields.{fields}
+use Rattle.gen_model.specs.Generated.{generated}
 use Rattle.object_form.specs.Faults.{first_form_fault}
 use Rattle.asm_model.specs.FirstPass.{fault}
 use Rattle.asm_model.specs.Assembled.{assembled}
@@ -17,12 +18,12 @@ use Rattle.load_model.specs.Loading.{Loadable}
 use Rattle.trace_model.specs.declared.scripts.Script.{Script}
 use Rattle.trace_model.specs.Grammar.{script_of, empty_script}
 use Rattle.node_model.specs.Systems.{System}
-use Rattle.node_model.specs.Runs.{run, faults}
+use Rattle.node_model.specs.Runs.{Run as Made, run, faults}
 use Rattle.node_model.specs.Booting.{booted, Refusal}
-use Rattle.node_model.specs.Nodes.{trace_text}
+use Rattle.node_model.specs.Nodes.{trace_text, end_line}
 use Rattle.retos_cli.specs.declared.command.Job.{Job}
 use Rattle.retos_cli.specs.declared.command.Command.{Command}
-use Rattle.retos_cli.specs.declared.command.Command.TheVariants.{Run, Check, Asm, Insert}
+use Rattle.retos_cli.specs.declared.command.Command.TheVariants.{Run, Check, Asm, Insert, Gen}
 use Rattle.retos_cli.specs.declared.form.Form.{Form}
 use Rattle.retos_cli.specs.declared.form.Form.TheVariants.{Checked, Application, Source, Plain, Script as Scripted}
 use Rattle.retos_cli.specs.declared.outcome.Why.{Why}
@@ -31,7 +32,7 @@ use Rattle.retos_cli.specs.declared.outcome.Refused.{Refused}
 use Rattle.retos_cli.specs.declared.outcome.Status.{Status}
 use Rattle.retos_cli.specs.declared.outcome.Status.TheVariants as status
 use Rattle.retos_cli.specs.Words.{word}
-use Rattle.retos_cli.specs.Lines.{words_line, refused_line, accepted_lines, assembled_line, inserted_line}
+use Rattle.retos_cli.specs.Lines.{words_line, refused_line, accepted_lines, assembled_line, inserted_line, generated_line}
 
 -- ---- one input
 
@@ -137,6 +138,7 @@ inputs (Run job) = job_inputs job
 inputs (Check names) = named_inputs Checked names
 inputs (Asm from to) = record { name = from; form = Source } ∷ []
 inputs (Insert from to) = record { name = from; form = Plain } ∷ []
+inputs (Gen seed to) = []
 
 abbrev pub IsTakenAs : Form → Option (List ℕ) → Type 0
 IsTakenAs Checked held = (o : Object) × (units : List ℕ) × Taken Checked held o units
@@ -198,6 +200,7 @@ LacksRoomIn m (Run job) r = LacksRoom m job r
 LacksRoomIn m (Check names) r = ⊥
 LacksRoomIn m (Asm from to) r = ⊥
 LacksRoomIn m (Insert from to) r = ⊥
+LacksRoomIn m (Gen seed to) r = ⊥
 
 -- a command's first refusal: the first input that is refused, or else the first object for which there is no room
 abbrev pub IsFirstRefusal : Files → Command → Refused → Type 0
@@ -260,11 +263,39 @@ pub record IsInsertOutput (m : Files) (from to : List ℕ) (x : Output) : Type 0
   pub file_is : x.file ≡ Some (to, object_bytes guarded)
   pub faulted_is : x.faulted ≡ false
 
+-- ---- a generated object
+
+-- for how many steps it is run
+abbrev pub generated_steps : ℕ
+generated_steps = 100000
+
+-- the source object of a number, and that object with its guards and its units
+pub record IsGenerated (seed : ℕ) (source : Object) (o : Loadable) : Type 0 where
+  pub source_is : fields source ≡ generated seed
+  pub gives : IsInserted source o.object
+  pub accepted : IsAccepted o.object o.units
+
+-- its run, alone and without a script
+abbrev pub generated_run : System → Made
+generated_run s = run generated_steps empty_script s
+
+-- the object with its guards, under the output's name, its line, and the last line of its run
+pub record IsGenOutput (seed : ℕ) (to : List ℕ) (x : Output) : Type 0 where
+  pub source : Object
+  pub object : Loadable
+  pub made : IsGenerated seed source object
+  pub system : System
+  pub boots : booted (object ∷ []) ≡ Ok system
+  pub lines : x.out ≡ generated_line seed (length source.code) object.object object.units ++ end_line empty_script (generated_run system)
+  pub file_is : x.file ≡ Some (to, object_bytes object.object)
+  pub faulted_is : x.faulted ≡ nat_lt 0 (faults (generated_run system))
+
 unfoldable pub IsOutput : Command → Files → Output → Type 0
 IsOutput (Run job) m x = IsRunOutput m job x
 IsOutput (Check names) m x = IsCheckOutput m names x
 IsOutput (Asm from to) m x = IsAsmOutput m from to x
 IsOutput (Insert from to) m x = IsInsertOutput m from to x
+IsOutput (Gen seed to) m x = IsGenOutput seed to x
 
 -- ---- the whole, by the words and the files
 

@@ -79,4 +79,6 @@ pub enum Command {
     Asm { from: Name, to: Name },
     /// Gives an object its guards, and writes the object with them.
     Insert { from: Name, to: Name },
+    /// Makes an object from a number, runs it, and writes it.
+    Gen { seed: u32, to: Name },
 }

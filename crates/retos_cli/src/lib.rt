@@ -9,6 +9,7 @@ pub mod checking;
 pub mod command;
 pub mod counted;
 pub mod form;
+pub mod generating;
 pub mod input;
 pub mod inserting;
 pub mod lines;

@@ -261,6 +261,23 @@ pub fn of_assembled(name: &Name, words: u32) -> Line
     line
 }
 
+/// An object is generated: of which number, the code words of its source, and with its guards its code words and units.
+pub fn of_generated(seed: u32, source_words: u32, words: u32, units: u32) -> Line
+    ensures { result ≡ codes "gen " ++ decimal seed ++ codes ": source " ++ decimal source_words ++ codes " words, inserted " ++ decimal words ++ codes " words, units " ++ decimal units ++ codes "\n" }
+{
+    let mut line = Line::new();
+    line.push_text(b"gen ");
+    line.push_decimal(seed);
+    line.push_text(b": source ");
+    line.push_decimal(source_words);
+    line.push_text(b" words, inserted ");
+    line.push_decimal(words);
+    line.push_text(b" words, units ");
+    line.push_decimal(units);
+    line.push(b'\n');
+    line
+}
+
 /// An object has got its guards and is written, with this many code words.
 pub fn of_inserted(name: &Name, words: u32) -> Line
     ensures { result ≡ name.now ++ codes ": inserted " ++ decimal words ++ codes " words" ++ codes "\n" }

@@ -1,12 +1,13 @@
 //! The words of a command line, read as a command.
 
 ghost use Rattle.std.specs.Prelude.{◌≡◌, ◌+◌, ◌<◌, ◌≤◌, List, [], length, drop, true, false, IfOk, MatchOption};
-ghost use Rattle.retos_cli.specs.Commands.{command_of, is_all, is_tail, is_name, name_of, names_of, steps_of, digits_value, show_of, behind_options, solo_of, run_of, check_of, asm_of, insert_of};
+ghost use Rattle.retos_cli.specs.Commands.{command_of, is_all, is_tail, is_name, name_of, names_of, steps_of, seed_of, show_of, behind_options, solo_of, run_of, check_of, asm_of, insert_of, gen_of};
 ghost use Rattle.retos_cli.specs.Words.{word};
 
 use super::command::{Command, Job, Names};
 use edge_io::name::Name;
 use edge_io::words::Words;
+use read_script::number;
 use retos_node::Show;
 use std::alloc::{AllocError, Global};
 
@@ -32,6 +33,8 @@ pub fn read_command(alloc: Global, words: &Words) -> Result<Option<Command>, All
         Ok(asm(words))
     } else if first == b"insert".as_slice() {
         Ok(insert(words))
+    } else if first == b"gen".as_slice() {
+        Ok(generated(words))
     } else {
         Ok(None)
     }
@@ -180,6 +183,21 @@ fn insert(words: &Words) -> Option<Command>
     }
 }
 
+fn generated(words: &Words) -> Option<Command>
+    ensures { result ≡ gen_of words.now }
+{
+    if words.len() != 3 {
+        return None;
+    }
+    match seed(word_at(words, 1)) {
+        Some(seed) => match name(word_at(words, 2)) {
+            Some(to) => Some(Command::Gen { seed, to }),
+            None => None,
+        },
+        None => None,
+    }
+}
+
 /// A name: 1 to 255 bytes that don't begin with a dash.
 fn name(bytes: &[u8]) -> Option<Name>
     ensures named { result ≡ name_of bytes.now }
@@ -211,24 +229,12 @@ fn names(alloc: Global, words: &Words, from: usize) -> Result<Option<Names>, All
 fn steps(bytes: &[u8]) -> Option<u32>
     ensures { result ≡ steps_of bytes.now }
 {
-    if bytes.is_empty() || bytes[0] == b'0' {
-        return None;
-    }
-    digits(bytes)
+    number(1, STEPS_MAX, bytes)
 }
 
-fn digits(bytes: &[u8]) -> Option<u32>
-    ensures { result ≡ digits_value 0 bytes.now }
+/// What an object is generated from: such a number from 0 to 4294967295.
+fn seed(bytes: &[u8]) -> Option<u32>
+    ensures { result ≡ seed_of bytes.now }
 {
-    let mut value: u32 = 0;
-    for byte in bytes {
-        if *byte < b'0' || *byte > b'9' || value > STEPS_MAX {
-            return None;
-        }
-        value = 10 * value + (*byte - b'0') as u32;
-    }
-    if value < 1 || value > STEPS_MAX {
-        return None;
-    }
-    Some(value)
+    number(0, u32::MAX, bytes)
 }

@@ -67,7 +67,7 @@ fn script_for<F: Folder>(
 }
 
 /// The script in which nothing happens.
-fn no_script(alloc: Global) -> Script
+pub fn no_script(alloc: Global) -> Script
     ensures empty { result ≡ empty_script }
     ensures rules { IsScript result }
 {
@@ -134,7 +134,8 @@ fn trace<O: Sink>(
     }
 }
 
-fn faults_of(end: End) -> u32
+/// How many faults a run had.
+pub fn faults_of(end: End) -> u32
     ensures { result ≡ faults_of end }
 {
     match end {

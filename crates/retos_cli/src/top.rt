@@ -9,6 +9,7 @@ ghost use Rattle.retos_cli.specs.Clauses.{call_of, OutputClause, RefusedClause, 
 use super::assembling::assemble_file;
 use super::checking::check_all;
 use super::command::Command;
+use super::generating::generate_file;
 use super::inserting::insert_file;
 use super::outcome::{Outcome, Status, Stop};
 use super::parse::read_command;
@@ -71,5 +72,6 @@ fn carry_out<F: Folder, O: Sink>(
         Command::Check { names } => check_all(alloc, files, names, out),
         Command::Asm { from, to } => assemble_file(alloc, files, from, to, out),
         Command::Insert { from, to } => insert_file(alloc, files, from, to, out),
+        Command::Gen { seed, to } => generate_file(alloc, files, *seed, to, out),
     }
 }

@@ -1,5 +1,6 @@
 //! Writing an object to a file, and then a line to out.
 
+ghost use Rattle.std.specs.Prelude.{◌≤◌, ◌++◌};
 ghost use Rattle.edge_io.specs.Known.{MayCreate};
 ghost use Rattle.retos_cli.specs.Writing.{FileThenLine, IsPut};
 
@@ -34,6 +35,24 @@ pub fn put_object<F: Folder, O: Sink>(
     }
 }
 
+/// Writes the whole text under this name, and then two lines, each by itself.
+pub fn put_lines<F: Folder, O: Sink>(
+    files: &mut F,
+    to: &Name,
+    text: &[u8],
+    first: &Line,
+    second: &Line,
+    out: &mut O,
+) -> Result<(), SinkFault>
+    requires { MayCreate (F.state files.old).created to.now }
+    ensures { FileThenLine (F.state files.old) (F.state files.new) (O.state out.old) (O.state out.new) to.now text.now (first.now ++ second.now) result }
+{
+    match put_text(files, to, text, first, out) {
+        Ok(()) => write_all(out, second.as_slice()),
+        Err(fault) => Err(fault),
+    }
+}
+
 /// Writes the whole text under this name, and then the line.
 fn put_text<F: Folder, O: Sink>(
     files: &mut F,
@@ -43,7 +62,8 @@ fn put_text<F: Folder, O: Sink>(
     out: &mut O,
 ) -> Result<(), SinkFault>
     requires { MayCreate (F.state files.old).created to.now }
-    ensures { FileThenLine (F.state files.old) (F.state files.new) (O.state out.old) (O.state out.new) to.now text.now line.now result }
+    ensures put { FileThenLine (F.state files.old) (F.state files.new) (O.state out.old) (O.state out.new) to.now text.now line.now result }
+    ensures later { (O.state out.old).faults ≤ (O.state out.new).faults }
 {
     match write_file(files, to, text) {
         Ok(()) => write_all(out, line.as_slice()),

@@ -3,13 +3,16 @@
 ghost use Rattle.std.specs.Prelude.{◌≡◌, ◌<◌, ◌≤◌, ◌+◌, List, [], ◌∷◌, ◌++◌, length, IfOk, IfErr, OnErr};
 ghost use Rattle.edge_io.specs.Causes.{HasCause};
 ghost use Rattle.node_model.specs.Booting.{booted};
-ghost use Rattle.node_model.specs.Nodes.{most_steps, IsSoundNode, Boots, Steps};
+ghost use Rattle.node_model.specs.Nodes.{most_steps, IsSoundNode, Boots, Steps, end_line};
+ghost use Rattle.node_model.specs.Runs.{Run};
+ghost use Rattle.trace_model.specs.declared.scripts.Script.{Script as ScriptOf};
 ghost use Rattle.trace_model.specs.declared.records.Record.{Record as RecordOf};
 ghost use Rattle.trace_model.specs.Scripts.{IsScript};
-ghost use Rattle.retos_node.specs.Parts.{parts, IsBootFault, GoesByLines, HoldLocks, HoldsLast, RunsTo, RunsUpTo};
+ghost use Rattle.retos_node.specs.Parts.{parts, IsBootFault, IsRunEnd, GoesByLines, HoldLocks, HoldsLast, RunsTo, RunsUpTo};
 ghost use Rattle.retos_node.specs.Tails.{kept_of, kept_with};
 
 use crate::booting::{NOBODY, Unplaced, begin, cleared, place_all};
+use crate::lines::of_end;
 use crate::objects::ObjectList;
 use crate::printing::{print_line, print_placement};
 use crate::running::{locks_law, run_law, run_steps};
@@ -20,6 +23,7 @@ use crate::turns::Moment;
 use edge_io::sink::Sink;
 use edge_io::whole::SinkFault;
 use flat_mem::FlatMem;
+use line_text::line::Line;
 use msp_machine::Regs;
 use node_laws::boot::{boot_begins, boot_stands};
 use node_laws::code::memory_is_shown;
@@ -58,6 +62,26 @@ pub enum End {
     Limit { steps: u32, emits: u32, faults: u32 },
     /// Nothing runs any more, and nothing more comes.
     Quiet { steps: u32, emits: u32, faults: u32 },
+}
+
+impl End {
+    /// The last line of a run with this end.
+    pub fn line(&self) -> Line
+        ensures { (t : ScriptOf) (r : Run) → IsRunEnd t r self.now → result ≡ end_line t r }
+    {
+        match self {
+            End::Limit {
+                steps,
+                emits,
+                faults,
+            } => of_end(false, *steps, *emits, *faults),
+            End::Quiet {
+                steps,
+                emits,
+                faults,
+            } => of_end(true, *steps, *emits, *faults),
+        }
+    }
 }
 
 /// A node: its memory, its registers, the steps that were made, each domain's object in the list by its place, 255 where there is

@@ -1,9 +1,9 @@
 //! Rows: commands over files and streams in memory, with what each has to leave on out and on err, and its status.
 //!
 //! Nothing but tests stands here. They call `retos` (`retos_cli`) alone, so that crate isn't proved a second time for them.
-//! `command_rows` has words, refusals and failing devices, `check_rows`, `solo_rows`, `run_rows`, `asm_rows` and `insert_rows` a
-//! command each, `tail_rows` the option `--tail`, `attack_rows` programs that leave their stack, `system_rows` the system's
-//! own files. What they leave comes from outside of the program.
+//! `command_rows` has words, refusals and failing devices, `check_rows`, `solo_rows`, `run_rows`, `asm_rows`, `insert_rows` and
+//! `gen_rows` a command each, `tail_rows` the option `--tail`, `attack_rows` programs that leave their stack, `system_rows` the
+//! system's own files. What they leave comes from outside of the program.
 #![tactic(auto)]
 
 #[cfg(test)]
@@ -14,6 +14,8 @@ mod attack_rows;
 mod check_rows;
 #[cfg(test)]
 mod command_rows;
+#[cfg(test)]
+mod gen_rows;
 #[cfg(test)]
 mod insert_rows;
 #[cfg(test)]
