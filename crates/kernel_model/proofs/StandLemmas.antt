@@ -3,6 +3,7 @@ use Rattle.std.proofs.Common.{◌≡◌, ℕ, ◌+◌, ◌*◌, ◌<◌, ◌≤�
 use Rattle.std.proofs.lemmas.Bool.{eqb-true, eq-eqb}
 use Rattle.std.specs.List.{flat_map}
 use Rattle.std.proofs.lemmas.List.{get_or-append-add}
+use Rattle.std.proofs.lemmas.List.Elements.{All-head, All-tail}
 use Rattle.kernel_model.specs.Bytes.{part}
 use Rattle.kernel_model.specs.Kernel.{Kernel, free_thread}
 use Rattle.kernel_model.specs.Links.{first, last, next_of, prev_of, queue}
@@ -11,7 +12,7 @@ use Rattle.kernel_model.specs.Layout.{tables, nth, kernel_of, Fits, queue_of, pr
 use Rattle.kernel_model.specs.Queues.{QueuesHold, HasQueues, HasQueueBytes}
 use Rattle.kernel_model.specs.Standing.{next_place, prev_place, next_in, prev_in, HasQueue}
 use Rattle.kernel_model.proofs.FitLemmas.{Small, memory_fits_lem}
-use Rattle.kernel_model.proofs.LinkLemmas.{by_bool, if_true, if_false, next_out, prev_out}
+use Rattle.kernel_model.proofs.LinkLemmas.{by_bool, if_true, if_false, not_eq, next_out, prev_out}
 use Rattle.kernel_model.proofs.ReadLemmas.{below_of, once_of, not_right, out_queue, in_queue, own_link, sleeping_link, own_prev, sleeping_prev, low}
 use Rattle.kernel_model.proofs.LayoutLemmas.{end_at, last_at, next_laid, prev_laid, by_nine, rows_laid, front_laid, link_laid, linked_size}
 use Rattle.kernel_model.proofs.BytesLemmas.{length-part}
@@ -45,6 +46,21 @@ ready_of k q e = if_false (eqb q 8) k.sleepers (queue (priority_in k.threads) k.
 sleepers_of : (k : Kernel) (q : ℕ) → eqb q 8 ≡ true → queue_of k.threads k.ready k.sleepers q ≡ k.sleepers
 sleepers_of k q e = if_true (eqb q 8) k.sleepers (queue (priority_in k.threads) k.ready q) e
 
+-- the bytes of the ends
+abbrev zeroes_of : ℕ → List ℕ
+zeroes_of n = replicate n 0
+
+get_or-zeroes : (n i : ℕ) → get_or (zeroes_of n) i 0 ≡ 0
+get_or-zeroes zero i = refl
+get_or-zeroes (suc n) zero = refl
+get_or-zeroes (suc n) (suc i) = get_or-zeroes n i
+
+no_end : (k : Kernel) (j : ℕ) → get_or (queue_ends k.threads k.ready k.sleepers) (18 + j) 0 ≡ 0
+unfolding queue_ends
+no_end k j =
+    let ends : List ℕ = flat_map (λ q. first (queue_of k.threads k.ready k.sleepers q) ∷ last (queue_of k.threads k.ready k.sleepers q) ∷ []) (0 ∷ 1 ∷ 2 ∷ 3 ∷ 4 ∷ 5 ∷ 6 ∷ 7 ∷ 8 ∷ []) in
+    get_or-append-add ends (zeroes_of 14) j 0 ∙ get_or-zeroes 14 j
+
 module _ (m : List ℕ) (e : length m ≡ 65536) (s : All Small m) (h : QueuesHold m) where
   abbrev k : Kernel
   k = kernel_of m
@@ -57,6 +73,22 @@ module _ (m : List ℕ) (e : length m ≡ 65536) (s : All Small m) (h : QueuesHo
 
   once : Once ((kernel_of m).ready ++ (kernel_of m).sleepers)
   once = once_of (k.ready ++ k.sleepers) h.lists.once
+
+  -- the bytes of a thread's row, and of its links
+  pub front_byte : (t o : ℕ) → t < 32 → o < 44 → get_or m (1056 + (48 * t + o)) 0 ≡ get_or (thread_bytes (get_or k.threads t free_thread)) o 0
+  unfolding HasQueueBytes
+  front_byte t o l lo = sym (row_byte m (48 * t + o) (omega arith)) ∙ ap (λ bs. get_or bs (48 * t + o) 0) (sym h.bytes.1.1) ∙ front_laid k fits t o l lo
+
+  pub link_byte : (t j : ℕ) → t < 32 → j < 4 → get_or m (1056 + (48 * t + (44 + j))) 0 ≡ get_or (links_of k.threads k.ready k.sleepers t) j 0
+  unfolding HasQueueBytes
+  link_byte t j l lj = sym (row_byte m (48 * t + (44 + j)) (omega arith)) ∙ ap (λ bs. get_or bs (48 * t + (44 + j)) 0) (sym h.bytes.1.1) ∙ link_laid k fits t j l lj
+
+  -- a byte behind the queues' ends
+  pub unused_byte : (j : ℕ) → j < 14 → get_or m (562 + j) 0 ≡ 0
+  unfolding HasQueueBytes
+  unused_byte j l =
+      let place : 562 + j ≡ 544 + (18 + j) = omega arith in
+      ap (λ a. get_or m a 0) place ∙ sym (end_byte m (18 + j) (omega arith)) ∙ ap (λ bs. get_or bs (18 + j) 0) (sym h.bytes.0) ∙ no_end k j
 
   next_byte : (t : ℕ) → t < 32 → get_or m (1056 + (48 * t + 44)) 0 ≡ next_of (queue f k.ready (f t)) t + next_of k.sleepers t
   unfolding HasQueueBytes
@@ -168,21 +200,6 @@ rows_back m k e fits front links =
     (λ i l. let cut : 48 * (i / 48) + i % 48 ≡ i = omega arith in let inside : i < 1536 = omega (arith, size) in
     ap (λ n. get_or laid n 0) (sym cut) ∙ row (i / 48) (i % 48) (omega (arith, inside)) (omega arith) ∙ ap (λ n. get_or m (1056 + n) 0) cut ∙ sym (row_byte m i inside))
 
--- the bytes of the ends
-abbrev zeroes_of : ℕ → List ℕ
-zeroes_of n = replicate n 0
-
-get_or-zeroes : (n i : ℕ) → get_or (zeroes_of n) i 0 ≡ 0
-get_or-zeroes zero i = refl
-get_or-zeroes (suc n) zero = refl
-get_or-zeroes (suc n) (suc i) = get_or-zeroes n i
-
-no_end : (k : Kernel) (j : ℕ) → get_or (queue_ends k.threads k.ready k.sleepers) (18 + j) 0 ≡ 0
-unfolding queue_ends
-no_end k j =
-    let ends : List ℕ = flat_map (λ q. first (queue_of k.threads k.ready k.sleepers q) ∷ last (queue_of k.threads k.ready k.sleepers q) ∷ []) (0 ∷ 1 ∷ 2 ∷ 3 ∷ 4 ∷ 5 ∷ 6 ∷ 7 ∷ 8 ∷ []) in
-    get_or-append-add ends (zeroes_of 14) j 0 ∙ get_or-zeroes 14 j
-
 ends_size : (k : Kernel) → length (queue_ends k.threads k.ready k.sleepers) ≡ 32
 unfolding queue_ends
 ends_size k = refl
@@ -197,53 +214,65 @@ low_or i = by_bool (ltb i 18) (λ e. inl (ltb-true i 18 e)) (λ e. inr (grind (a
 even_or : (i : ℕ) → (i ≡ 2 * (i / 2)) ⊎ (i ≡ 2 * (i / 2) + 1)
 even_or i = by_bool (eqb (i % 2) 0) (λ e. inl (grind (arith, e))) (λ e. inr (grind (arith, e)))
 
-pub ends_back : (m : List ℕ) (k : Kernel) → length m ≡ 65536 → ((q : ℕ) → q < 9 → HasQueue m q (queue_of k.threads k.ready k.sleepers q))
-    → ((i : ℕ) → 18 ≤ i → i < 32 → get_or m (544 + i) 0 ≡ 0) → nth (written k) 2 ≡ nth (tables m) 2
-ends_back m k e h zeroes =
+pub ends_back : (m : List ℕ) (k : Kernel) → length m ≡ 65536
+    → ((q : ℕ) → q < 9 → get_or m (544 + 2 * q) 0 ≡ first (queue_of k.threads k.ready k.sleepers q))
+    → ((q : ℕ) → q < 9 → get_or m (545 + 2 * q) 0 ≡ last (queue_of k.threads k.ready k.sleepers q))
+    → ((j : ℕ) → j < 14 → get_or m (562 + j) 0 ≡ 0) → nth (written k) 2 ≡ nth (tables m) 2
+ends_back m k e firsts lasts zeroes =
     let laid : List ℕ = queue_ends k.threads k.ready k.sleepers in
     let byte : (i : ℕ) → i < 32 → get_or laid i 0 ≡ get_or m (544 + i) 0 = λ i l.
     ⊎_elim
     (λ less. let q = i / 2 in let low : q < 9 = omega (arith, less) in ⊎_elim
-    (λ is. ap (λ n. get_or laid n 0) is ∙ end_at k q low ∙ sym (h q low).starts ∙ ap (λ n. get_or m (544 + n) 0) (sym is))
-    (λ is. ap (λ n. get_or laid n 0) is ∙ last_at k q low ∙ sym (h q low).ends ∙ (let place : 545 + 2 * q ≡ 544 + i = omega (arith, is) in ap (λ a. get_or m a 0) place))
+    (λ is. ap (λ n. get_or laid n 0) is ∙ end_at k q low ∙ sym (firsts q low) ∙ ap (λ n. get_or m (544 + n) 0) (sym is))
+    (λ is. ap (λ n. get_or laid n 0) is ∙ last_at k q low ∙ sym (lasts q low) ∙ (let place : 545 + 2 * q ≡ 544 + i = omega (arith, is) in ap (λ a. get_or m a 0) place))
     (even_or i))
-    (λ past. let j = i - 18 in let at : 18 + j ≡ i = omega (arith, past) in ap (λ n. get_or laid n 0) (sym at) ∙ no_end k j ∙ sym (zeroes i past l))
+    (λ past. let j = i - 18 in let at : 18 + j ≡ i = omega (arith, past) in let here : 562 + j ≡ 544 + i = omega (arith, at) in
+    ap (λ n. get_or laid n 0) (sym at) ∙ no_end k j ∙ sym (zeroes j (omega (arith, at, l))) ∙ ap (λ a. get_or m a 0) here)
     (low_or i) in
     ext_get_or 0 laid (nth (tables m) 2) (ends_size k ∙ sym (ends_part m e))
     (λ i l. let inside : i < 32 = (let s : length laid ≡ 32 = ends_size k in omega (arith, s, l)) in byte i inside ∙ sym (end_byte m i inside))
 
--- a memory in which the queues stand holds its lists
-by_four : (P : ℕ → Type 0) → P 0 → P 1 → P 2 → P 3 → (j : ℕ) → j < 4 → P j
-by_four P a b c d zero l = a
-by_four P a b c d (suc zero) l = b
-by_four P a b c d (suc (suc zero)) l = c
-by_four P a b c d (suc (suc (suc zero))) l = d
-by_four P a b c d (suc (suc (suc (suc j)))) l = absurd (omega arith)
+-- members of a list
+all_in : (P : ℕ → Type 0) (xs : List ℕ) → All P xs → (t : ℕ) → In t xs → P t
+all_in P [] h t i = absurd i
+all_in P (x ∷ xs) h t i = ⊎_elim (λ e. subst P (eqb-true x t e) (All-head P x xs h)) (λ j. all_in P xs (All-tail P x xs h) t j) i
 
-not_eight : (q : ℕ) → q < 9 → eqb q 8 ≡ false → q < 8
+below_eight : (a : ℕ) → a ≤ 7 → a < 8
+below_eight a l = omega arith
+
+zero_sum : (a b : ℕ) → a ≡ 0 → b ≡ 0 → a + b ≡ 0
+zero_sum a b e f = omega (arith, e, f)
+
+-- the nine queues by number
+abbrev pub numbered : (f : ℕ → ℕ) (ready sleepers : List ℕ) (q : ℕ) → List ℕ
+numbered f ready sleepers q = cond (eqb q 8) sleepers (queue f ready q)
+
+pub numbered_ready : (f : ℕ → ℕ) (rs ss : List ℕ) (q : ℕ) → eqb q 8 ≡ false → numbered f rs ss q ≡ queue f rs q
+numbered_ready f rs ss q e = if_false (eqb q 8) ss (queue f rs q) e
+
+pub numbered_sleepers : (f : ℕ → ℕ) (rs ss : List ℕ) (q : ℕ) → eqb q 8 ≡ true → numbered f rs ss q ≡ ss
+numbered_sleepers f rs ss q e = if_true (eqb q 8) ss (queue f rs q) e
+
+pub not_eight : (q : ℕ) → q < 9 → eqb q 8 ≡ false → q < 8
 not_eight q l e = grind (arith, l, e)
 
-pub queues_of : (m : List ℕ) (k : Kernel) → Stands m (priority_in k.threads) k.ready k.sleepers → (q : ℕ) → q < 9 → HasQueue m q (queue_of k.threads k.ready k.sleepers q)
-queues_of m k s q l = by_bool (eqb q 8)
-    (λ t. subst (λ xs. HasQueue m q xs) (sym (sleepers_of k q t)) (subst (λ p. HasQueue m p k.sleepers) (sym (eqb-true q 8 t)) s.sleepers))
-    (λ t. subst (λ xs. HasQueue m q xs) (sym (ready_of k q t)) (s.ready q (not_eight q l t)))
+pub queues_of : (m : List ℕ) (f : ℕ → ℕ) (rs ss : List ℕ) → Stands m f rs ss → (q : ℕ) → q < 9 → HasQueue m q (numbered f rs ss q)
+queues_of m f rs ss s q l = by_bool (eqb q 8)
+    (λ t. subst (λ xs. HasQueue m q xs) (sym (numbered_sleepers f rs ss q t)) (subst (λ p. HasQueue m p ss) (sym (eqb-true q 8 t)) s.sleepers))
+    (λ t. subst (λ xs. HasQueue m q xs) (sym (numbered_ready f rs ss q t)) (s.ready q (not_eight q l t)))
 
-pub hold_back : (m : List ℕ) → length m ≡ 65536 → All Small m → HasQueues (kernel_of m) → Stands m (priority_in (kernel_of m).threads) (kernel_of m).ready (kernel_of m).sleepers
-    → ((t o : ℕ) → t < 32 → o < 44 → get_or m (1056 + (48 * t + o)) 0 ≡ get_or (thread_bytes (get_or (kernel_of m).threads t free_thread)) o 0)
-    → ((i : ℕ) → 18 ≤ i → i < 32 → get_or m (544 + i) 0 ≡ 0) → nth (tables m) 3 ≡ replicate 32 0
-    → ((t : ℕ) → t < 32 → (get_or m (1056 + (48 * t + 46)) 0 ≡ 0) × (get_or m (1056 + (48 * t + 47)) 0 ≡ 0)) → QueuesHold m
-unfolding HasQueueBytes
-hold_back m e small lists s front ends none zeroes =
+-- a memory whose lists hold has the nine queues
+pub holds_stands : (m : List ℕ) → length m ≡ 65536 → All Small m → QueuesHold m → Stands m (priority_in (kernel_of m).threads) (kernel_of m).ready (kernel_of m).sleepers
+holds_stands m e small h =
     let k : Kernel = kernel_of m in let f : ℕ → ℕ = priority_in k.threads in
+    let stand : (q : ℕ) → q < 9 → HasQueue m q (numbered f k.ready k.sleepers q) = queues_stand m e small h in
     record {
-      bytes = (
-        ends_back m k e (queues_of m k s) ends,
-        (
-          sym none,
-          rows_back m k e (memory_fits_lem m e small) front (λ t j l lj.
-              by_four (λ i. get_or m (1056 + (48 * t + (44 + i))) 0 ≡ get_or (links_of k.threads k.ready k.sleepers t) i 0)
-              (next_back m f k.ready k.sleepers s t l) (prev_back m f k.ready k.sleepers s t l) (zeroes t l).0 (zeroes t l).1 j lj),
-        ),
-      );
-      lists = lists;
+      once = once m e small h;
+      priorities = λ t i. below_eight (f t) (all_in (λ x. f x ≤ 7) k.ready h.lists.priorities t i);
+      ready = λ q l. subst (λ xs. HasQueue m q xs) (numbered_ready f k.ready k.sleepers q (not_eq q 8 (λ same. absurd (omega arith)))) (stand q (omega arith));
+      sleepers = stand 8 (omega arith);
+      next_none = λ t l o p. link_byte m e small h t 0 l (omega arith)
+          ∙ zero_sum (next_of (queue f k.ready (f t)) t) (next_of k.sleepers t) (next_out (queue f k.ready (f t)) t (out_queue f (f t) t k.ready o)) (next_out k.sleepers t p);
+      prev_none = λ t l o p. link_byte m e small h t 1 l (omega arith)
+          ∙ zero_sum (prev_of (queue f k.ready (f t)) t) (prev_of k.sleepers t) (prev_out 0 (queue f k.ready (f t)) t (out_queue f (f t) t k.ready o)) (prev_out 0 k.sleepers t p);
     }
