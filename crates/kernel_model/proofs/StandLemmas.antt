@@ -25,18 +25,18 @@ end_byte : (m : List ℕ) (i : ℕ) → i < 32 → get_or (nth (tables m) 2) i 0
 unfolding tables
 end_byte m i l = part_byte m 544 32 i l
 
-row_byte : (m : List ℕ) (i : ℕ) → i < 1536 → get_or (nth (tables m) 7) i 0 ≡ get_or m (1056 + i) 0
+pub table_row_byte : (m : List ℕ) (i : ℕ) → i < 1536 → get_or (nth (tables m) 7) i 0 ≡ get_or m (1056 + i) 0
 unfolding tables
-row_byte m i l = part_byte m 1056 1536 i l
+table_row_byte m i l = part_byte m 1056 1536 i l
 
 rows_size : (m : List ℕ) → length m ≡ 65536 → length (nth (tables m) 7) ≡ 1536
 unfolding tables
 rows_size m e = length-part m 1056 1536 (let within : 1056 + 1536 ≤ length m = omega (arith, e) in within)
 
-next_at : (q t : ℕ) → next_place q (t + 1) ≡ 1056 + (48 * t + 44)
+pub next_at : (q t : ℕ) → next_place q (t + 1) ≡ 1056 + (48 * t + 44)
 next_at q t = grind arith
 
-prev_at : (q t : ℕ) → prev_place q (t + 1) ≡ 1056 + (48 * t + 45)
+pub prev_at : (q t : ℕ) → prev_place q (t + 1) ≡ 1056 + (48 * t + 45)
 prev_at q t = grind arith
 
 -- the queue of a priority, where q is one
@@ -77,11 +77,11 @@ module _ (m : List ℕ) (e : length m ≡ 65536) (s : All Small m) (h : QueuesHo
   -- the bytes of a thread's row, and of its links
   pub front_byte : (t o : ℕ) → t < 32 → o < 44 → get_or m (1056 + (48 * t + o)) 0 ≡ get_or (thread_bytes (get_or k.threads t free_thread)) o 0
   unfolding HasQueueBytes
-  front_byte t o l lo = sym (row_byte m (48 * t + o) (omega arith)) ∙ ap (λ bs. get_or bs (48 * t + o) 0) (sym h.bytes.1.1) ∙ front_laid k fits t o l lo
+  front_byte t o l lo = sym (table_row_byte m (48 * t + o) (omega arith)) ∙ ap (λ bs. get_or bs (48 * t + o) 0) (sym h.bytes.1.1) ∙ front_laid k fits t o l lo
 
   pub link_byte : (t j : ℕ) → t < 32 → j < 4 → get_or m (1056 + (48 * t + (44 + j))) 0 ≡ get_or (links_of k.threads k.ready k.sleepers t) j 0
   unfolding HasQueueBytes
-  link_byte t j l lj = sym (row_byte m (48 * t + (44 + j)) (omega arith)) ∙ ap (λ bs. get_or bs (48 * t + (44 + j)) 0) (sym h.bytes.1.1) ∙ link_laid k fits t j l lj
+  link_byte t j l lj = sym (table_row_byte m (48 * t + (44 + j)) (omega arith)) ∙ ap (λ bs. get_or bs (48 * t + (44 + j)) 0) (sym h.bytes.1.1) ∙ link_laid k fits t j l lj
 
   -- a byte behind the queues' ends
   pub unused_byte : (j : ℕ) → j < 14 → get_or m (562 + j) 0 ≡ 0
@@ -92,11 +92,11 @@ module _ (m : List ℕ) (e : length m ≡ 65536) (s : All Small m) (h : QueuesHo
 
   next_byte : (t : ℕ) → t < 32 → get_or m (1056 + (48 * t + 44)) 0 ≡ next_of (queue f k.ready (f t)) t + next_of k.sleepers t
   unfolding HasQueueBytes
-  next_byte t l = sym (row_byte m (48 * t + 44) (omega arith)) ∙ ap (λ bs. get_or bs (48 * t + 44) 0) (sym h.bytes.1.1) ∙ next_laid k fits t l
+  next_byte t l = sym (table_row_byte m (48 * t + 44) (omega arith)) ∙ ap (λ bs. get_or bs (48 * t + 44) 0) (sym h.bytes.1.1) ∙ next_laid k fits t l
 
   prev_byte : (t : ℕ) → t < 32 → get_or m (1056 + (48 * t + 45)) 0 ≡ prev_of (queue f k.ready (f t)) t + prev_of k.sleepers t
   unfolding HasQueueBytes
-  prev_byte t l = sym (row_byte m (48 * t + 45) (omega arith)) ∙ ap (λ bs. get_or bs (48 * t + 45) 0) (sym h.bytes.1.1) ∙ prev_laid k fits t l
+  prev_byte t l = sym (table_row_byte m (48 * t + 45) (omega arith)) ∙ ap (λ bs. get_or bs (48 * t + 45) 0) (sym h.bytes.1.1) ∙ prev_laid k fits t l
 
   stands_with : (q : ℕ) (xs : List ℕ) → q < 9 → queue_of k.threads k.ready k.sleepers q ≡ xs
       → ((x : ℕ) → In x xs → get_or m (1056 + (48 * x + 44)) 0 ≡ next_of xs x) → ((x : ℕ) → In x xs → get_or m (1056 + (48 * x + 45)) 0 ≡ prev_of xs x) → HasQueue m q xs
@@ -123,11 +123,11 @@ module _ (m : List ℕ) (e : length m ≡ 65536) (s : All Small m) (h : QueuesHo
 
 -- ---- and back
 
-in_or_not : (t : ℕ) (xs : List ℕ) → In t xs ⊎ Out t xs
+pub in_or_not : (t : ℕ) (xs : List ℕ) → In t xs ⊎ Out t xs
 in_or_not t [] = inr tt
 in_or_not t (x ∷ xs) = by_bool (eqb x t) (λ e. inl (inl e)) (λ e. ⊎_elim (λ i. inl (inr i)) (λ o. inr (e, o)) (in_or_not t xs))
 
-in_own : (f : ℕ → ℕ) (p t : ℕ) (xs : List ℕ) → f t ≡ p → In t xs → In t (queue f xs p)
+pub in_own : (f : ℕ → ℕ) (p t : ℕ) (xs : List ℕ) → f t ≡ p → In t xs → In t (queue f xs p)
 in_own f p t [] e i = absurd i
 in_own f p t (x ∷ xs) e i =
     let rest : List ℕ = queue f xs p in
@@ -198,7 +198,7 @@ rows_back m k e fits front links =
     (below_or o) in
     ext_get_or 0 laid (nth (tables m) 7) (size ∙ sym whole)
     (λ i l. let cut : 48 * (i / 48) + i % 48 ≡ i = omega arith in let inside : i < 1536 = omega (arith, size) in
-    ap (λ n. get_or laid n 0) (sym cut) ∙ row (i / 48) (i % 48) (omega (arith, inside)) (omega arith) ∙ ap (λ n. get_or m (1056 + n) 0) cut ∙ sym (row_byte m i inside))
+    ap (λ n. get_or laid n 0) (sym cut) ∙ row (i / 48) (i % 48) (omega (arith, inside)) (omega arith) ∙ ap (λ n. get_or m (1056 + n) 0) cut ∙ sym (table_row_byte m i inside))
 
 ends_size : (k : Kernel) → length (queue_ends k.threads k.ready k.sleepers) ≡ 32
 unfolding queue_ends
@@ -233,11 +233,11 @@ ends_back m k e firsts lasts zeroes =
     (λ i l. let inside : i < 32 = (let s : length laid ≡ 32 = ends_size k in omega (arith, s, l)) in byte i inside ∙ sym (end_byte m i inside))
 
 -- members of a list
-all_in : (P : ℕ → Type 0) (xs : List ℕ) → All P xs → (t : ℕ) → In t xs → P t
+pub all_in : (P : ℕ → Type 0) (xs : List ℕ) → All P xs → (t : ℕ) → In t xs → P t
 all_in P [] h t i = absurd i
 all_in P (x ∷ xs) h t i = ⊎_elim (λ e. subst P (eqb-true x t e) (All-head P x xs h)) (λ j. all_in P xs (All-tail P x xs h) t j) i
 
-below_eight : (a : ℕ) → a ≤ 7 → a < 8
+pub below_eight : (a : ℕ) → a ≤ 7 → a < 8
 below_eight a l = omega arith
 
 zero_sum : (a b : ℕ) → a ≡ 0 → b ≡ 0 → a + b ≡ 0

@@ -12,6 +12,7 @@
 mod domains;
 mod emptying;
 pub mod laws;
+mod links;
 mod order;
 mod pieces;
 mod places;
