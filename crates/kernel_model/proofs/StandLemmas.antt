@@ -1,5 +1,5 @@
 -- A memory whose lists hold has their queues.
-use Rattle.std.proofs.Common.{◌≡◌, ℕ, ◌+◌, ◌*◌, ◌<◌, ◌≤◌, zero, suc, Bool, true, false, cond, eqb, List, [], ◌∷◌, ◌++◌, length, ◌⊎◌, ⊎_elim, inl, inr, get_or, take, drop, refl, sym, ap, ◌∙◌, subst, arith, All, get_or-take, get_or-drop, ext_get_or, ltb, ltb-true, replicate, ◌/◌, ◌%◌, ◌-◌}
+use Rattle.std.proofs.Common.{◌≡◌, ℕ, ◌+◌, ◌*◌, ◌<◌, ◌≤◌, zero, suc, true, false, cond, eqb, List, [], ◌∷◌, ◌++◌, length, ◌⊎◌, ⊎_elim, inl, inr, get_or, drop, refl, sym, ap, ◌∙◌, subst, arith, All, get_or-take, get_or-drop, ext_get_or, ltb, ltb-true, replicate, ◌/◌, ◌%◌, ◌-◌}
 use Rattle.std.proofs.lemmas.Bool.{eqb-true, eq-eqb}
 use Rattle.std.specs.List.{flat_map}
 use Rattle.std.proofs.lemmas.List.{get_or-append-add}
@@ -9,12 +9,12 @@ use Rattle.kernel_model.specs.Kernel.{Kernel, free_thread}
 use Rattle.kernel_model.specs.Links.{first, last, next_of, prev_of, queue}
 use Rattle.kernel_model.specs.Members.{In, Out, Once, Below}
 use Rattle.kernel_model.specs.Layout.{tables, nth, kernel_of, Fits, queue_of, priority_in, written, links_of, thread_bytes, queue_ends}
-use Rattle.kernel_model.specs.Queues.{QueuesHold, HasQueues, HasQueueBytes}
+use Rattle.kernel_model.specs.Queues.{QueuesHold, HasQueueBytes}
 use Rattle.kernel_model.specs.Standing.{next_place, prev_place, next_in, prev_in, HasQueue}
 use Rattle.kernel_model.proofs.FitLemmas.{Small, memory_fits_lem}
 use Rattle.kernel_model.proofs.LinkLemmas.{by_bool, if_true, if_false, not_eq, next_out, prev_out}
 use Rattle.kernel_model.proofs.ReadLemmas.{below_of, once_of, not_right, out_queue, in_queue, own_link, sleeping_link, own_prev, sleeping_prev, low}
-use Rattle.kernel_model.proofs.LayoutLemmas.{end_at, last_at, next_laid, prev_laid, by_nine, rows_laid, front_laid, link_laid, linked_size}
+use Rattle.kernel_model.proofs.LayoutLemmas.{end_at, last_at, next_laid, prev_laid, rows_laid, front_laid, link_laid, linked_size}
 use Rattle.kernel_model.proofs.BytesLemmas.{length-part}
 
 part_byte : (m : List ℕ) (a n i : ℕ) → i < n → get_or (part m a n) i 0 ≡ get_or m (a + i) 0

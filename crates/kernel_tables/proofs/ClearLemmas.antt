@@ -1,7 +1,7 @@
 -- The empty kernel's bytes.
 use Rattle.std.proofs.Common.{◌≡◌, ℕ, ◌+◌, ◌*◌, ◌<◌, ◌≤◌, ◌⊎◌, zero, suc, List, [], ◌∷◌, ◌++◌, length, take, drop, map, get_or, slice_set, refl, ap, sym, ◌∙◌, subst, ⊎_elim, arith, length-append, add-one}
 use Rattle.std.specs.List.{range_with_len}
-use Rattle.std.proofs.lemmas.List.{set_split, length-replicate, replicate_more, places}
+use Rattle.std.proofs.lemmas.List.{set_split, length-replicate, replicate_more}
 use Rattle.std.proofs.lemmas.List.Elements.{All-nil, All-replicate}
 use Rattle.std.proofs.lemmas.List.FromFn.{get_or-map-range_with_len}
 use Rattle.flat_mem.specs.Bytes.{patch, word_at}

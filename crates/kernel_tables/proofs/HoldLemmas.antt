@@ -1,13 +1,13 @@
 -- What the test of the queues compares, and whether the two lists hold.
-use Rattle.std.proofs.Common.{◌≡◌, ℕ, ◌+◌, ◌-◌, ◌*◌, ◌/◌, ◌%◌, ◌<◌, ◌≤◌, zero, suc, List, [], ◌∷◌, ◌++◌, length, take, drop, get_or, replicate, refl, sym, ap, ◌∙◌, subst, arith, ◌⊎◌, ⊎_elim, All, ext_get_or, length-append}
+use Rattle.std.proofs.Common.{◌≡◌, ℕ, ◌+◌, ◌-◌, ◌*◌, ◌/◌, ◌%◌, ◌<◌, ◌≤◌, zero, suc, List, [], ◌∷◌, ◌++◌, length, take, drop, get_or, replicate, refl, sym, ap, ◌∙◌, subst, arith, ⊎_elim, All, ext_get_or}
 use Rattle.std.proofs.Math.Seq.{take-add}
 use Rattle.std.proofs.lemmas.Bool.{cases_lt}
 use Rattle.std.proofs.lemmas.List.{get_or-take, length-drop, length-replicate}
-use Rattle.std.proofs.lemmas.List.Elements.{All-head, All-tail, All-take, All-drop}
+use Rattle.std.proofs.lemmas.List.Elements.{All-head, All-tail}
 use Rattle.kernel_model.specs.Bytes.{part, words_of, bytes_of}
-use Rattle.kernel_model.specs.Kernel.{Kernel, thread_at, free_thread}
+use Rattle.kernel_model.specs.Kernel.{Kernel, free_thread}
 use Rattle.kernel_model.specs.Links.{first, last}
-use Rattle.kernel_model.specs.Layout.{tables, nth, kernel_of, thread_bytes, thread_read, links_of, queue_of, written, Fits}
+use Rattle.kernel_model.specs.Layout.{tables, kernel_of, thread_bytes, thread_read, links_of, queue_of}
 use Rattle.kernel_model.specs.Queues.{AreQueues, QueuesHold, HasQueueBytes}
 use Rattle.kernel_model.specs.declared.rows.ThreadRow.{ThreadRow}
 use Rattle.kernel_model.proofs.BytesLemmas.{length-part, length-words_of}
@@ -86,15 +86,18 @@ pub bytes_from : (m : List ℕ) → length m ≡ 65536 → All Small m → AreEn
 unfolding HasQueueBytes tables
 bytes_from m e small ends links =
     let k : Kernel = kernel_of m in
-    let queues : ℕ → List ℕ = queue_of k.threads k.ready k.sleepers in
-    (ends_back m k e
-      (λ q l. let place : 544 + 2 * q ≡ 544 + 2 * q + 0 = omega arith in ap (λ a. get_or m a 0) place ∙ end_pair m q 0 (first (queues q)) (last (queues q)) (omega arith) (ends.ends q l))
-      (λ q l. let place : 545 + 2 * q ≡ 544 + 2 * q + 1 = omega arith in ap (λ a. get_or m a 0) place ∙ end_pair m q 1 (first (queues q)) (last (queues q)) (omega arith) (ends.ends q l))
-      (λ j l. sym (byte_in m 562 46 j (omega arith)) ∙ ap (λ bs. get_or bs j 0) ends.unused ∙ zero_byte 46 j),
-      (sym (unused_part m ends.unused),
+    let queues : ℕ → List ℕ = queue_of k.threads k.ready k.sleepers in (
+      ends_back m k e
+          (λ q l. let place : 544 + 2 * q ≡ 544 + 2 * q + 0 = omega arith in ap (λ a. get_or m a 0) place ∙ end_pair m q 0 (first (queues q)) (last (queues q)) (omega arith) (ends.ends q l))
+          (λ q l. let place : 545 + 2 * q ≡ 544 + 2 * q + 1 = omega arith in ap (λ a. get_or m a 0) place ∙ end_pair m q 1 (first (queues q)) (last (queues q)) (omega arith) (ends.ends q l))
+          (λ j l. sym (byte_in m 562 46 j (omega arith)) ∙ ap (λ bs. get_or bs j 0) ends.unused ∙ zero_byte 46 j),
+      (
+        sym (unused_part m ends.unused),
         rows_back m k e (memory_fits_lem m e small) (λ t o l lo. front_any m t o e small l lo)
-        (λ t j l lj. let place : 1056 + (48 * t + (44 + j)) ≡ 1100 + 48 * t + j = omega arith in
-        ap (λ a. get_or m a 0) place ∙ sym (byte_in m (1100 + 48 * t) 4 j lj) ∙ ap (λ bs. get_or bs j 0) (links t l))))
+            (λ t j l lj. let place : 1056 + (48 * t + (44 + j)) ≡ 1100 + 48 * t + j = omega arith in
+            ap (λ a. get_or m a 0) place ∙ sym (byte_in m (1100 + 48 * t) 4 j lj) ∙ ap (λ bs. get_or bs j 0) (links t l)),
+      ),
+    )
 
 -- ---- and to it
 

@@ -1,13 +1,13 @@
 -- A queue in memory: what is walked, a thread linked in, a thread linked out.
-use Rattle.std.proofs.Common.{◌≡◌, ℕ, ◌+◌, ◌*◌, ◌<◌, ◌≤◌, zero, suc, Bool, true, false, cond, eqb, List, [], ◌∷◌, ◌++◌, length, get_or, refl, sym, ap, ◌∙◌, subst, arith, ◌⊎◌, ⊎_elim, inl, inr, append_assoc}
+use Rattle.std.proofs.Common.{◌≡◌, ℕ, ◌+◌, ◌*◌, ◌<◌, ◌≤◌, suc, true, false, cond, eqb, List, [], ◌∷◌, ◌++◌, length, get_or, refl, sym, ap, ◌∙◌, subst, arith, ⊎_elim, inl, inr, append_assoc}
 use Rattle.std.proofs.lemmas.Bool.{eqb-true, eq-eqb}
-use Rattle.kernel_model.specs.Links.{taken, queue, gathered, first, last_after, last, next_of, prev_after, prev_of, walk}
+use Rattle.kernel_model.specs.Links.{taken, first, last_after, last, next_of, prev_of, walk}
 use Rattle.kernel_model.specs.Members.{Out, In, Once, Below}
-use Rattle.kernel_model.specs.Standing.{HasQueue, next_place, prev_place, next_in, prev_in}
+use Rattle.kernel_model.specs.Standing.{HasQueue, next_place, next_in, prev_in}
 use Rattle.kernel_tables.specs.Linking.{linked, unlinked, walk_in}
-use Rattle.kernel_model.proofs.LinkLemmas.{by_bool, if_true, if_false, not_eq, both_values, Linked, walk_back, walk_same, linked_from, next_new, next_out, next_others, prev_new, prev_out, prev_others, last_new, last_others, first_low, last_low}
+use Rattle.kernel_model.proofs.LinkLemmas.{by_bool, if_true, if_false, not_eq, both_values, walk_back, linked_from, next_new, next_others, prev_new, prev_others, last_new, last_others, first_low, last_low}
 use Rattle.kernel_model.proofs.ReadLemmas.{low}
-use Rattle.kernel_model.proofs.RunLemmas.{cut_at, AtMost, Falls, gathered_all}
+use Rattle.kernel_model.proofs.RunLemmas.{cut_at}
 use Rattle.kernel_tables.proofs.LinkBytes.{next_linked, prev_linked, next_unlinked, prev_unlinked}
 
 -- ---- the walk

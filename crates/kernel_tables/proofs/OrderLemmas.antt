@@ -1,9 +1,9 @@
 -- Lists in order.
-use Rattle.std.proofs.Common.{◌≡◌, ◌≢◌, ℕ, ◌+◌, ◌-◌, ◌<◌, ◌≤◌, true, false, IsTrue, zero, suc, List, ◌++◌, length, drop, get_or, eqb, refl, ap, sym, ◌∙◌, subst, arith, length-append, AllPairs, Contains}
+use Rattle.std.proofs.Common.{◌≡◌, ◌≢◌, ℕ, ◌+◌, ◌-◌, ◌<◌, ◌≤◌, true, false, IsTrue, zero, suc, List, ◌++◌, length, get_or, eqb, refl, ap, sym, ◌∙◌, subst, arith, length-append, AllPairs, Contains}
 use Rattle.std.specs.List.{position_or_len}
 use Rattle.std.proofs.lemmas.Bool.{false≢true, eqb-true}
 use Rattle.std.proofs.lemmas.List.Sums.{passes_at_first}
-use Rattle.std.proofs.lemmas.List.{get_or_append_left, get_or-append-add, get_or_default, ext_get_or, get_or-take, get_or-drop}
+use Rattle.std.proofs.lemmas.List.{get_or_append_left, get_or-append-add, get_or_default, ext_get_or}
 use Rattle.kernel_model.specs.Bytes.{part}
 use Rattle.kernel_model.proofs.BytesLemmas.{length-part}
 use Rattle.kernel_model.proofs.OrderlyLemmas.{pairs_apart}

@@ -1,5 +1,5 @@
 -- A thread linked into one queue, or out of it, leaves the other queues.
-use Rattle.std.proofs.Common.{◌≡◌, ℕ, ◌+◌, ◌*◌, ◌<◌, ◌≤◌, zero, suc, Bool, true, false, cond, eqb, List, length, get_or, set, sym, ap, ◌∙◌, arith, length-set}
+use Rattle.std.proofs.Common.{◌≡◌, ℕ, ◌+◌, ◌<◌, List, length, get_or, set, sym, ◌∙◌, arith, length-set}
 use Rattle.std.proofs.lemmas.List.{get_or-set_other}
 use Rattle.kernel_model.specs.Members.{In}
 use Rattle.kernel_model.specs.Standing.{HasQueue, next_place, prev_place, next_in, prev_in}

@@ -13,11 +13,11 @@ use Rattle.kernel_model.proofs.ReadLemmas.{out_queue}
 use Rattle.kernel_model.proofs.LayoutLemmas.{length-thread}
 use Rattle.kernel_model.proofs.StandLemmas.{in_or_not, ends_back, queues_stand, unused_byte}
 use Rattle.kernel_tables.proofs.Patches.{length-patch, kept_below, kept_above, put_byte}
-use Rattle.kernel_tables.proofs.Relaid.{Elsewhere, Relaid, Rowed, rows_kept, leaves_relaid}
+use Rattle.kernel_tables.proofs.Relaid.{Elsewhere, Relaid, rows_kept, leaves_relaid}
 use Rattle.kernel_model.specs.Kernel.{Kernel, with_thread, free_thread}
 use Rattle.kernel_model.specs.Words.{priority_of, wake_time}
 use Rattle.kernel_model.specs.Layout.{written, tables, nth, kernel_of, thread_bytes, links_of, queue_of, queue_ends, Fits, FitsThread}
-use Rattle.kernel_model.specs.Queues.{AreQueues, HasQueues, HasQueueBytes, QueuesHold, Leaves, priority_in, wake_time_in, wake_time_of}
+use Rattle.kernel_model.specs.Queues.{AreQueues, HasQueueBytes, QueuesHold, Leaves, priority_in, wake_time_in, wake_time_of}
 use Rattle.kernel_model.specs.declared.rows.ThreadRow.{ThreadRow}
 use Rattle.kernel_tables.proofs.TableLemmas.{thread_count}
 

@@ -1,7 +1,6 @@
 -- The kernel's two lists are what the walks read.
-use Rattle.std.proofs.Common.{◌≡◌, ◌≢◌, ℕ, ◌+◌, ◌*◌, ◌<◌, ◌≤◌, List, ◌++◌, length, get_or, take, drop, sym, ap, ◌∙◌, subst, arith, All, AllPairs, get_or-take, get_or-drop, length-append}
+use Rattle.std.proofs.Common.{◌≡◌, ℕ, ◌+◌, ◌*◌, ◌<◌, ◌≤◌, List, length, get_or, drop, sym, ap, ◌∙◌, subst, arith, get_or-take, get_or-drop}
 use Rattle.kernel_model.specs.Bytes.{part}
-use Rattle.kernel_model.specs.Kernel.{Kernel}
 use Rattle.kernel_model.specs.Layout.{tables, nth, kernel_in, kernel_of}
 use Rattle.kernel_model.specs.Layout as layout
 use Rattle.kernel_model.specs.Links.{walk, gathered}

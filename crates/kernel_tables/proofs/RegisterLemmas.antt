@@ -222,8 +222,10 @@ leaves_register m m' t r v e small h l is =
         bytes = (
           ap (λ j. nth (written j) 2) kernel ∙ ends_kept m m' k' e small (ap (λ a. length a) is' ∙ w.size) q (λ i li. ap (λ a. get_or a (544 + i) 0) is' ∙ w.ends i li)
               (λ p lp. queue_of_same k.threads k'.threads k.ready k.sleepers p (λ x i. priority_kept m t r v x h)),
-          (ap (λ j. nth (written j) 3) kernel ∙ q.bytes.1.0 ∙ sym (ap (λ ps. nth ps 3) moved ∙ third m (nth (tables n) 7)),
-            ap (λ j. nth (written j) 7) kernel ∙ rows_back q.bytes.1.1 ∙ ap (λ a. nth (tables a) 7) (sym is')),
+          (
+            ap (λ j. nth (written j) 3) kernel ∙ q.bytes.1.0 ∙ sym (ap (λ ps. nth ps 3) moved ∙ third m (nth (tables n) 7)),
+            ap (λ j. nth (written j) 7) kernel ∙ rows_back q.bytes.1.1 ∙ ap (λ a. nth (tables a) 7) (sym is'),
+          ),
         );
         lists = subst (λ (j : Kernel). HasQueues j) (sym kernel)
             (queues_of_row k.threads k.ready k.sleepers t (new_row m t r v) (omega arith) (λ c. refl) (λ c. refl) q.lists);

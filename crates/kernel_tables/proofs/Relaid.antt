@@ -1,11 +1,11 @@
 -- A memory whose thread rows and queues were written anew.
 use Rattle.std.proofs.Common.{◌≡◌, ◌≢◌, ℕ, ◌+◌, ◌*◌, ◌<◌, ◌≤◌, List, [], ◌∷◌, ◌++◌, length, get_or, refl, ap, sym, ◌∙◌, subst, arith, ◌⊎◌, ⊎_elim, inl, inr}
-use Rattle.std.proofs.lemmas.Bool.{cases_eq, cases_lt}
+use Rattle.std.proofs.lemmas.Bool.{cases_eq}
 use Rattle.kernel_model.specs.Bytes.{part, words_of, before_none, rows}
 use Rattle.kernel_model.specs.Kernel.{Kernel, free_thread}
 use Rattle.kernel_model.specs.Links.{gathered}
-use Rattle.kernel_model.specs.Layout.{written, tables, nth, kernel_in, kernel_of, IsLaidOut, outside, app_read, module_read, function_read, thread_read, mutex_read, thread_bytes, links_of, queue_ends, walked, Fits}
-use Rattle.kernel_model.specs.Queues.{HasQueues, HasQueueBytes, QueuesHold, Leaves}
+use Rattle.kernel_model.specs.Layout.{written, tables, nth, kernel_in, kernel_of, IsLaidOut, outside, app_read, module_read, function_read, thread_read, mutex_read, thread_bytes, links_of, walked, Fits}
+use Rattle.kernel_model.specs.Queues.{HasQueues, HasQueueBytes, Leaves}
 use Rattle.kernel_model.specs.declared.rows.ThreadRow.{ThreadRow}
 use Rattle.kernel_model.proofs.LayoutLemmas.{same_kernel, threads_back, ready_back, sleepers_back, front_laid, link_laid}
 use Rattle.kernel_model.proofs.StandLemmas.{rows_back, table_row_byte}
@@ -94,10 +94,13 @@ relaid_outside m m' k e r =
 relaid_bytes : (m m' : List ℕ) (ts : List ThreadRow) (rs ss : List ℕ) → length m ≡ 65536 → Relaid m m' (relisted m ts rs ss) → kernel_of m' ≡ relisted m ts rs ss → HasQueueBytes m → HasQueueBytes m'
 unfolding HasQueueBytes tables
 relaid_bytes m m' ts rs ss e r kernel h =
-    let k : Kernel = relisted m ts rs ss in
-    (ap (λ j. nth (written j) 2) kernel ∙ r.ends,
-      (ap (λ j. nth (written j) 3) kernel ∙ h.1.0 ∙ sym (stays m m' k 576 32 e r (omega arith) (λ i l. mid 576 32 i (omega arith) (omega arith) l)),
-        ap (λ j. nth (written j) 7) kernel ∙ r.rows))
+    let k : Kernel = relisted m ts rs ss in (
+      ap (λ j. nth (written j) 2) kernel ∙ r.ends,
+      (
+        ap (λ j. nth (written j) 3) kernel ∙ h.1.0 ∙ sym (stays m m' k 576 32 e r (omega arith) (λ i l. mid 576 32 i (omega arith) (omega arith) l)),
+        ap (λ j. nth (written j) 7) kernel ∙ r.rows,
+      ),
+    )
 
 pub leaves_relaid : (m m' : List ℕ) (ts : List ThreadRow) (rs ss : List ℕ) → length m ≡ 65536 → Fits (relisted m ts rs ss) → HasQueues (relisted m ts rs ss)
     → Relaid m m' (relisted m ts rs ss) → Leaves m m' (relisted m ts rs ss)

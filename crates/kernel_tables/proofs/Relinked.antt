@@ -1,21 +1,19 @@
 -- A memory that holds, after a thread was linked into a queue or out of one.
-use Rattle.std.proofs.Common.{◌≡◌, ◌≢◌, ℕ, ◌+◌, ◌*◌, ◌<◌, ◌≤◌, zero, suc, Bool, true, false, cond, eqb, List, [], ◌∷◌, ◌++◌, length, take, drop, get_or, refl, sym, ap, ◌∙◌, subst, arith, ◌⊎◌, ⊎_elim, inl, inr, All, Contains, insert}
-use Rattle.std.specs.List.{position_or_len, prefix_len}
+use Rattle.std.proofs.Common.{◌≡◌, ℕ, ◌+◌, ◌*◌, ◌<◌, ◌≤◌, zero, suc, true, false, cond, eqb, List, [], ◌∷◌, ◌++◌, length, get_or, refl, sym, ap, ◌∙◌, subst, arith, ◌⊎◌, ⊎_elim, inl, inr, All}
 use Rattle.std.proofs.lemmas.Bool.{eqb-true, eq-eqb}
-use Rattle.std.proofs.lemmas.List.{take-append-drop}
-use Rattle.kernel_model.specs.Kernel.{Kernel, free_thread, with_ready, with_sleepers}
-use Rattle.kernel_model.specs.Links.{first, last, next_of, prev_of, queue, put_before, taken}
+use Rattle.kernel_model.specs.Kernel.{Kernel}
+use Rattle.kernel_model.specs.Links.{first, last}
 use Rattle.kernel_model.specs.Members.{In, Out, Once, Below}
 use Rattle.kernel_model.specs.Standing.{HasQueue, next_place, prev_place, next_in, prev_in}
 use Rattle.kernel_model.specs.Layout.{kernel_of, priority_in, links_of, Fits}
 use Rattle.kernel_model.specs.Queues.{HasQueues, QueuesHold, Leaves}
 use Rattle.kernel_model.proofs.FitLemmas.{Small, memory_fits_lem}
-use Rattle.kernel_model.proofs.LinkLemmas.{by_bool, if_true, if_false, not_eq, both_values, in_or_out, first_low, last_low}
-use Rattle.kernel_model.proofs.ReadLemmas.{below_of, once_of, once_left, once_right, once_queue, below_queue, out_queue, in_queue, not_right, low}
-use Rattle.kernel_model.proofs.StandLemmas.{Stands, numbered, numbered_ready, numbered_sleepers, not_eight, queues_of, holds_stands, ends_back, rows_back, next_back, prev_back, front_byte, link_byte, unused_byte, all_in, below_eight, next_at, prev_at}
+use Rattle.kernel_model.proofs.LinkLemmas.{by_bool, if_true, not_eq, both_values, in_or_out, first_low, last_low}
+use Rattle.kernel_model.proofs.ReadLemmas.{once_of, once_left, once_right, once_queue, below_queue, out_queue, in_queue, not_right}
+use Rattle.kernel_model.proofs.StandLemmas.{Stands, numbered, numbered_ready, numbered_sleepers, queues_of, holds_stands, ends_back, rows_back, next_back, prev_back, front_byte, link_byte, unused_byte, all_in, below_eight, next_at, prev_at}
 use Rattle.kernel_tables.specs.Linking.{linked, unlinked}
 use Rattle.kernel_tables.proofs.LinkBytes.{next_unlinked, prev_unlinked}
-use Rattle.kernel_tables.proofs.LinkedQueues.{linked_queue, unlinked_queue, in_front, in_back, out_of, out_less, last_in, below_front, below_back}
+use Rattle.kernel_tables.proofs.LinkedQueues.{linked_queue, unlinked_queue, in_front, in_back, last_in, below_front, below_back}
 use Rattle.kernel_tables.proofs.OtherQueues.{Stays, Apart, linked_stays, unlinked_stays, length-linked, length-unlinked, next_stays, prev_stays, queue_stays}
 use Rattle.kernel_tables.proofs.Relaid.{Elsewhere, Relaid, relisted, leaves_relaid}
 
@@ -243,9 +241,13 @@ unlink_edit m f rs ss rs' ss' q t ys zs e lq s old new others b1 b2 free =
             ap (λ y. next_in m' q (y + 1)) same ∙ next_unlinked m q t (last ys) (first zs) (t + 1) e lq lt lb (omega arith)
                 ∙ if_true (eqb (t + 1) (t + 1)) 0 (cond (eqb (t + 1) (last ys)) (first zs) (next_in m q (t + 1))) at,
             ap (λ y. prev_in m' q (y + 1)) same ∙ prev_unlinked m q t (last ys) (first zs) (t + 1) e lq lt lh (omega arith)
-                ∙ if_true (eqb (t + 1) (t + 1)) 0 (cond (eqb (t + 1) (first zs)) (last ys) (prev_in m q (t + 1))) at))
-          (λ r. inr (next_to x t ys zs
-          (λ same. out_in x (numbered f rs ss q) (out_numbered f rs ss x q r.0 r.1) (subst (λ y. In y (numbered f rs ss q)) (sym same) own))
-          (λ j. out_in x (numbered f rs ss q) (out_numbered f rs ss x q r.0 r.1) (mine x j)), r))
+                ∙ if_true (eqb (t + 1) (t + 1)) 0 (cond (eqb (t + 1) (first zs)) (last ys) (prev_in m q (t + 1))) at,
+          ))
+          (λ r. inr (
+            next_to x t ys zs
+                (λ same. out_in x (numbered f rs ss q) (out_numbered f rs ss x q r.0 r.1) (subst (λ y. In y (numbered f rs ss q)) (sym same) own))
+                (λ j. out_in x (numbered f rs ss q) (out_numbered f rs ss x q r.0 r.1) (mine x j)),
+            r,
+          ))
           (free x a c);
     }

@@ -4,17 +4,16 @@ use Rattle.std.proofs.lemmas.List.{length-drop, length-take-le}
 use Rattle.std.specs.List.{flat_map}
 use Rattle.std.proofs.lemmas.List.Elements.{All-weaker}
 use Rattle.flat_mem.specs.Bytes.{patch}
-use Rattle.kernel_model.specs.Bytes.{part, words_of, before_none, filled, rows}
-use Rattle.kernel_model.specs.Kernel.{Kernel, with_app, with_module, with_function, with_mutex, with_condition, with_line, with_thread, app_at, module_at, function_at, thread_at, mutex_at, condition_at, line_at, free_app, free_module, free_function, free_thread, free_mutex}
+use Rattle.kernel_model.specs.Bytes.{part, before_none, filled, rows}
+use Rattle.kernel_model.specs.Kernel.{Kernel, with_app, with_module, with_function, with_mutex, with_condition, with_line, app_at, module_at, function_at, thread_at, mutex_at, condition_at, line_at, free_app, free_module, free_function, free_thread, free_mutex}
 use Rattle.kernel_model.specs.Layout.{sizes, written, tables, nth, kernel_in, kernel_of, IsLaidOut, outside, app_read, app_bytes, module_read, module_bytes, function_read, function_bytes, thread_read, linked_bytes, linked_rows, links_of, queue_ends, walked, mutex_read, mutex_bytes, FitsMutex, FitsList}
 use Rattle.kernel_model.specs.Links.{gathered}
 use Rattle.kernel_model.specs.Queues.{AreQueues, HasQueueBytes, QueuesHold, Leaves}
 use Rattle.kernel_model.specs.declared.rows.AppRow.{AppRow}
 use Rattle.kernel_model.specs.declared.rows.ModuleRow.{ModuleRow}
 use Rattle.kernel_model.specs.declared.rows.FnRow.{FnRow}
-use Rattle.kernel_model.specs.declared.rows.ThreadRow.{ThreadRow}
 use Rattle.kernel_model.specs.declared.rows.MutexRow.{MutexRow}
-use Rattle.kernel_model.proofs.BytesLemmas.{ReadsBack, total, length-part, length-filled, length-before_none, length-words_of, length-rows}
+use Rattle.kernel_model.proofs.BytesLemmas.{ReadsBack, total, length-part, length-filled, length-before_none, length-rows}
 use Rattle.kernel_model.proofs.LayoutLemmas.{app_back, module_back, function_back, mutex_back, list_back}
 use Rattle.kernel_tables.proofs.Patches.{part-part}
 use Rattle.kernel_tables.proofs.RowLemmas.{rows-get, rows-set, flat_map-rows-set, split-patch, total-get, outside-patch, row_fits}

@@ -1,6 +1,6 @@
 -- The words of a row, read one by one.
 use Rattle.std.proofs.Common.{◌≡◌, ℕ, ◌+◌, ◌*◌, ◌%◌, ◌<◌, ◌≤◌, zero, suc, List, [], ◌∷◌, ◌++◌, length, take, drop, get_or, refl, ap, sym, ◌∙◌, arith}
-use Rattle.std.proofs.lemmas.List.{get_or-take, get_or-drop, take_at, drop_at}
+use Rattle.std.proofs.lemmas.List.{take_at, drop_at}
 use Rattle.flat_mem.specs.Bytes.{word_at, even}
 use Rattle.kernel_model.specs.Bytes.{part, words_of, before_none}
 use Rattle.kernel_model.specs.Layout.{app_read, module_read, function_read, thread_read, mutex_read}

@@ -10,9 +10,7 @@ ghost use Rattle.kernel_tables.specs.Lists.{IsNewAt, AreApart};
 ghost use Rattle.kernel_tables.specs.Linking.{AreEnds, AreLinks};
 
 use crate::links::{first_link, last_link, next_link, prev_link, walk, walk_ready};
-use crate::places::{
-    NEXT_AT, QUEUE_ENDS, SLEEPERS, THREAD_ROW_BYTES, THREAD_ROWS, UNUSED_ENDS,
-};
+use crate::places::{NEXT_AT, QUEUE_ENDS, SLEEPERS, THREAD_ROW_BYTES, THREAD_ROWS, UNUSED_ENDS};
 use crate::threads::{priority, wake_time};
 use arrayvec::ArrayVec;
 use flat_mem::FlatMem;

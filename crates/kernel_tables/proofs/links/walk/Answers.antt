@@ -1,4 +1,4 @@
-use Rattle.std.proofs.Common.{◌≡◌, ◌≤◌, ℕ, length, ap, ◌∙◌, arith, slice_index}
+use Rattle.std.proofs.Common.{◌≤◌, ap, ◌∙◌, arith, slice_index}
 use Rattle.kernel_tables.proofs.WalkLemmas.{walk_starts, walk_goes, walk_room, behind_place}
 use Rattle.kernel_tables.proofs.links.walk.Goals as goal
 

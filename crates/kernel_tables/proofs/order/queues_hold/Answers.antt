@@ -39,8 +39,7 @@ returns c =
     let m = c.args.m.now in let rs = c.as_slice-ready.result.now in let ss = c.as_slice-sleepers.result.now in
     let small = flat_small m c.is_flat.ensures.small in
     let ready_is : rs ≡ (kernel_of m).ready = c.as_slice-ready.ensures.value ∙ c.walk_ready.ensures.whole c.if-not-walk_ready.false ∙ ready_of m in
-    let sleepers_are : ss ≡ (kernel_of m).sleepers = c.as_slice-sleepers.ensures.value ∙ c.walk.ensures.whole c.if-not-walk.false ∙ ap (λ xs. xs ++ walk_in m 8) c.new-sleeper_list.ensures ∙ sleepers_of m in
-    (
+    let sleepers_are : ss ≡ (kernel_of m).sleepers = c.as_slice-sleepers.ensures.value ∙ c.walk.ensures.whole c.if-not-walk.false ∙ ap (λ xs. xs ++ walk_in m 8) c.new-sleeper_list.ensures ∙ sleepers_of m in (
       λ e. holds m rs ss c.is_flat.ensures.size small ready_is sleepers_are (c.in_order.ensures.0 c.if-not-in_order.false) (c.ends_hold.ensures.0 c.if-not-ends_hold.false) (c.links_hold.ensures.0 e),
       λ q. c.links_hold.ensures.1 (links_read m rs ss c.is_flat.ensures.size small ready_is sleepers_are q),
     )

@@ -1,10 +1,9 @@
-use Rattle.std.proofs.Common.{◌≡◌, ◌≤◌, ◌+◌, subst, sym, ap, ◌∙◌, arith, slice_index}
+use Rattle.std.proofs.Common.{◌≡◌, ◌≤◌, subst, sym, ap, ◌∙◌, arith, slice_index}
 use Rattle.kernel_model.specs.Kernel.{with_ready}
 use Rattle.kernel_model.specs.Layout.{kernel_of}
 use Rattle.kernel_model.specs.Queues.{Leaves, at_end}
-use Rattle.kernel_model.specs.Standing.{next_in, prev_in}
+use Rattle.kernel_model.specs.Standing.{prev_in}
 use Rattle.kernel_tables.proofs.Patches.{flat_small}
-use Rattle.kernel_tables.proofs.QueueEdits.{GoesIn}
 use Rattle.kernel_tables.proofs.QueueCalls.{ready_room, end_leaves}
 use Rattle.kernel_tables.proofs.queues.ready_end.Goals as goal
 

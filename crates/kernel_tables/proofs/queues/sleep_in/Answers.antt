@@ -1,4 +1,4 @@
-use Rattle.std.proofs.Common.{◌≡◌, leb, take, drop, ap, ◌∙◌}
+use Rattle.std.proofs.Common.{leb, take, drop, ap, ◌∙◌}
 use Rattle.std.specs.List.{prefix_len}
 use Rattle.kernel_model.specs.Kernel.{Kernel, with_sleepers}
 use Rattle.kernel_model.specs.Layout.{kernel_of}
