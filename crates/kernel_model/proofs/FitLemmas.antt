@@ -66,8 +66,6 @@ unfolding kernel_of kernel_in tables
 memory_fits_lem m e h =
     let size : (a n : ℕ) → a + n ≤ 65536 → length (part m a n) ≡ n = λ a n l. length-part m a n (let within : a + n ≤ length m = omega arith in within) in
     record {
-      ready = list_fits 32 (part m 544 32) (size 544 32 (omega arith)) (part_small m 544 32 h);
-      sleepers = list_fits 32 (part m 576 32) (size 576 32 (omega arith)) (part_small m 576 32 h);
       app_rows = length-rows app_read 16 8 (part m 608 128);
       module_rows = length-rows module_read 16 4 (part m 736 64);
       function_rows = length-rows function_read 4 64 (part m 800 256);

@@ -1,4 +1,7 @@
 pub mod BytesLemmas
+pub mod LinkLemmas
+pub mod RunLemmas
+pub mod ReadLemmas
 pub mod LayoutLemmas
 pub mod FitLemmas
 pub mod OrderlyLemmas
@@ -6,3 +9,4 @@ pub mod OutsideLemmas
 pub mod EmptyLemmas
 pub mod KeptLemmas
 pub mod SmallLemmas
+pub mod StandLemmas

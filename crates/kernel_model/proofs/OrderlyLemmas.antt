@@ -58,7 +58,7 @@ orderly_has_queues k h =
 
 pub laid_out_queue_bytes : (m : List ℕ) → IsLaidOut m → HasQueueBytes m
 unfolding IsLaidOut HasQueueBytes kernel_of kernel_in tables
-laid_out_queue_bytes m h = (ap (λ ps. nth ps 2) h, ap (λ ps. nth ps 3) h)
+laid_out_queue_bytes m h = (ap (λ ps. nth ps 2) h, (ap (λ ps. nth ps 3) h, ap (λ ps. nth ps 7) h))
 
 pub queues_from_orderly : (m : List ℕ) → IsLaidOut m → IsOrderly (kernel_of m) → QueuesHold m
 queues_from_orderly m l h = record { bytes = laid_out_queue_bytes m l; lists = orderly_has_queues (kernel_of m) h }

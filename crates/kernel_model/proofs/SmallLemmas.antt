@@ -1,13 +1,18 @@
 -- The layout of a memory's kernel is bytes.
-use Rattle.std.proofs.Common.{◌≡◌, ℕ, ◌+◌, ◌-◌, ◌*◌, ◌/◌, ◌%◌, ◌<◌, ◌≤◌, List, [], ◌∷◌, ◌++◌, length, take, drop, map, get_or, replicate, refl, ap, ◌∙◌, inl, inr, arith, length-append, All}
+use Rattle.std.proofs.Common.{◌≡◌, ℕ, ◌+◌, ◌-◌, ◌*◌, ◌/◌, ◌%◌, ◌<◌, ◌≤◌, zero, suc, eqb, ltb, sym, subst, List, [], ◌∷◌, ◌++◌, length, take, drop, map, get_or, replicate, refl, ap, ◌∙◌, inl, inr, arith, length-append, All}
 use Rattle.std.specs.List.{flat_map}
 use Rattle.std.proofs.lemmas.Bool.{cases_lt}
 use Rattle.std.proofs.lemmas.List.{get_or_past}
 use Rattle.std.proofs.lemmas.List.Elements.{All-head, All-tail, All-nil, All-cons, All-take, All-drop, All-append, All-replicate, All-weaker}
 use Rattle.kernel_model.specs.Bytes.{part, words_of, bytes_of, filled, rows}
 use Rattle.kernel_model.specs.Kernel.{Kernel}
-use Rattle.kernel_model.specs.Layout.{FitsList, FitsMutex, Fits, app_words, app_bytes, app_read, module_words, module_bytes, module_read, function_words, function_bytes, function_read, thread_words, thread_bytes, thread_read, mutex_bytes, mutex_read, system_words, written, layout, tables, kernel_in, kernel_of}
+use Rattle.kernel_model.specs.Links.{first, last, next_of, prev_of, walk, queue, gathered}
+use Rattle.kernel_model.specs.Members.{Below}
+use Rattle.kernel_model.specs.Layout.{queue_of, queue_ends, priority_in, links_of, linked_bytes, linked_rows, walked, FitsList, FitsMutex, Fits, app_words, app_bytes, app_read, module_words, module_bytes, module_read, function_words, function_bytes, function_read, thread_words, thread_bytes, thread_read, mutex_bytes, mutex_read, system_words, written, layout, tables, kernel_in, kernel_of}
 use Rattle.kernel_model.specs.declared.rows.MutexRow.{MutexRow}
+use Rattle.kernel_model.specs.declared.rows.ThreadRow.{ThreadRow}
+use Rattle.kernel_model.proofs.LinkLemmas.{by_bool, if_true, if_false, below_true, below_append, first_low, last_low, next_low, prev_low}
+use Rattle.kernel_model.proofs.ReadLemmas.{below_queue}
 use Rattle.kernel_model.proofs.BytesLemmas.{total, length-part}
 use Rattle.kernel_model.proofs.LayoutLemmas.{written_sizes}
 use Rattle.kernel_model.proofs.FitLemmas.{Small, all_rows, part_small, memory_fits_lem}
@@ -60,6 +65,11 @@ list_small n xs h =
 two_words : (a b : ℕ) (ws : List ℕ) → a < 65536 → b < 65536 → All Word ws → All Word (a ∷ b ∷ ws)
 two_words a b ws g h rest = All-cons Word a (b ∷ ws) g (All-cons Word b ws h rest)
 
+six_words : (a b c d e f : ℕ) → (a < 65536) × (b < 65536) → (c < 65536) × (d < 65536) → (e < 65536) × (f < 65536)
+    → All Word (a ∷ b ∷ c ∷ d ∷ e ∷ f ∷ [])
+six_words a b c d e f p q r =
+    two_words a b (c ∷ d ∷ e ∷ f ∷ []) p.0 p.1 (two_words c d (e ∷ f ∷ []) q.0 q.1 (two_words e f [] r.0 r.1 (All-nil Word)))
+
 eight_words : (a b c d e f g h : ℕ) → (a < 65536) × (b < 65536) → (c < 65536) × (d < 65536) → (e < 65536) × (f < 65536)
     → (g < 65536) × (h < 65536) → All Word (a ∷ b ∷ c ∷ d ∷ e ∷ f ∷ g ∷ h ∷ [])
 eight_words a b c d e f g h p q r s =
@@ -100,11 +110,10 @@ thread_small bs e h =
     let ws : List ℕ = drop 16 (words_of bs) in
     let all : All Word (words_of bs) = words_small bs h in
     let others : All Word ws = All-drop Word 16 (words_of bs) all in
-    let none : 0 < 65536 = omega arith in
     bytes_small (thread_words (thread_read bs))
     (All-append Word (take 16 (words_of bs)) _ (All-take Word 16 (words_of bs) all)
-    (eight_words _ _ _ _ _ _ _ _ (word_in ws 0 others, word_in ws 1 others) (word_in ws 2 others, word_in ws 3 others)
-    (word_in ws 4 others, word_in ws 5 others) (none, none)))
+    (six_words _ _ _ _ _ _ (word_in ws 0 others, word_in ws 1 others) (word_in ws 2 others, word_in ws 3 others)
+    (word_in ws 4 others, word_in ws 5 others)))
 
 record IsSmallMutex (r : MutexRow) : Type 0 where
   owner : r.owner < 65536
@@ -135,15 +144,69 @@ mutexes_small xs h f = table_small mutex_bytes xs (λ i d l. mutex_small (get_or
 lists_small : (n : ℕ) (xs : List (List ℕ)) → All (FitsList n) xs → All Small (flat_map (filled n) xs)
 lists_small n xs h = table_small (filled n) xs (All-weaker (FitsList n) (λ x. All Small (filled n x)) (list_small n) xs h)
 
+-- ---- links
+
+walk_below : (next : ℕ → ℕ) (n b : ℕ) → Below (walk next n b)
+walk_below next zero b = tt
+walk_below next (suc n) zero = tt
+walk_below next (suc n) (suc t) = by_bool (ltb t 32)
+    (λ e. subst (λ xs. Below xs) (sym (if_true (ltb t 32) (t ∷ walk next n (next t)) [] e)) (below_true t e, walk_below next n (next t)))
+    (λ e. subst (λ xs. Below xs) (sym (if_false (ltb t 32) (t ∷ walk next n (next t)) [] e)) tt)
+
+gathered_below : (f : ℕ → List ℕ) (n : ℕ) → ((p : ℕ) → Below (f p)) → Below (gathered f n)
+gathered_below f zero h = tt
+gathered_below f (suc n) h = below_append (f n) (gathered f n) (h n) (gathered_below f n h)
+
+queue_of_below : (k : Kernel) (q : ℕ) → Below k.ready → Below k.sleepers → Below (queue_of k.threads k.ready k.sleepers q)
+queue_of_below k q r s =
+    let own : List ℕ = queue (priority_in k.threads) k.ready q in
+    by_bool (eqb q 8)
+    (λ e. subst (λ xs. Below xs) (sym (if_true (eqb q 8) k.sleepers own e)) s)
+    (λ e. subst (λ xs. Below xs) (sym (if_false (eqb q 8) k.sleepers own e)) (below_queue (priority_in k.threads) q k.ready r))
+
+ends_small : (k : Kernel) → Below k.ready → Below k.sleepers → All Small (queue_ends k.threads k.ready k.sleepers)
+unfolding queue_ends
+ends_small k r s =
+    let queues : ℕ → List ℕ = queue_of k.threads k.ready k.sleepers in
+    let numbers : List ℕ = 0 ∷ 1 ∷ 2 ∷ 3 ∷ 4 ∷ 5 ∷ 6 ∷ 7 ∷ 8 ∷ [] in
+    let ends : ℕ → List ℕ = λ q. first (queues q) ∷ last (queues q) ∷ [] in
+    let small : (q : ℕ) → All Small (ends q) = λ q.
+    let low : first (queues q) ≤ 32 = first_low (queues q) (queue_of_below k q r s) in
+    let high : last (queues q) ≤ 32 = last_low 0 (queues q) (omega arith) (queue_of_below k q r s) in
+    All-cons Small (first (queues q)) (last (queues q) ∷ []) (omega arith) (All-cons Small (last (queues q)) [] (omega arith) (All-nil Small)) in
+    All-append Small (flat_map ends numbers) (replicate 14 0) (table_small ends numbers (λ i d l. small (get_or numbers i d))) (All-replicate Small 14 0 (omega arith))
+
+links_small : (k : Kernel) (t : ℕ) → Below k.ready → Below k.sleepers → All Small (links_of k.threads k.ready k.sleepers t)
+links_small k t r s =
+    let own : List ℕ = queue (priority_in k.threads) k.ready (priority_in k.threads t) in
+    let mine : Below own = below_queue (priority_in k.threads) (priority_in k.threads t) k.ready r in
+    let a : next_of own t ≤ 32 = next_low own t mine in
+    let b : next_of k.sleepers t ≤ 32 = next_low k.sleepers t s in
+    let c : prev_of own t ≤ 32 = prev_low 0 own t (omega arith) mine in
+    let d : prev_of k.sleepers t ≤ 32 = prev_low 0 k.sleepers t (omega arith) s in
+    let none : 0 < 256 = omega arith in
+    let zeroes : All Small (0 ∷ 0 ∷ []) = All-cons Small 0 (0 ∷ []) none (All-cons Small 0 [] none (All-nil Small)) in
+    let back : ℕ = prev_of own t + prev_of k.sleepers t in
+    All-cons Small (next_of own t + next_of k.sleepers t) (back ∷ 0 ∷ 0 ∷ []) (omega (arith, a, b))
+    (All-cons Small back (0 ∷ 0 ∷ []) (omega (arith, c, d)) zeroes)
+
+linked_small : (f : ℕ → List ℕ) (t : ℕ) (rs : List ThreadRow) → ((s : ℕ) → All Small (f s)) → All (λ r. All Small (thread_bytes r)) rs
+    → All Small (flat_map linked_bytes (linked_rows f t rs))
+unfolding linked_bytes
+linked_small f t [] h a = All-nil Small
+linked_small f t (r ∷ rs) h a =
+    All-append Small (thread_bytes r ++ f t) (flat_map linked_bytes (linked_rows f (suc t) rs))
+    (All-append Small (thread_bytes r) (f t) (All-head (λ x. All Small (thread_bytes x)) r rs a) (h t))
+    (linked_small f (suc t) rs h (All-tail (λ x. All Small (thread_bytes x)) r rs a))
+
 -- the parts of a layout are small
 record ArePartsSmall (k : Kernel) : Type 0 where
   words : All Small (bytes_of (system_words k))
-  ready : All Small (filled 32 k.ready)
-  sleepers : All Small (filled 32 k.sleepers)
+  ends : All Small (queue_ends k.threads k.ready k.sleepers)
   apps : All Small (flat_map app_bytes k.apps)
   modules : All Small (flat_map module_bytes k.modules)
   functions : All Small (flat_map function_bytes k.functions)
-  threads : All Small (flat_map thread_bytes k.threads)
+  threads : All Small (flat_map linked_bytes (linked_rows (links_of k.threads k.ready k.sleepers) 0 k.threads))
   mutexes : All Small (flat_map mutex_bytes k.mutexes)
   conditions : All Small (flat_map (filled 4) k.conditions)
   lines : All Small (flat_map (filled 32) k.lines)
@@ -166,7 +229,7 @@ small_layout k h =
     let locks : Every (flat_map mutex_bytes k.mutexes ∷ flat_map (filled 4) k.conditions ∷ flat_map (filled 32) k.lines ∷ replicate 672 0 ∷ []) =
     (h.mutexes, (h.conditions, last)) in
     joined_small (written k)
-    (h.words, (zeros 16, (h.ready, (h.sleepers, (h.apps, (h.modules, (h.functions, (h.threads, locks))))))))
+    (h.words, (zeros 16, (h.ends, (zeros 32, (h.apps, (h.modules, (h.functions, (h.threads, locks))))))))
 
 parts_small : (m : List ℕ) → length m ≡ 65536 → All Small m → ArePartsSmall (kernel_of m)
 unfolding kernel_of kernel_in tables
@@ -174,10 +237,13 @@ parts_small m e h =
     let fits : Fits (kernel_of m) = memory_fits_lem m e h in
     let size : (a n : ℕ) → a + n ≤ 65536 → length (part m a n) ≡ n = λ a n l. length-part m a n (omega (arith, l, e)) in
     let w : List ℕ = words_of (part m 512 16) in
+    let queues : ℕ → List ℕ = walked (part m 544 32) (part m 1056 1536) in
+    let below : (q : ℕ) → Below (queues q) = λ q. walk_below (λ t. get_or (part m 1056 1536) (48 * t + 44) 0) 32 (get_or (part m 544 32) (2 * q) 0) in
+    let r : Below (kernel_of m).ready = gathered_below queues 8 below in
+    let s : Below (kernel_of m).sleepers = below 8 in
     record {
       words = bytes_small (system_words (kernel_of m)) (eight_from w (words_small (part m 512 16) (part_small m 512 16 h)));
-      ready = list_small 32 (kernel_of m).ready fits.ready;
-      sleepers = list_small 32 (kernel_of m).sleepers fits.sleepers;
+      ends = ends_small (kernel_of m) r s;
       apps = table_small app_bytes (rows app_read 16 8 (part m 608 128))
           (all_rows app_read 16 (λ r. All Small (app_bytes r)) app_small 8 (part m 608 128) (size 608 128 (omega arith))
           (part_small m 608 128 h));
@@ -187,7 +253,7 @@ parts_small m e h =
       functions = table_small function_bytes (rows function_read 4 64 (part m 800 256))
           (all_rows function_read 4 (λ r. All Small (function_bytes r)) function_small 64 (part m 800 256) (size 800 256 (omega arith))
           (part_small m 800 256 h));
-      threads = table_small thread_bytes (rows thread_read 48 32 (part m 1056 1536))
+      threads = linked_small (links_of (kernel_of m).threads (kernel_of m).ready (kernel_of m).sleepers) 0 (rows thread_read 48 32 (part m 1056 1536)) (λ t. links_small (kernel_of m) t r s)
           (all_rows thread_read 48 (λ r. All Small (thread_bytes r)) thread_small 32 (part m 1056 1536) (size 1056 1536 (omega arith))
           (part_small m 1056 1536 h));
       mutexes = mutexes_small (rows mutex_read 8 32 (part m 2592 256))

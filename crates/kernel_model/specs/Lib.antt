@@ -2,6 +2,8 @@ pub mod Bytes
 pub mod Bitmap
 pub mod Kernel
 pub mod Words
+pub mod Links
+pub mod Members
 pub mod Layout
 pub mod Queues
 pub mod Orderly
@@ -14,3 +16,4 @@ pub mod Waking
 pub mod Sync
 pub mod Locks
 pub mod Modules
+pub mod Standing

@@ -1,5 +1,5 @@
 -- Mutexes and conditions: who owns, who waits, and what the calls on them do.
-use Rattle.std.specs.Prelude.{ℕ, ◌+◌, Bool, ◌==◌, nat_lt, if◌then◌else◌, ◌||◌, not, List, [], ◌∷◌, ◌++◌, length, drop, take, Option}
+use Rattle.std.specs.Prelude.{ℕ, Bool, ◌==◌, nat_lt, if◌then◌else◌, ◌||◌, not, List, [], ◌∷◌, ◌++◌, length, drop, take, Option}
 use Rattle.std.specs.List.{range_with_len, fold}
 use Rattle.kernel_model.specs.Kernel.{Kernel, thread_at, with_thread, with_mutex, condition_at, with_condition}
 use Rattle.kernel_model.specs.Words.{none, on_mutex, on_condition, running, app_of, number_of, identity, none_running, owner_of, waiters_of}

@@ -1,10 +1,9 @@
 -- Sleeping, and waiting for a line.
-use Rattle.std.specs.Prelude.{◌≡◌, ℕ, ◌+◌, ◌*◌, ◌/◌, ◌%◌, ◌==◌, nat_lt, nat_le, ◌||◌, List, [], ◌∷◌, ◌++◌, take, drop, slice_index, Option}
+use Rattle.std.specs.Prelude.{ℕ, ◌+◌, ◌/◌, ◌%◌, ◌==◌, nat_lt, nat_le, ◌||◌, List, [], ◌∷◌, ◌++◌, take, drop, slice_index, Option}
 use Rattle.std.specs.List.{fold, prefix_len}
 use Rattle.kernel_model.specs.Kernel.{Kernel, with_word, thread_at, with_thread, line_at, with_line, with_sleepers}
 use Rattle.kernel_model.specs.Words.{asleep, on_line, running, tick_number, wake_time, none_running}
 use Rattle.kernel_model.specs.Queues.{among_sleepers, to_ready_end}
-use Rattle.kernel_model.specs.declared.rows.ThreadRow.{ThreadRow}
 use Rattle.kernel_model.specs.declared.rows.SysWord.TheVariants.{TickLow, TickHigh}
 use Rattle.kernel_model.specs.declared.code.Code.{Code}
 use Rattle.kernel_model.specs.declared.code.Code.TheVariants.{BadArgument}

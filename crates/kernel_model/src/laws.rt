@@ -2,14 +2,15 @@
 
 ghost use Rattle.std.specs.Prelude.{◌≡◌, ℕ, ◌+◌, ◌*◌, ◌<◌, ◌≤◌, ◌⊎◌, List, length, slice_index, slice_set, All};
 ghost use Rattle.kernel_model.specs.Kernel.{Kernel};
-ghost use Rattle.kernel_model.specs.Layout.{kernel_of, layout, tables, table_bytes, outside, empty, Fits, IsLaidOut};
-ghost use Rattle.kernel_model.specs.Queues.{QueuesHold};
+ghost use Rattle.kernel_model.specs.Layout.{kernel_of, layout, tables, table_bytes, outside, empty, Fits, IsLaidOut, queue_of};
+ghost use Rattle.kernel_model.specs.Queues.{QueuesHold, HasQueues};
+ghost use Rattle.kernel_model.specs.Standing.{HasQueue};
 ghost use Rattle.kernel_model.specs.Orderly.{IsOrderly};
 
 /// A memory whose tables' bytes are a kernel's layout has that kernel, and is laid out.
 pub fn layout_read_back()
-    ensures kernel { (m : List ℕ) (k : Kernel) → Fits k → table_bytes m ≡ layout k → kernel_of m ≡ k }
-    ensures laid_out { (m : List ℕ) (k : Kernel) → Fits k → table_bytes m ≡ layout k → IsLaidOut m }
+    ensures kernel { (m : List ℕ) (k : Kernel) → Fits k → HasQueues k → table_bytes m ≡ layout k → kernel_of m ≡ k }
+    ensures laid_out { (m : List ℕ) (k : Kernel) → Fits k → HasQueues k → table_bytes m ≡ layout k → IsLaidOut m }
 {}
 
 /// The tables' bytes of a laid-out memory are its kernel's layout.
@@ -19,7 +20,7 @@ pub fn laid_out_bytes()
 
 /// Two kernels that fit the tables and have the same layout are equal.
 pub fn same_layout()
-    ensures { (j k : Kernel) → Fits j → Fits k → layout j ≡ layout k → j ≡ k }
+    ensures { (j k : Kernel) → Fits j → Fits k → HasQueues j → HasQueues k → layout j ≡ layout k → j ≡ k }
 {}
 
 /// The kernel of every memory fits the tables.
@@ -64,4 +65,9 @@ pub fn tables_stay()
 pub fn limit_words()
     ensures limit { (m : List ℕ) (k : Kernel) → table_bytes m ≡ layout k → slice_index m 512 + 256 * slice_index m 513 ≡ k.cur_lim }
     ensures top { (m : List ℕ) (k : Kernel) → table_bytes m ≡ layout k → slice_index m 514 + 256 * slice_index m 515 ≡ k.cur_top }
+{}
+
+/// Where the two lists hold, each queue of the kernel stands in the memory's links.
+pub fn queues_stand()
+    ensures { (m : List ℕ) → length m ≡ 65536 → All (λ b. b < 256) m → QueuesHold m → (q : ℕ) → q < 9 → HasQueue m q (queue_of (kernel_of m).threads (kernel_of m).ready (kernel_of m).sleepers q) }
 {}

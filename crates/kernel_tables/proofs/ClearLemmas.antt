@@ -1,20 +1,20 @@
 -- The empty kernel's bytes.
 use Rattle.std.proofs.Common.{◌≡◌, ℕ, ◌+◌, ◌*◌, ◌<◌, ◌≤◌, ◌⊎◌, zero, suc, List, [], ◌∷◌, ◌++◌, length, take, drop, map, get_or, slice_set, refl, ap, sym, ◌∙◌, subst, ⊎_elim, arith, length-append, add-one}
 use Rattle.std.specs.List.{range_with_len}
-use Rattle.std.proofs.lemmas.List.{set_split, length-replicate, replicate_more, places}
-use Rattle.std.proofs.lemmas.List.Elements.{All-nil, All-replicate, All-from_get_or}
+use Rattle.std.proofs.lemmas.List.{set_split, length-replicate, replicate_more}
+use Rattle.std.proofs.lemmas.List.Elements.{All-nil, All-replicate}
 use Rattle.std.proofs.lemmas.List.FromFn.{get_or-map-range_with_len}
 use Rattle.flat_mem.specs.Bytes.{patch, word_at}
 use Rattle.kernel_model.specs.Bytes.{part, bytes_of, words_of, filled}
 use Rattle.kernel_model.specs.Kernel.{empty_row, free_mutex}
-use Rattle.kernel_model.specs.Layout.{app_bytes, module_bytes, function_bytes, thread_bytes, mutex_bytes, layout, table_bytes, empty, kernel_of, IsLaidOut, Fits, FitsList, FitsThread, FitsMutex}
+use Rattle.kernel_model.specs.Layout.{app_bytes, module_bytes, function_bytes, linked_bytes, thread_bytes, mutex_bytes, queue_ends, layout, table_bytes, empty, kernel_of, IsLaidOut, Fits, FitsList, FitsThread, FitsMutex}
 use Rattle.kernel_model.specs.Queues.{HasQueues}
 use Rattle.kernel_model.proofs.BytesLemmas.{words_of-bytes_of}
 use Rattle.kernel_model.proofs.LayoutLemmas.{kernel_of-layout, laid_out_from_layout}
 use Rattle.kernel_model.proofs.FitLemmas.{memory_fits_lem}
 use Rattle.kernel_model.proofs.OrderlyLemmas.{laid_out_queue_bytes}
 use Rattle.kernel_tables.specs.Clearing.{copies, repeated, vector_bytes, Cleared}
-use Rattle.kernel_tables.proofs.Patches.{length-patch, part-patch_all, part-patch_before}
+use Rattle.kernel_tables.proofs.Patches.{flat_small, length-patch, kept_below, kept_above, part-patch_all, part-patch_before}
 use Rattle.kernel_tables.proofs.PieceLemmas.{put_two, patch_none}
 use Rattle.kernel_tables.proofs.WordLemmas.{word_in}
 
@@ -77,8 +77,8 @@ no_function = 255 ∷ 255 ∷ 0 ∷ 0 ∷ []
 abbrev pub no_owner : List ℕ
 no_owner = 255 ∷ 255 ∷ 255 ∷ 255 ∷ 255 ∷ 255 ∷ 0 ∷ 0 ∷ []
 
-joined : ((((((((start ++ copies 16 0) ++ copies 64 255) ++ copies 192 0) ++ repeated 64 no_function) ++ copies 1536 0) ++ repeated 32 no_owner) ++ copies 576 255) ++ copies 672 0) ≡ layout empty
-unfolding copies repeated layout empty filled app_bytes module_bytes function_bytes thread_bytes mutex_bytes
+joined : ((((((start ++ copies 272 0) ++ repeated 64 no_function) ++ copies 1536 0) ++ repeated 32 no_owner) ++ copies 576 255) ++ copies 672 0) ≡ layout empty
+unfolding copies repeated layout empty filled app_bytes module_bytes function_bytes linked_bytes thread_bytes mutex_bytes queue_ends
 joined = refl
 
 -- a memory in which so many bytes were put over those from 0200 on
@@ -94,28 +94,24 @@ done_more m m1 m2 xs ys n k b d l p w e =
       size = length-append xs ys ∙ (let sum : length xs + length ys ≡ n + k = omega arith in sum);
     }
 
-pub tables_cleared : (m m1 m2 m3 m4 m5 m6 m7 m8 m9 : List ℕ) → length m ≡ 65536
-    → m1 ≡ patch m 512 start → m2 ≡ patch m1 528 (copies 16 0) → m3 ≡ patch m2 544 (copies 64 255) → m4 ≡ patch m3 608 (copies 192 0)
-    → m5 ≡ patch m4 800 (repeated 64 no_function) → m6 ≡ patch m5 1056 (copies 1536 0) → m7 ≡ patch m6 2592 (repeated 32 no_owner)
-    → m8 ≡ patch m7 2848 (copies 576 255) → m9 ≡ patch m8 3424 (copies 672 0) → m9 ≡ patch m 512 (layout empty)
-tables_cleared m m1 m2 m3 m4 m5 m6 m7 m8 m9 e e1 e2 e3 e4 e5 e6 e7 e8 e9 =
-    let xs2 : List ℕ = start ++ copies 16 0 in
-    let xs3 : List ℕ = xs2 ++ copies 64 255 in
-    let xs4 : List ℕ = xs3 ++ copies 192 0 in
-    let xs5 : List ℕ = xs4 ++ repeated 64 no_function in
-    let xs6 : List ℕ = xs5 ++ copies 1536 0 in
-    let xs7 : List ℕ = xs6 ++ repeated 32 no_owner in
-    let xs8 : List ℕ = xs7 ++ copies 576 255 in
+pub tables_cleared : (m m1 m2 m3 m4 m5 m6 m7 : List ℕ) → length m ≡ 65536
+    → m1 ≡ patch m 512 start → m2 ≡ patch m1 528 (copies 272 0)
+    → m3 ≡ patch m2 800 (repeated 64 no_function) → m4 ≡ patch m3 1056 (copies 1536 0) → m5 ≡ patch m4 2592 (repeated 32 no_owner)
+    → m6 ≡ patch m5 2848 (copies 576 255) → m7 ≡ patch m6 3424 (copies 672 0) → m7 ≡ patch m 512 (layout empty)
+tables_cleared m m1 m2 m3 m4 m5 m6 m7 e e1 e2 e3 e4 e5 e6 e7 =
+    let xs2 : List ℕ = start ++ copies 272 0 in
+    let xs3 : List ℕ = xs2 ++ repeated 64 no_function in
+    let xs4 : List ℕ = xs3 ++ copies 1536 0 in
+    let xs5 : List ℕ = xs4 ++ repeated 32 no_owner in
+    let xs6 : List ℕ = xs5 ++ copies 576 255 in
     let d1 : Done m m1 start 16 = record { is = e1; size = refl } in
-    let d2 : Done m m2 xs2 32 = done_more m m1 m2 start (copies 16 0) 16 16 528 d1 (length-copies 16 0) refl (omega arith) e2 in
-    let d3 : Done m m3 xs3 96 = done_more m m2 m3 xs2 (copies 64 255) 32 64 544 d2 (length-copies 64 255) refl (omega arith) e3 in
-    let d4 : Done m m4 xs4 288 = done_more m m3 m4 xs3 (copies 192 0) 96 192 608 d3 (length-copies 192 0) refl (omega arith) e4 in
-    let d5 : Done m m5 xs5 544 = done_more m m4 m5 xs4 (repeated 64 no_function) 288 256 800 d4 (length-repeated 64 4 no_function refl) refl (omega arith) e5 in
-    let d6 : Done m m6 xs6 2080 = done_more m m5 m6 xs5 (copies 1536 0) 544 1536 1056 d5 (length-copies 1536 0) refl (omega arith) e6 in
-    let d7 : Done m m7 xs7 2336 = done_more m m6 m7 xs6 (repeated 32 no_owner) 2080 256 2592 d6 (length-repeated 32 8 no_owner refl) refl (omega arith) e7 in
-    let d8 : Done m m8 xs8 2912 = done_more m m7 m8 xs7 (copies 576 255) 2336 576 2848 d7 (length-copies 576 255) refl (omega arith) e8 in
-    let d9 : Done m m9 (xs8 ++ copies 672 0) 3584 = done_more m m8 m9 xs8 (copies 672 0) 2912 672 3424 d8 (length-copies 672 0) refl (omega arith) e9 in
-    d9.is ∙ ap (λ xs. patch m 512 xs) joined
+    let d2 : Done m m2 xs2 288 = done_more m m1 m2 start (copies 272 0) 16 272 528 d1 (length-copies 272 0) refl (omega arith) e2 in
+    let d3 : Done m m3 xs3 544 = done_more m m2 m3 xs2 (repeated 64 no_function) 288 256 800 d2 (length-repeated 64 4 no_function refl) refl (omega arith) e3 in
+    let d4 : Done m m4 xs4 2080 = done_more m m3 m4 xs3 (copies 1536 0) 544 1536 1056 d3 (length-copies 1536 0) refl (omega arith) e4 in
+    let d5 : Done m m5 xs5 2336 = done_more m m4 m5 xs4 (repeated 32 no_owner) 2080 256 2592 d4 (length-repeated 32 8 no_owner refl) refl (omega arith) e5 in
+    let d6 : Done m m6 xs6 2912 = done_more m m5 m6 xs5 (copies 576 255) 2336 576 2848 d5 (length-copies 576 255) refl (omega arith) e6 in
+    let d7 : Done m m7 (xs6 ++ copies 672 0) 3584 = done_more m m6 m7 xs6 (copies 672 0) 2912 672 3424 d6 (length-copies 672 0) refl (omega arith) e7 in
+    d7.is ∙ ap (λ xs. patch m 512 xs) joined
 
 -- ---- the empty kernel in a memory
 
@@ -125,8 +121,6 @@ no_list n = record { room = (let most : 0 ≤ n = omega arith in most); below = 
 empty_fits : Fits empty
 unfolding empty
 empty_fits = record {
-  ready = no_list 32;
-  sleepers = no_list 32;
   app_rows = refl;
   module_rows = refl;
   function_rows = refl;
@@ -152,20 +146,12 @@ empty_queues = record {
 }
 
 layout_size : length (layout empty) ≡ 3584
-unfolding layout empty filled app_bytes module_bytes function_bytes thread_bytes mutex_bytes
+unfolding layout empty filled app_bytes module_bytes function_bytes linked_bytes thread_bytes mutex_bytes queue_ends
 layout_size = refl
 
 vector_size : length vector_bytes ≡ 28
 unfolding vector_bytes
 vector_size = refl
-
-kept_below : (m bs : List ℕ) (a k : ℕ) → k < a → a + length bs ≤ length m → get_or (patch m a bs) k 0 ≡ get_or m k 0
-unfolding patch
-kept_below m bs a k h l = grind (arith, places)
-
-kept_above : (m bs : List ℕ) (a k : ℕ) → a + length bs ≤ k → a + length bs ≤ length m → get_or (patch m a bs) k 0 ≡ get_or m k 0
-unfolding patch
-kept_above m bs a k h l = grind (arith, places)
 
 vector_word : (m : List ℕ) → length m ≡ 65536 → part m 65504 28 ≡ vector_bytes → (n : ℕ) → n < 14 → word_at m (65504 + 2 * n) ≡ 61568 + 2 * n
 unfolding vector_bytes
@@ -187,8 +173,8 @@ cleared_lem m m1 m2 e f g =
     ∙ part-patch_before m1 vector_bytes 65504 512 3584 (omega arith) (omega arith)
     ∙ ap (λ n. part n 512 3584) f
     ∙ part-patch_all m (layout empty) 512 3584 (sym tables) (omega arith) in
-    let laid : IsLaidOut m2 = laid_out_from_layout m2 empty empty_fits bytes in
-    let kernel : kernel_of m2 ≡ empty = kernel_of-layout m2 empty empty_fits bytes in
+    let laid : IsLaidOut m2 = laid_out_from_layout m2 empty empty_fits empty_queues bytes in
+    let kernel : kernel_of m2 ≡ empty = kernel_of-layout m2 empty empty_fits empty_queues bytes in
     let placed : part m2 65504 28 ≡ vector_bytes = ap (λ n. part n 65504 28) g ∙ part-patch_all m1 vector_bytes 65504 28 (sym vectors) (omega arith) in
     let byte2 : (a : ℕ) → get_or m2 a 0 ≡ get_or (patch m1 65504 vector_bytes) a 0 = λ a. ap (λ n. get_or n a 0) g in
     let byte1 : (a : ℕ) → get_or m1 a 0 ≡ get_or (patch m 512 (layout empty)) a 0 = λ a. ap (λ n. get_or n a 0) f in
@@ -215,4 +201,4 @@ cleared_lem m m1 m2 e f g =
 -- ---- every memory
 
 pub flat_fits : (m : List ℕ) → length m ≡ 65536 → ((k : ℕ) → get_or m k 0 < 256) → Fits (kernel_of m)
-flat_fits m e h = memory_fits_lem m e (All-from_get_or (λ b. b < 256) m 0 (λ i l. h i))
+flat_fits m e h = memory_fits_lem m e (flat_small m h)

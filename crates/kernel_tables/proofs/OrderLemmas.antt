@@ -1,12 +1,13 @@
 -- Lists in order.
-use Rattle.std.proofs.Common.{◌≡◌, ◌≢◌, ℕ, ◌+◌, ◌-◌, ◌<◌, ◌≤◌, true, false, IsTrue, zero, suc, List, ◌++◌, length, drop, get_or, eqb, refl, ap, sym, ◌∙◌, subst, arith, length-append, AllPairs, Contains}
+use Rattle.std.proofs.Common.{◌≡◌, ◌≢◌, ℕ, ◌+◌, ◌-◌, ◌<◌, ◌≤◌, true, false, IsTrue, zero, suc, List, ◌++◌, length, get_or, eqb, refl, ap, sym, ◌∙◌, subst, arith, length-append, AllPairs, Contains}
 use Rattle.std.specs.List.{position_or_len}
 use Rattle.std.proofs.lemmas.Bool.{false≢true, eqb-true}
 use Rattle.std.proofs.lemmas.List.Sums.{passes_at_first}
-use Rattle.std.proofs.lemmas.List.{get_or_append_left, get_or-append-add, get_or_default, ext_get_or, get_or-take, get_or-drop}
+use Rattle.std.proofs.lemmas.List.{get_or_append_left, get_or-append-add, get_or_default, ext_get_or}
 use Rattle.kernel_model.specs.Bytes.{part}
 use Rattle.kernel_model.proofs.BytesLemmas.{length-part}
 use Rattle.kernel_model.proofs.OrderlyLemmas.{pairs_apart}
+use Rattle.kernel_tables.proofs.Patches.{byte_in}
 use Rattle.kernel_tables.specs.Lists.{AreApart, IsNewAt}
 
 -- what an answer says
@@ -18,16 +19,13 @@ yes p = (λ e. p, λ q. refl)
 
 -- ---- bytes
 
-byte_in : (m : List ℕ) (at n i : ℕ) → i < n → get_or (part m at n) i 0 ≡ get_or m (at + i) 0
-unfolding part
-byte_in m at n i h = get_or-take n (drop at m) i 0 h ∙ get_or-drop at m i 0
+pub piece_is : (m bs : List ℕ) (at : ℕ) → at + length bs ≤ length m → ((k : ℕ) → k < length bs → get_or bs k 0 ≡ get_or m (at + k) 0) → part m at (length bs) ≡ bs
+piece_is m bs at w f =
+    let size : length (part m at (length bs)) ≡ length bs = length-part m at (length bs) w in
+    ext_get_or 0 (part m at (length bs)) bs size (λ k l. let in' : k < length bs = omega (arith, size, l) in byte_in m at (length bs) k in' ∙ sym (f k in'))
 
-pub piece_is : (m bs xs : List ℕ) (at : ℕ) → length bs ≡ 32 → at + 32 ≤ length m → bs ≡ xs → ((k : ℕ) → k < 32 → get_or bs k 0 ≡ get_or m (at + k) 0) → xs ≡ part m at 32
-piece_is m bs xs at h w e f =
-    sym e ∙ ext_get_or 0 bs (part m at 32) (h ∙ sym (length-part m at 32 w)) (λ k l. let in' : k < 32 = omega arith in f k in' ∙ sym (byte_in m at 32 k in'))
-
-pub piece_differs : (m bs xs : List ℕ) (at k b : ℕ) → bs ≡ xs → k < 32 → b ≡ get_or m (at + k) 0 → get_or bs k 0 ≢ b → xs ≡ part m at 32 → ⊥
-piece_differs m bs xs at k b e l h ne p = ne (ap (λ ys. get_or ys k 0) (e ∙ p) ∙ byte_in m at 32 k l ∙ sym h)
+pub piece_differs : (m bs : List ℕ) (at k b : ℕ) → k < length bs → b ≡ get_or m (at + k) 0 → (b ≡ get_or bs k 0 → ⊥) → part m at (length bs) ≡ bs → ⊥
+piece_differs m bs at k b l h ne p = ne (h ∙ sym (byte_in m at (length bs) k l) ∙ ap (λ ys. get_or ys k 0) p)
 
 -- ---- members that stand once
 

@@ -1,8 +1,11 @@
 -- Pieces of a memory after bytes were put over others.
-use Rattle.std.proofs.Common.{◌≡◌, ℕ, ◌+◌, ◌-◌, ◌≤◌, List, ◌++◌, length, take, drop, ap, ◌∙◌, arith}
-use Rattle.std.proofs.lemmas.List.{same_lists, places, drop-take, take-take, drop-drop}
+use Rattle.std.proofs.Common.{◌≡◌, ℕ, ◌+◌, ◌-◌, ◌<◌, ◌≤◌, List, ◌++◌, length, take, drop, get_or, sym, ap, ◌∙◌, arith, All}
+use Rattle.std.proofs.lemmas.List.{same_lists, places, drop-take, take-take, drop-drop, get_or-take, get_or-drop, ext_get_or}
 use Rattle.flat_mem.specs.Bytes.{patch}
 use Rattle.kernel_model.specs.Bytes.{part}
+use Rattle.kernel_model.proofs.BytesLemmas.{length-part}
+use Rattle.kernel_model.proofs.FitLemmas.{Small}
+use Rattle.std.proofs.lemmas.List.Elements.{All-from_get_or}
 
 pub length-patch : (m bs : List ℕ) (a : ℕ) → a + length bs ≤ length m → length (patch m a bs) ≡ length m
 unfolding patch
@@ -39,3 +42,34 @@ part-part m b s o n h =
     ∙ ap (λ d. take n d) (drop-take o (s - o) (drop b m))
     ∙ take-take n (s - o) (drop o (drop b m)) within
     ∙ ap (λ d. take n d) (drop-drop o b m)
+
+-- ---- bytes
+
+pub byte_in : (m : List ℕ) (at n i : ℕ) → i < n → get_or (part m at n) i 0 ≡ get_or m (at + i) 0
+unfolding part
+byte_in m at n i h = get_or-take n (drop at m) i 0 h ∙ get_or-drop at m i 0
+
+-- pieces of the same bytes
+pub part_same : (m m' : List ℕ) (a n : ℕ) → length m ≡ 65536 → length m' ≡ 65536 → a + n ≤ 65536 → ((i : ℕ) → i < n → get_or m' (a + i) 0 ≡ get_or m (a + i) 0) → part m' a n ≡ part m a n
+part_same m m' a n e e' w h =
+    let size : length (part m a n) ≡ n = length-part m a n (omega (arith, e, w)) in
+    let size' : length (part m' a n) ≡ n = length-part m' a n (omega (arith, e', w)) in
+    ext_get_or 0 (part m' a n) (part m a n) (size' ∙ sym size)
+    (λ i l. let in' : i < n = omega (arith, size', l) in byte_in m' a n i in' ∙ h i in' ∙ sym (byte_in m a n i in'))
+
+-- a byte before, behind and in what was put
+pub kept_below : (m bs : List ℕ) (a k : ℕ) → k < a → a + length bs ≤ length m → get_or (patch m a bs) k 0 ≡ get_or m k 0
+unfolding patch
+kept_below m bs a k h l = grind (arith, places)
+
+pub kept_above : (m bs : List ℕ) (a k : ℕ) → a + length bs ≤ k → a + length bs ≤ length m → get_or (patch m a bs) k 0 ≡ get_or m k 0
+unfolding patch
+kept_above m bs a k h l = grind (arith, places)
+
+pub put_byte : (m bs : List ℕ) (a o : ℕ) → o < length bs → a + length bs ≤ length m → get_or (patch m a bs) (a + o) 0 ≡ get_or bs o 0
+unfolding patch
+put_byte m bs a o h l = grind (arith, places)
+
+-- every byte of a memory is below 256
+pub flat_small : (m : List ℕ) → ((k : ℕ) → get_or m k 0 < 256) → All Small m
+flat_small m h = All-from_get_or Small m 0 (λ i l. h i)

@@ -2,12 +2,10 @@
 use Rattle.std.proofs.Common.{◌≡◌, ◌≢◌, ℕ, ◌+◌, ◌-◌, ◌<◌, ◌≤◌, Bool, false, not, eqb, leb, ltb, suc, List, ◌∷◌, ◌++◌, length, take, drop, get_or, refl, ap, sym, ◌∙◌, subst, ⊎_elim, arith, length-append, insert, remove, All, AllPairs, Contains}
 use Rattle.std.specs.List.{position_or_len, prefix_len}
 use Rattle.std.proofs.lemmas.List.Edits.{length-insert, get_or-insert_below, get_or-insert_at, get_or-insert_above, insert-append_left, insert-append_right, remove-append_left, remove-append_right}
-use Rattle.std.proofs.lemmas.List.{get_or_append_left, get_or-append-add}
-use Rattle.std.proofs.lemmas.List.Elements.{All-append, All-take, All-drop, All-cons, All-contains, Contains-get_or, Contains-append_cases}
+use Rattle.std.proofs.lemmas.List.Elements.{All-append, All-take, All-drop, All-cons, Contains-get_or, Contains-append_cases}
 use Rattle.std.proofs.lemmas.List.Quantifiers.{all_pairs_remove}
 use Rattle.std.proofs.lemmas.List.Sums.{fails_before_first, passes_at_first, prefix_len_passes, prefix_len_stops, prefix_len-le-length}
-use Rattle.std.proofs.lemmas.Bool.{cases_eq, cases_lt, leb-true, leb-false, ltb-true, ltb-false, eqb-true, eq-eqb, both_ways}
-use Rattle.kernel_model.proofs.OrderlyLemmas.{distinct_below}
+use Rattle.std.proofs.lemmas.Bool.{cases_eq, cases_lt, leb-true, leb-false, ltb-true, ltb-false, eq-eqb, both_ways}
 use Rattle.kernel_model.specs.Kernel.{Kernel, with_ready, with_sleepers}
 use Rattle.kernel_model.specs.Words.{priority_of, wake_time}
 use Rattle.kernel_model.specs.Queues.{AreQueues, HasQueues, priority_in, wake_time_in, at_front, at_end, among_sleepers, without}
@@ -62,27 +60,6 @@ all_remove P xs i h = All-append P (take i xs) (drop (suc i) xs) (All-take P i x
 -- what isn't in a list is none of its members
 not_member : (xs : List ℕ) (t : ℕ) → (Contains xs t → ⊥) → (k d : ℕ) → k < length xs → get_or xs k d ≢ t
 not_member xs t none k d h e = none (subst (λ (x : ℕ). Contains xs x) e (Contains-get_or xs k d h))
-
--- ---- room
-
--- a list of distinct identities that lacks one has room
-pub room_for : (xs : List ℕ) (t : ℕ) → AllPairs (λ x y. x ≢ y) xs → All (λ x. x < 32) xs → t < 32 → (Contains xs t → ⊥) → length xs < 32
-room_for xs t h below l none =
-    let more : AllPairs (λ x y. x ≢ y) (t ∷ xs) =
-    all_pairs_insert (λ x y. x ≢ y) xs 0 t (omega arith) h (λ k d less. absurd (omega arith)) (λ k d on in' e. not_member xs t none k d in' (sym e)) in
-    let all : length (t ∷ xs) ≤ 32 = distinct_below (t ∷ xs) 32 more (All-cons (λ x. x < 32) t xs l below) in
-    omega arith
-
--- the front or the back of distinct members
-pub distinct_front : (xs ys : List ℕ) → AllPairs (λ x y. x ≢ y) (xs ++ ys) → AllPairs (λ x y. x ≢ y) xs
-distinct_front xs ys h i j d lt l e =
-    let both : length (xs ++ ys) ≡ length xs + length ys = length-append xs ys in
-    h i j d lt (omega arith) (get_or_append_left xs ys d i (omega arith) ∙ e ∙ sym (get_or_append_left xs ys d j l))
-
-pub distinct_back : (xs ys : List ℕ) → AllPairs (λ x y. x ≢ y) (xs ++ ys) → AllPairs (λ x y. x ≢ y) ys
-distinct_back xs ys h i j d lt l e =
-    let both : length (xs ++ ys) ≡ length xs + length ys = length-append xs ys in
-    h (length xs + i) (length xs + j) d (omega arith) (omega arith) (get_or-append-add xs ys i d ∙ e ∙ sym (get_or-append-add xs ys j d))
 
 -- ---- put into the lists
 
@@ -219,50 +196,6 @@ sleep_queues k t q g =
     (λ (same : n ≡ i). subst (λ (j : ℕ). wake_time k t ≤ wake_time k (get_or k.sleepers j d)) (sym same) (omega arith))
     (λ (other : n ≢ i). let order : wake_time k (get_or k.sleepers i d) ≤ wake_time k (get_or k.sleepers n d) = q.by_wake_time i n d (omega arith) l in omega arith)
     (cases_eq n i))
-
--- ---- the lists that the code makes
-
-pub front_list : (k : Kernel) (t p place : ℕ) (items slice new : List ℕ) → items ≡ k.ready → slice ≡ items → p ≡ priority_of k t
-    → place ≡ position_or_len (λ x. leb (priority_of k x) p) slice → new ≡ insert items place t → new ≡ at_front k t
-front_list k t p place items slice new e f g h n =
-    n ∙ ap (λ xs. insert xs place t) e
-    ∙ ap (λ i. insert k.ready i t) (h ∙ ap (λ xs. position_or_len (λ x. leb (priority_of k x) p) xs) (f ∙ e) ∙ ap (λ q. position_or_len (λ x. leb (priority_of k x) q) k.ready) g)
-
-pub end_list : (k : Kernel) (t p place : ℕ) (items slice new : List ℕ) → items ≡ k.ready → slice ≡ items → p ≡ priority_of k t
-    → place ≡ position_or_len (λ x. ltb (priority_of k x) p) slice → new ≡ insert items place t → new ≡ at_end k t
-end_list k t p place items slice new e f g h n =
-    n ∙ ap (λ xs. insert xs place t) e
-    ∙ ap (λ i. insert k.ready i t) (h ∙ ap (λ xs. position_or_len (λ x. ltb (priority_of k x) p) xs) (f ∙ e) ∙ ap (λ q. position_or_len (λ x. ltb (priority_of k x) q) k.ready) g)
-
-pub sleeper_list : (k : Kernel) (t w place : ℕ) (items slice new : List ℕ) → items ≡ k.sleepers → slice ≡ items → w ≡ wake_time k t
-    → place ≡ prefix_len (λ x. leb (wake_time k x) w) slice → new ≡ insert items place t → new ≡ among_sleepers k t
-sleeper_list k t w place items slice new e f g h n =
-    n ∙ ap (λ xs. insert xs place t) e
-    ∙ ap (λ i. insert k.sleepers i t) (h ∙ ap (λ xs. prefix_len (λ x. leb (wake_time k x) w) xs) (f ∙ e) ∙ ap (λ q. prefix_len (λ x. leb (wake_time k x) q) k.sleepers) g)
-
-pub taken_list : (xs : List ℕ) (t place : ℕ) (items slice new : List ℕ) → items ≡ xs → slice ≡ items
-    → place ≡ position_or_len (λ x. eqb x t) slice → new ≡ remove items place → new ≡ without xs t
-taken_list xs t place items slice new e f h n =
-    n ∙ ap (λ ys. remove ys place) e ∙ ap (λ i. remove xs i) (h ∙ ap (λ ys. position_or_len (λ x. eqb x t) ys) (f ∙ e))
-
-pub taken_stands : (xs : List ℕ) (t place : ℕ) (items slice : List ℕ) → Contains xs t → items ≡ xs → slice ≡ items → place ≡ position_or_len (λ x. eqb x t) slice → place < length items
-taken_stands xs t place items slice c e f h =
-    let there : position_or_len (λ x. eqb x t) xs < length xs = member_stands xs t c in
-    let same : place ≡ position_or_len (λ x. eqb x t) xs = h ∙ ap (λ ys. position_or_len (λ x. eqb x t) ys) (f ∙ e) in
-    let size : length items ≡ length xs = ap (λ ys. length ys) e in
-    omega arith
-
-pub ready_room : (k : Kernel) (t : ℕ) (items : List ℕ) → HasQueues k → GoesIn k t → items ≡ k.ready → length items < 32
-ready_room k t items q g e =
-    let room : length k.ready < 32 = room_for k.ready t (distinct_front k.ready k.sleepers q.once) q.ready_below g.number g.not_ready in
-    let size : length items ≡ length k.ready = ap (λ ys. length ys) e in
-    omega arith
-
-pub sleeper_room : (k : Kernel) (t : ℕ) (items : List ℕ) → HasQueues k → GoesIn k t → items ≡ k.sleepers → length items < 32
-sleeper_room k t items q g e =
-    let room : length k.sleepers < 32 = room_for k.sleepers t (distinct_back k.ready k.sleepers q.once) q.sleepers_below g.number g.not_asleep in
-    let size : length items ≡ length k.sleepers = ap (λ ys. length ys) e in
-    omega arith
 
 pub take_queues : (k : Kernel) (t : ℕ) → HasQueues k → Contains k.ready t → HasQueues (with_ready k (without k.ready t))
 take_queues k t q c = ready_remove k.threads k.ready k.sleepers (position_or_len (λ x. eqb x t) k.ready) q (member_stands k.ready t c)

@@ -1,21 +1,26 @@
 -- One saved register replaced.
-use Rattle.std.proofs.Common.{◌≡◌, ℕ, ◌+◌, ◌*◌, ◌/◌, ◌%◌, ◌<◌, ◌≤◌, zero, suc, List, [], ◌∷◌, ◌++◌, length, take, drop, get_or, set, refl, ap, sym, ◌∙◌, subst, arith}
-use Rattle.std.specs.List.{flat_map}
-use Rattle.std.proofs.lemmas.List.{same_lists, places, length-take-le, length-set, set-get_or, drop-set-lt}
+use Rattle.std.proofs.Common.{◌≡◌, ◌≢◌, ℕ, ◌+◌, ◌-◌, ◌*◌, ◌/◌, ◌%◌, ◌<◌, ◌≤◌, zero, suc, List, [], ◌∷◌, ◌++◌, length, take, drop, get_or, set, refl, ap, sym, ◌∙◌, subst, ⊎_elim, arith, All}
+use Rattle.std.proofs.lemmas.Bool.{cases_eq, cases_lt}
+use Rattle.std.proofs.lemmas.List.{same_lists, places, length-set, drop-set-lt, get_or-set_same, get_or-set_other}
 use Rattle.std.proofs.Math.Seq.{take-set-lt}
 use Rattle.flat_mem.specs.Bytes.{patch, word_bytes, even}
-use Rattle.kernel_model.specs.Bytes.{part, words_of, bytes_of, rows}
-use Rattle.kernel_model.specs.Kernel.{Kernel, thread_at}
+use Rattle.kernel_model.specs.Bytes.{part, words_of, bytes_of, before_none, rows}
+use Rattle.kernel_model.specs.Kernel.{Kernel, thread_at, free_thread}
+use Rattle.kernel_model.specs.Links.{walk}
 use Rattle.kernel_model.specs.Words.{saved_register}
-use Rattle.kernel_model.specs.Layout.{sizes, written, tables, nth, kernel_in, kernel_of, IsLaidOut, thread_read, thread_bytes, thread_of_words}
-use Rattle.kernel_model.specs.Queues.{Leaves}
+use Rattle.kernel_model.specs.Layout.{written, tables, nth, kernel_in, kernel_of, IsLaidOut, outside, walked, app_read, module_read, function_read, mutex_read, thread_read, thread_bytes, thread_of_words, Fits}
+use Rattle.kernel_model.specs.Queues.{Leaves, HasQueues, HasQueueBytes, priority_in}
 use Rattle.kernel_model.specs.declared.rows.ThreadRow.{ThreadRow}
-use Rattle.kernel_model.proofs.BytesLemmas.{total, length-part, length-words_of}
-use Rattle.kernel_tables.proofs.Patches.{part-patch_all, length-patch}
-use Rattle.kernel_tables.proofs.RowLemmas.{rows-get, rows-set, flat_map-rows-set, row_fits, outside-patch}
-use Rattle.kernel_model.proofs.LayoutLemmas.{thread_back}
-use Rattle.kernel_tables.proofs.TableLemmas.{IsTable, Kept, tables-patch, total_sizes, thread_table, thread_got, thread_piece, thread_count}
-use Rattle.kernel_tables.proofs.QueueLemmas.{queues_of_kernel, queues_of_row}
+use Rattle.kernel_model.proofs.BytesLemmas.{length-part, length-words_of}
+use Rattle.kernel_model.proofs.FitLemmas.{Small, memory_fits_lem}
+use Rattle.kernel_model.proofs.LinkLemmas.{walk_same}
+use Rattle.kernel_model.proofs.ReadLemmas.{gathered_same}
+use Rattle.kernel_model.proofs.LayoutLemmas.{same_kernel, length-thread}
+use Rattle.kernel_tables.proofs.Patches.{length-patch, kept_below, kept_above, put_byte}
+use Rattle.kernel_tables.proofs.RowLemmas.{rows-get, rows-set, outside-patch}
+use Rattle.kernel_tables.proofs.TableLemmas.{tables-patch, thread_count}
+use Rattle.kernel_tables.proofs.Relaid.{rows_kept, laid_front}
+use Rattle.kernel_tables.proofs.QueueLemmas.{queues_of_row, links_same, queue_of_same, ends_same, row_fits, Written, row_written, ends_kept}
 
 -- ---- words
 
@@ -50,51 +55,6 @@ bytes_of-set (w ∷ ws) others (suc r) v h =
     ∙ sym (patch_two (w % 256) (w / 256) (2 * r) (bytes_of (ws ++ others)) (word_bytes v))
     ∙ ap (λ p. patch (bytes_of (w ∷ ws ++ others)) p (word_bytes v)) more
 
--- ---- a row of which a piece was replaced
-
--- the bytes b of a row in place of those that stand there; laid out, they are those of the row x
-pub kept_bytes : {X : Type 0} (read : List ℕ → X) (write : X → List ℕ) (r n i : ℕ) (m : List ℕ) (put : List X → Kernel) (t a : ℕ) (b : List ℕ) (x : X)
-    → IsTable read write r n i m put → length b ≡ r → read b ≡ x → length (write x) ≡ r
-    → (write (read (part (nth (tables m) i) (r * t) r)) ≡ part (nth (tables m) i) (r * t) r → write x ≡ b)
-    → length m ≡ 65536 → t < n → a ≡ 512 + total (take i sizes) + r * t
-    → Kept m (patch m a b) (put (set (rows read r n (nth (tables m) i)) t x))
-unfolding kernel_of IsLaidOut
-kept_bytes {X} read write r n i m put t a b x is size back written_size same e h p =
-    let bs : List ℕ = nth (tables m) i in
-    let fits : r * t + r ≤ r * n = row_fits r n t h in
-    let sized : get_or sizes i 0 ≡ r * n = is.sized in
-    let table_size : length bs ≡ r * n = is.size in
-    let room : r * t + length b ≤ get_or sizes i 0 = omega arith in
-    let whole : total (take i sizes) + get_or sizes i 0 ≤ 3584 = total_sizes i is.is_table in
-    let moved : tables (patch m a b) ≡ set (tables m) i (patch bs (r * t) b) = tables-patch m b i a (r * t) e is.is_table p room in
-    let old : List X = rows read r n bs in
-    let row : List ℕ = part bs (r * t) r in
-    let got : rows read r n (patch bs (r * t) b) ≡ set old t x = rows-set read r n bs b t h is.size size ∙ ap (λ y. set old t y) back in
-    let kernel : kernel_of (patch m a b) ≡ put (set old t x) =
-    ap (λ ps. kernel_in ps) moved ∙ is.read_in (patch bs (r * t) b) ∙ ap (λ xs. put xs) got in
-    record {
-      kernel = kernel;
-      others = outside-patch m b a e (omega arith) (omega arith);
-      laid_out = λ laid.
-          let stands : flat_map write old ≡ bs = sym is.stands ∙ ap (λ ps. nth ps i) laid in
-          let length_row : length row ≡ r = length-part bs (r * t) r (omega arith) in
-          let again : length (write (read row)) ≡ r = is.rewritten row length_row in
-          let unchanged : set old t (read row) ≡ old = ap (λ y. set old t y) (sym (rows-get read r n bs t (read row) h)) ∙ set-get_or old t (read row) in
-          let over : patch bs (r * t) (write (read row)) ≡ bs =
-          sym (flat_map-rows-set read write r is.rewritten n bs (read row) t h is.size again stands) ∙ ap (λ rs. flat_map write rs) unchanged ∙ stands in
-          let own : write (read row) ≡ row =
-          sym (part-patch_all bs (write (read row)) (r * t) r (sym again) (omega arith)) ∙ ap (λ q. part q (r * t) r) over in
-          let bytes : flat_map write (set old t x) ≡ patch bs (r * t) b =
-          flat_map-rows-set read write r is.rewritten n bs x t h is.size written_size stands ∙ ap (λ w. patch bs (r * t) w) (same own) in
-          ap (λ k. written k) kernel
-          ∙ is.written_in (set old t x)
-          ∙ ap (λ q. set (written (kernel_of m)) i q) bytes
-          ∙ ap (λ ps. set ps i (patch bs (r * t) b)) laid
-          ∙ sym moved;
-      ready_bytes = ap (λ ps. nth ps 2) moved ∙ is.ready_stays (patch bs (r * t) b);
-      sleepers_bytes = ap (λ ps. nth ps 3) moved ∙ is.sleepers_stay (patch bs (r * t) b);
-    }
-
 -- ---- a thread's row
 
 patch_inside : (m w : List ℕ) (at s o : ℕ) → o + length w ≤ s → at + s ≤ length m → patch m (at + o) w ≡ patch m at (patch (part m at s) o w)
@@ -118,54 +78,156 @@ register_read bs r v e h =
 register_written : (row : ThreadRow) (r v : ℕ) → length row.regs ≡ 16 → r < 16
     → thread_bytes (record row { regs = set row.regs r v }) ≡ patch (thread_bytes row) (2 * r) (word_bytes v)
 unfolding thread_bytes
-register_written row r v e h = bytes_of-set row.regs (row.state ∷ row.priority ∷ row.wake_low ∷ row.wake_high ∷ row.object ∷ row.mutex ∷ 0 ∷ 0 ∷ []) r v (omega arith)
+register_written row r v e h = bytes_of-set row.regs (row.state ∷ row.priority ∷ row.wake_low ∷ row.wake_high ∷ row.object ∷ row.mutex ∷ []) r v (omega arith)
 
-regs_read : (bs : List ℕ) → length bs ≡ 48 → length (thread_read bs).regs ≡ 16
-unfolding thread_read
-regs_read bs h =
-    let words : length (words_of bs) ≡ 24 = length-words_of 24 bs h in
-    length-take-le 16 (words_of bs) (omega arith)
+table_rows_size : (m : List ℕ) → length m ≡ 65536 → length (nth (tables m) 7) ≡ 48 * 32
+unfolding tables
+table_rows_size m e = length-part m 1056 1536 (omega arith)
 
-pub kept_register : (m : List ℕ) (t r v : ℕ) → length m ≡ 65536 → t < 32 → r < 16 → Kept m (patch m (1056 + 48 * t + 2 * r) (word_bytes v)) (saved_register (kernel_of m) t r v)
+seventh : (m q : List ℕ) → nth (set (tables m) 7 q) 7 ≡ q
+unfolding tables
+seventh m q = refl
+
+third : (m q : List ℕ) → nth (set (tables m) 7 q) 3 ≡ nth (tables m) 3
+unfolding tables
+third m q = refl
+
+-- a byte of a row in which bytes were put, where the row was laid out
+patched_byte : (m old w : List ℕ) (at p o : ℕ) → length m ≡ 65536 → length old ≡ 44 → length w ≡ 2 → o < 44 → p + 2 ≤ 44 → at + 44 ≤ 65536
+    → ((n : ℕ) → n < 44 → get_or m (at + n) 0 ≡ get_or old n 0) → (a : ℕ) → a ≡ at + o → get_or (patch m (at + p) w) a 0 ≡ get_or (patch old p w) o 0
+patched_byte m old w at p o e long two lo lp la same a is = ⊎_elim
+    (λ (below : o < p). ap (λ n. get_or (patch m (at + p) w) n 0) is ∙ kept_below m w (at + p) (at + o) (omega arith) (omega arith) ∙ same o lo ∙ sym (kept_below old w p o below (omega arith)))
+    (λ (on : p ≤ o). ⊎_elim
+    (λ (inside : o < p + 2). let i : ℕ = o - p in let here : o ≡ p + i = omega arith in let there : a ≡ at + p + i = omega arith in
+    ap (λ n. get_or (patch m (at + p) w) n 0) there ∙ put_byte m w (at + p) i (omega arith) (omega arith) ∙ sym (put_byte old w p i (omega arith) (omega arith)) ∙ ap (λ n. get_or (patch old p w) n 0) (sym here))
+    (λ (above : p + 2 ≤ o). ap (λ n. get_or (patch m (at + p) w) n 0) is ∙ kept_above m w (at + p) (at + o) (omega arith) (omega arith) ∙ same o lo ∙ sym (kept_above old w p o (omega arith) (omega arith)))
+    (cases_lt o (p + 2)))
+    (cases_lt o p)
+
+-- the register's two bytes are no links, so the walks are as before
+walk_kept : (p w : List ℕ) (t r b : ℕ) → length p ≡ 1536 → length w ≡ 2 → t < 32 → r < 16
+    → walk (λ s. get_or (patch p (48 * t + 2 * r) w) (48 * s + 44) 0) 32 b ≡ walk (λ s. get_or p (48 * s + 44) 0) 32 b
+walk_kept p w t r b e e' l h =
+    walk_same (λ s. get_or (patch p (48 * t + 2 * r) w) (48 * s + 44) 0) (λ s. get_or p (48 * s + 44) 0)
+    (λ s ls. ⊎_elim
+    (λ (below : s < t). kept_below p w (48 * t + 2 * r) (48 * s + 44) (omega arith) (omega arith))
+    (λ (on : t ≤ s). kept_above p w (48 * t + 2 * r) (48 * s + 44) (omega arith) (omega arith))
+    (cases_lt s t))
+    32 b
+
+-- the thread's row with the register replaced
+abbrev new_row : (m : List ℕ) (t r v : ℕ) → ThreadRow
+new_row m t r v = record (thread_at (kernel_of m) t) { regs = set (thread_at (kernel_of m) t).regs r v }
+
+row_read : (m : List ℕ) (t r v : ℕ) → length m ≡ 65536 → t < 32 → r < 16
+    → rows thread_read 48 32 (patch (nth (tables m) 7) (48 * t + 2 * r) (word_bytes v)) ≡ set (kernel_of m).threads t (new_row m t r v)
 unfolding kernel_of kernel_in
-kept_register m t r v e h l =
-    let at : ℕ = 1056 + 48 * t in
-    let row : List ℕ = part m at 48 in
-    let size : length row ≡ 48 = length-part m at 48 (omega arith) in
-    let b : List ℕ = patch row (2 * r) (word_bytes v) in
-    let b_size : length b ≡ 48 = length-patch row (word_bytes v) (2 * r) (omega arith) ∙ size in
-    let old : ThreadRow = thread_read row in
-    let x : ThreadRow = record old { regs = set old.regs r v } in
-    let regs : length old.regs ≡ 16 = regs_read row size in
-    let regs' : length x.regs ≡ 16 = length-set old.regs r v ∙ regs in
-    let in_table : part (nth (tables m) 7) (48 * t) 48 ≡ row = thread_piece m t h in
-    let got : thread_at (kernel_of m) t ≡ old = thread_got m t e h in
-    let kept : Kept m (patch m at b) (record (kernel_of m) { threads = set (kernel_of m).threads t x }) =
-    kept_bytes thread_read thread_bytes 48 32 7 m (λ xs. record (kernel_of m) { threads = xs }) t at b x (thread_table m e) b_size
-    (register_read row r v size l) (thread_back x (record { regs = regs' })).size
-    (λ own.
-    let own' : thread_bytes old ≡ row = subst (λ (bs : List ℕ). thread_bytes (thread_read bs) ≡ bs) in_table own in
-    register_written old r v regs l ∙ ap (λ bs. patch bs (2 * r) (word_bytes v)) own')
-    e h refl in
-    let place : patch m (at + 2 * r) (word_bytes v) ≡ patch m at b = patch_inside m (word_bytes v) at 48 (2 * r) (omega arith) (omega arith) in
-    let kernel : record (kernel_of m) { threads = set (kernel_of m).threads t x } ≡ saved_register (kernel_of m) t r v =
-    ap (λ (o : ThreadRow). record (kernel_of m) { threads = set (kernel_of m).threads t (record o { regs = set o.regs r v }) }) (sym got) in
-    subst (λ (k : Kernel). Kept m (patch m (at + 2 * r) (word_bytes v)) k) kernel
-    (subst (λ (n : List ℕ). Kept m n (record (kernel_of m) { threads = set (kernel_of m).threads t x })) (sym place) kept)
+row_read m t r v e l h =
+    let p : List ℕ = nth (tables m) 7 in
+    let size : length p ≡ 48 * 32 = table_rows_size m e in
+    let old : List ℕ = part p (48 * t) 48 in
+    let old_size : length old ≡ 48 = length-part p (48 * t) 48 (omega arith) in
+    let b : List ℕ = patch old (2 * r) (word_bytes v) in
+    let b_size : length b ≡ 48 = length-patch old (word_bytes v) (2 * r) (omega arith) ∙ old_size in
+    let got : thread_at (kernel_of m) t ≡ thread_read old = rows-get thread_read 48 32 p t free_thread l in
+    ap (λ q. rows thread_read 48 32 q) (patch_inside p (word_bytes v) (48 * t) 48 (2 * r) (omega arith) (omega arith))
+    ∙ rows-set thread_read 48 32 p b t l size b_size
+    ∙ ap (λ x. set (kernel_of m).threads t x) (register_read old r v old_size h ∙ ap (λ (o : ThreadRow). record o { regs = set o.regs r v }) (sym got))
 
-pub leaves_register : (m m' : List ℕ) (t r v : ℕ) → length m ≡ 65536 → t < 32 → r < 16
+register_moved : (m : List ℕ) (t r v : ℕ) → length m ≡ 65536 → t < 32 → r < 16
+    → tables (patch m (1056 + 48 * t + 2 * r) (word_bytes v)) ≡ set (tables m) 7 (patch (nth (tables m) 7) (48 * t + 2 * r) (word_bytes v))
+register_moved m t r v e l h = tables-patch m (word_bytes v) 7 (1056 + 48 * t + 2 * r) (48 * t + 2 * r) e (omega arith) (omega arith) (omega arith)
+
+same : {X : Type 0} (x : X) → x ≡ x
+same x = refl
+
+with_rows : (m q : List ℕ) (ts : List ThreadRow) → rows thread_read 48 32 q ≡ ts → ((b : ℕ) → walk (λ s. get_or q (48 * s + 44) 0) 32 b ≡ walk (λ s. get_or (nth (tables m) 7) (48 * s + 44) 0) 32 b)
+    → kernel_in (set (tables m) 7 q) ≡ record (kernel_of m) { threads = ts }
+unfolding kernel_of kernel_in tables
+with_rows m q ts e walks =
+    let es : List ℕ = part m 544 32 in let old : List ℕ = part m 1056 1536 in
+    same_kernel (same (words_of (part m 512 16)))
+    (gathered_same (walked es q) (walked es old) 8 (λ p l. walks (get_or es (2 * p) 0)))
+    (walks (get_or es 16 0))
+    (same (rows app_read 16 8 (part m 608 128))) (same (rows module_read 16 4 (part m 736 64))) (same (rows function_read 4 64 (part m 800 256)))
+    e
+    (same (rows mutex_read 8 32 (part m 2592 256))) (same (rows before_none 4 32 (part m 2848 128))) (same (rows before_none 32 14 (part m 2976 448)))
+
+register_kernel : (m : List ℕ) (t r v : ℕ) → length m ≡ 65536 → t < 32 → r < 16
+    → kernel_of (patch m (1056 + 48 * t + 2 * r) (word_bytes v)) ≡ saved_register (kernel_of m) t r v
+unfolding kernel_of
+register_kernel m t r v e l h =
+    let q : List ℕ = patch (nth (tables m) 7) (48 * t + 2 * r) (word_bytes v) in
+    ap (λ ps. kernel_in ps) (register_moved m t r v e l h)
+    ∙ with_rows m q (set (kernel_of m).threads t (new_row m t r v)) (row_read m t r v e l h) (λ b. walk_kept (nth (tables m) 7) (word_bytes v) t r b (table_rows_size m e) refl l h)
+
+priority_kept : (m : List ℕ) (t r v x : ℕ) → t < 32 → priority_in (set (kernel_of m).threads t (new_row m t r v)) x ≡ priority_in (kernel_of m).threads x
+priority_kept m t r v x l =
+    let count : length (kernel_of m).threads ≡ 32 = thread_count m in
+    ⊎_elim
+    (λ (same : x ≡ t). ap (λ n. priority_in (set (kernel_of m).threads t (new_row m t r v)) n) same
+    ∙ ap (λ (row : ThreadRow). row.priority) (get_or-set_same (kernel_of m).threads t (new_row m t r v) free_thread (omega arith)) ∙ ap (λ n. priority_in (kernel_of m).threads n) (sym same))
+    (λ (other : x ≢ t). ap (λ (row : ThreadRow). row.priority) (get_or-set_other (kernel_of m).threads t x (new_row m t r v) free_thread other))
+    (cases_eq x t)
+
+-- the bytes of the rows, where they were the kernel's before
+register_rows : (m : List ℕ) (t r v : ℕ) → length m ≡ 65536 → All Small m → t < 32 → r < 16 → nth (written (kernel_of m)) 7 ≡ nth (tables m) 7
+    → nth (written (saved_register (kernel_of m) t r v)) 7 ≡ nth (tables (patch m (1056 + 48 * t + 2 * r) (word_bytes v))) 7
+register_rows m t r v e small l h laid =
+    let k : Kernel = kernel_of m in let k' : Kernel = saved_register k t r v in
+    let m' : List ℕ = patch m (1056 + 48 * t + 2 * r) (word_bytes v) in
+    let fits : Fits k = memory_fits_lem m e small in
+    let count : length k.threads ≡ 32 = thread_count m in
+    let regs : length (thread_at k t).regs ≡ 16 = (fits.threads t free_thread (omega arith)).regs in
+    let w : Written m m' (word_bytes v) t (2 * r) = row_written m (word_bytes v) t (2 * r) e l (omega arith) in
+    let here : get_or k'.threads t free_thread ≡ new_row m t r v = get_or-set_same k.threads t (new_row m t r v) free_thread (omega arith) in
+    let old : List ℕ = thread_bytes (thread_at k t) in
+    let long : length old ≡ 44 = length-thread (thread_at k t) (record { regs = regs }) in
+    rows_kept m m' k k' t fits laid (record {
+      size = w.size;
+      fits = row_fits m t (new_row m t r v) fits (length-set (thread_at k t).regs r v ∙ regs);
+      bytes = λ s o ls lo n. w.rows s o lo n;
+      others = λ s ls n. get_or-set_other k.threads t s (new_row m t r v) free_thread n;
+      own = λ o lo.
+          let new : thread_bytes (new_row m t r v) ≡ patch old (2 * r) (word_bytes v) = register_written (thread_at k t) r v regs h in
+          patched_byte m old (word_bytes v) (1056 + 48 * t) (2 * r) o e long refl lo (omega arith) (omega arith)
+          (λ n ln. let place : 1056 + 48 * t + n ≡ 1056 + (48 * t + n) = omega arith in ap (λ a. get_or m a 0) place ∙ laid_front m k t n fits laid l ln)
+          (1056 + (48 * t + o)) (omega arith)
+          ∙ ap (λ bs. get_or bs o 0) (sym new) ∙ ap (λ row. get_or (thread_bytes row) o 0) (sym here);
+      links = λ s ls. links_same k.threads k'.threads k.ready k.sleepers s (λ x i. priority_kept m t r v x l);
+    })
+
+pub leaves_register : (m m' : List ℕ) (t r v : ℕ) → length m ≡ 65536 → All Small m → t < 32 → r < 16
     → m' ≡ patch m (even (1056 + 48 * t + 2 * r)) (word_bytes v) → Leaves m m' (saved_register (kernel_of m) t r v)
-leaves_register m m' t r v e h l is =
-    let k : Kernel = saved_register (kernel_of m) t r v in
+unfolding IsLaidOut HasQueueBytes
+leaves_register m m' t r v e small h l is =
+    let k : Kernel = kernel_of m in let k' : Kernel = saved_register k t r v in
+    let n : List ℕ = patch m (1056 + 48 * t + 2 * r) (word_bytes v) in
+    let count : length k.threads ≡ 32 = thread_count m in
     let place : even (1056 + 48 * t + 2 * r) ≡ 1056 + 48 * t + 2 * r = omega arith in
-    let is' : m' ≡ patch m (1056 + 48 * t + 2 * r) (word_bytes v) = is ∙ ap (λ a. patch m a (word_bytes v)) place in
-    let kept : Kept m m' k = subst (λ (n : List ℕ). Kept m n k) (sym is') (kept_register m t r v e h l) in
-    let size : length (kernel_of m).threads ≡ 32 = thread_count m in
+    let is' : m' ≡ n = is ∙ ap (λ a. patch m a (word_bytes v)) place in
+    let kernel : kernel_of m' ≡ k' = ap (λ a. kernel_of a) is' ∙ register_kernel m t r v e h l in
+    let w : Written m n (word_bytes v) t (2 * r) = row_written m (word_bytes v) t (2 * r) e h (omega arith) in
+    let moved : tables m' ≡ set (tables m) 7 (nth (tables n) 7) =
+    ap (λ a. tables a) is' ∙ register_moved m t r v e h l ∙ ap (λ q. set (tables m) 7 q) (sym (ap (λ ps. nth ps 7) (register_moved m t r v e h l) ∙ seventh m (patch (nth (tables m) 7) (48 * t + 2 * r) (word_bytes v)))) in
+    let rows_back : nth (written k) 7 ≡ nth (tables m) 7 → nth (written k') 7 ≡ nth (tables n) 7 = register_rows m t r v e small h l in
     record {
-      kernel = kept.kernel;
-      others = kept.others;
-      laid_out = kept.laid_out;
-      queues = λ q. queues_of_kernel m m' k kept.ready_bytes kept.sleepers_bytes kept.kernel q
-          (queues_of_row (kernel_of m).threads (kernel_of m).ready (kernel_of m).sleepers t
-          (record (thread_at (kernel_of m) t) { regs = set (thread_at (kernel_of m) t).regs r v }) (omega arith) (λ c. refl) (λ c. refl) q.lists);
+      kernel = kernel;
+      others = ap (λ a. outside a) is' ∙ outside-patch m (word_bytes v) (1056 + 48 * t + 2 * r) e (omega arith) (omega arith);
+      laid_out = λ laid.
+          ap (λ j. written j) kernel
+          ∙ ap (λ es. set (set (written k) 2 es) 7 (nth (written k') 7)) (ends_same k.threads k'.threads k.ready k.sleepers (λ x i. priority_kept m t r v x h))
+          ∙ ap (λ q. set (written k) 7 q) (rows_back (ap (λ ps. nth ps 7) laid)) ∙ ap (λ ps. set ps 7 (nth (tables n) 7)) laid ∙ sym moved;
+      queues = λ q. record {
+        bytes = (
+          ap (λ j. nth (written j) 2) kernel ∙ ends_kept m m' k' e small (ap (λ a. length a) is' ∙ w.size) q (λ i li. ap (λ a. get_or a (544 + i) 0) is' ∙ w.ends i li)
+              (λ p lp. queue_of_same k.threads k'.threads k.ready k.sleepers p (λ x i. priority_kept m t r v x h)),
+          (
+            ap (λ j. nth (written j) 3) kernel ∙ q.bytes.1.0 ∙ sym (ap (λ ps. nth ps 3) moved ∙ third m (nth (tables n) 7)),
+            ap (λ j. nth (written j) 7) kernel ∙ rows_back q.bytes.1.1 ∙ ap (λ a. nth (tables a) 7) (sym is'),
+          ),
+        );
+        lists = subst (λ (j : Kernel). HasQueues j) (sym kernel)
+            (queues_of_row k.threads k.ready k.sleepers t (new_row m t r v) (omega arith) (λ c. refl) (λ c. refl) q.lists);
+      };
     }

@@ -3,8 +3,9 @@ use Rattle.std.proofs.Common.{◌≡◌, ℕ, ◌+◌, ◌*◌, ◌/◌, ◌%◌
 use Rattle.flat_mem.specs.Bytes.{patch, word_at, word_bytes, even}
 use Rattle.kernel_model.specs.Bytes.{part, words_of, bytes_of, before_none, rows}
 use Rattle.kernel_model.specs.Kernel.{Kernel, word_of, with_word}
-use Rattle.kernel_model.specs.Layout.{written, tables, nth, kernel_made, kernel_in, kernel_of, IsLaidOut, outside, system_words, app_read, module_read, function_read, thread_read, mutex_read}
-use Rattle.kernel_model.specs.Queues.{Leaves, HasQueues}
+use Rattle.kernel_model.specs.Layout.{written, tables, nth, kernel_made, kernel_in, kernel_of, IsLaidOut, outside, system_words, walked, app_read, module_read, function_read, thread_read, mutex_read}
+use Rattle.kernel_model.specs.Links.{gathered}
+use Rattle.kernel_model.specs.Queues.{Leaves}
 use Rattle.kernel_model.specs.declared.rows.SysWord.{SysWord}
 use Rattle.kernel_model.specs.declared.rows.SysWord.TheVariants.{CurLim, CurTop, Running, Module, Budget, Pending, TickLow, TickHigh}
 use Rattle.kernel_model.specs.declared.rows.AppRow.{AppRow}
@@ -15,8 +16,7 @@ use Rattle.kernel_model.specs.declared.rows.MutexRow.{MutexRow}
 use Rattle.kernel_model.proofs.BytesLemmas.{length-part}
 use Rattle.kernel_tables.specs.Places.{place_of}
 use Rattle.kernel_tables.proofs.RowLemmas.{outside-patch}
-use Rattle.kernel_tables.proofs.TableLemmas.{tables-patch}
-use Rattle.kernel_tables.proofs.QueueLemmas.{queues_of_kernel}
+use Rattle.kernel_tables.proofs.TableLemmas.{tables-patch, queues_kept}
 use Rattle.kernel_tables.proofs.WordLemmas.{word_in}
 
 pub word_got : (m : List ℕ) (w : SysWord) → length m ≡ 65536 → word_of (kernel_of m) w ≡ word_at m (place_of w)
@@ -111,16 +111,6 @@ word_written k Pending v = refl
 word_written k TickLow v = refl
 word_written k TickHigh v = refl
 
-word_queues : (k : Kernel) (w : SysWord) (v : ℕ) → HasQueues k → HasQueues (with_word k w v)
-word_queues k CurLim v q = q
-word_queues k CurTop v q = q
-word_queues k Running v q = q
-word_queues k Module v q = q
-word_queues k Budget v q = q
-word_queues k Pending v q = q
-word_queues k TickLow v q = q
-word_queues k TickHigh v q = q
-
 word_place : (w : SysWord) → even (place_of w) ≡ 512 + 2 * index_of w
 unfolding index_of
 word_place CurLim = refl
@@ -152,13 +142,13 @@ word_moved m w v e =
 word_kernel : (m : List ℕ) (w : SysWord) (v : ℕ) → length m ≡ 65536 → kernel_in (set (tables m) 0 (patch (nth (tables m) 0) (2 * index_of w) (word_bytes v))) ≡ with_word (kernel_of m) w v
 unfolding kernel_of kernel_in tables
 word_kernel m w v e =
-    word_made (before_none (part m 544 32)) (before_none (part m 576 32)) (rows app_read 16 8 (part m 608 128)) (rows module_read 16 4 (part m 736 64))
+    word_made (gathered (walked (part m 544 32) (part m 1056 1536)) 8) (walked (part m 544 32) (part m 1056 1536) 8) (rows app_read 16 8 (part m 608 128)) (rows module_read 16 4 (part m 736 64))
     (rows function_read 4 64 (part m 800 256)) (rows thread_read 48 32 (part m 1056 1536)) (rows mutex_read 8 32 (part m 2592 256))
     (rows before_none 4 32 (part m 2848 128)) (rows before_none 32 14 (part m 2976 448)) w v (part m 512 16) (length-part m 512 16 (omega arith))
 
-others_stay : (m q : List ℕ) → (nth (set (tables m) 0 q) 2 ≡ nth (tables m) 2) × (nth (set (tables m) 0 q) 3 ≡ nth (tables m) 3)
+others_stay : (m q : List ℕ) → (nth (set (tables m) 0 q) 2 ≡ nth (tables m) 2) × ((nth (set (tables m) 0 q) 3 ≡ nth (tables m) 3) × (nth (set (tables m) 0 q) 7 ≡ nth (tables m) 7))
 unfolding tables
-others_stay m q = (refl, refl)
+others_stay m q = (refl, (refl, refl))
 
 pub leaves_word : (m m' : List ℕ) (w : SysWord) (v : ℕ) → length m ≡ 65536 → m' ≡ patch m (even (place_of w)) (word_bytes v) → Leaves m m' (with_word (kernel_of m) w v)
 unfolding kernel_of IsLaidOut
@@ -180,6 +170,5 @@ leaves_word m m' w v e is =
           ∙ ap (λ b. set (written (kernel_of m)) 0 b) (word_bytes_put (kernel_of m) w v ∙ ap (λ b. patch b (2 * index_of w) (word_bytes v)) bytes)
           ∙ ap (λ ps. set ps 0 q) laid
           ∙ sym moved;
-      queues = λ h. queues_of_kernel m m' k (ap (λ ps. nth ps 2) moved ∙ (others_stay m q).0) (ap (λ ps. nth ps 3) moved ∙ (others_stay m q).1) kernel h
-          (word_queues (kernel_of m) w v h.lists);
+      queues = queues_kept m m' (ap (λ ps. nth ps 2) moved ∙ (others_stay m q).0) (ap (λ ps. nth ps 3) moved ∙ (others_stay m q).1.0) (ap (λ ps. nth ps 7) moved ∙ (others_stay m q).1.1);
     }

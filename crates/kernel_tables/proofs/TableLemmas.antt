@@ -1,20 +1,20 @@
 -- What a write of one row leaves of the kernel.
-use Rattle.std.proofs.Common.{◌≡◌, ℕ, ◌+◌, ◌-◌, ◌*◌, ◌<◌, ◌≤◌, suc, List, [], ◌∷◌, ◌++◌, length, take, drop, get_or, set, refl, ap, sym, ◌∙◌, subst, arith, length-append, All}
+use Rattle.std.proofs.Common.{◌≡◌, ℕ, ◌+◌, ◌-◌, ◌*◌, ◌<◌, ◌≤◌, suc, List, [], ◌∷◌, ◌++◌, length, take, drop, get_or, set, refl, ap, sym, ◌∙◌, subst, arith, length-append, replicate, All}
 use Rattle.std.proofs.lemmas.List.{length-drop, length-take-le}
 use Rattle.std.specs.List.{flat_map}
 use Rattle.std.proofs.lemmas.List.Elements.{All-weaker}
 use Rattle.flat_mem.specs.Bytes.{patch}
-use Rattle.kernel_model.specs.Bytes.{part, words_of, before_none, filled, rows}
-use Rattle.kernel_model.specs.Kernel.{Kernel, with_app, with_module, with_function, with_mutex, with_condition, with_line, with_thread, app_at, module_at, function_at, thread_at, mutex_at, condition_at, line_at, free_app, free_module, free_function, free_thread, free_mutex}
-use Rattle.kernel_model.specs.Layout.{sizes, written, tables, nth, kernel_in, kernel_of, IsLaidOut, outside, app_read, app_bytes, module_read, module_bytes, function_read, function_bytes, thread_read, thread_bytes, mutex_read, mutex_bytes, FitsMutex, FitsList}
+use Rattle.kernel_model.specs.Bytes.{part, before_none, filled, rows}
+use Rattle.kernel_model.specs.Kernel.{Kernel, with_app, with_module, with_function, with_mutex, with_condition, with_line, app_at, module_at, function_at, thread_at, mutex_at, condition_at, line_at, free_app, free_module, free_function, free_thread, free_mutex}
+use Rattle.kernel_model.specs.Layout.{sizes, written, tables, nth, kernel_in, kernel_of, IsLaidOut, outside, app_read, app_bytes, module_read, module_bytes, function_read, function_bytes, thread_read, linked_bytes, linked_rows, links_of, queue_ends, walked, mutex_read, mutex_bytes, FitsMutex, FitsList}
+use Rattle.kernel_model.specs.Links.{gathered}
 use Rattle.kernel_model.specs.Queues.{AreQueues, HasQueueBytes, QueuesHold, Leaves}
 use Rattle.kernel_model.specs.declared.rows.AppRow.{AppRow}
 use Rattle.kernel_model.specs.declared.rows.ModuleRow.{ModuleRow}
 use Rattle.kernel_model.specs.declared.rows.FnRow.{FnRow}
-use Rattle.kernel_model.specs.declared.rows.ThreadRow.{ThreadRow}
 use Rattle.kernel_model.specs.declared.rows.MutexRow.{MutexRow}
-use Rattle.kernel_model.proofs.BytesLemmas.{ReadsBack, total, length-part, length-filled, length-before_none, length-words_of, length-rows}
-use Rattle.kernel_model.proofs.LayoutLemmas.{app_back, module_back, function_back, mutex_back, thread_back, list_back}
+use Rattle.kernel_model.proofs.BytesLemmas.{ReadsBack, total, length-part, length-filled, length-before_none, length-rows}
+use Rattle.kernel_model.proofs.LayoutLemmas.{app_back, module_back, function_back, mutex_back, list_back}
 use Rattle.kernel_tables.proofs.Patches.{part-part}
 use Rattle.kernel_tables.proofs.RowLemmas.{rows-get, rows-set, flat_map-rows-set, split-patch, total-get, outside-patch, row_fits}
 
@@ -28,8 +28,9 @@ pub record IsTable {X : Type 0} (read : List ℕ → X) (write : X → List ℕ)
   pub size : length (nth (tables m) i) ≡ r * n
   pub sized : get_or sizes i 0 ≡ r * n
   pub is_table : i < 12
-  pub ready_stays : (q : List ℕ) → nth (set (tables m) i q) 2 ≡ nth (tables m) 2
-  pub sleepers_stay : (q : List ℕ) → nth (set (tables m) i q) 3 ≡ nth (tables m) 3
+  pub ends_stay : (q : List ℕ) → nth (set (tables m) i q) 2 ≡ nth (tables m) 2
+  pub unused_stays : (q : List ℕ) → nth (set (tables m) i q) 3 ≡ nth (tables m) 3
+  pub threads_stay : (q : List ℕ) → nth (set (tables m) i q) 7 ≡ nth (tables m) 7
   pub rewritten : (bs : List ℕ) → length bs ≡ r → length (write (read bs)) ≡ r
 
 pub tables-patch : (m bs : List ℕ) (i a o : ℕ) → length m ≡ 65536 → i < 12 → a ≡ 512 + total (take i sizes) + o → o + length bs ≤ get_or sizes i 0
@@ -42,8 +43,9 @@ pub record Kept (before after : List ℕ) (k : Kernel) : Type 0 where
   pub kernel : kernel_of after ≡ k
   pub others : outside after ≡ outside before
   pub laid_out : IsLaidOut before → IsLaidOut after
-  pub ready_bytes : nth (tables after) 2 ≡ nth (tables before) 2
-  pub sleepers_bytes : nth (tables after) 3 ≡ nth (tables before) 3
+  pub ends_bytes : nth (tables after) 2 ≡ nth (tables before) 2
+  pub unused_bytes : nth (tables after) 3 ≡ nth (tables before) 3
+  pub thread_bytes : nth (tables after) 7 ≡ nth (tables before) 7
 
 pub total_sizes : (i : ℕ) → i < 12 → total (take i sizes) + get_or sizes i 0 ≤ 3584
 total_sizes i h = (let all : get_or sizes i 0 + total (take i sizes) ≤ total sizes = total-get sizes i in omega arith)
@@ -76,28 +78,41 @@ kept_row {X} read write r n i m put t a x is back e h p =
           ∙ ap (λ q. set (written (kernel_of m)) i q) bytes
           ∙ ap (λ ps. set ps i (patch bs (r * t) (write x))) laid
           ∙ sym moved;
-      ready_bytes = ap (λ ps. nth ps 2) moved ∙ is.ready_stays (patch bs (r * t) (write x));
-      sleepers_bytes = ap (λ ps. nth ps 3) moved ∙ is.sleepers_stay (patch bs (r * t) (write x));
+      ends_bytes = ap (λ ps. nth ps 2) moved ∙ is.ends_stay (patch bs (r * t) (write x));
+      unused_bytes = ap (λ ps. nth ps 3) moved ∙ is.unused_stays (patch bs (r * t) (write x));
+      thread_bytes = ap (λ ps. nth ps 7) moved ∙ is.threads_stay (patch bs (r * t) (write x));
     }
 
 -- ---- the queues after a write elsewhere
 
-queues_kept : (m m' : List ℕ) → nth (tables m') 2 ≡ nth (tables m) 2 → nth (tables m') 3 ≡ nth (tables m) 3 → (kernel_of m').threads ≡ (kernel_of m).threads → QueuesHold m → QueuesHold m'
-unfolding HasQueueBytes kernel_of kernel_in
-queues_kept m m' e2 e3 et h = record {
-  bytes = (subst (λ (bs : List ℕ). filled 32 (before_none bs) ≡ bs) (sym e2) h.bytes.0, subst (λ (bs : List ℕ). filled 32 (before_none bs) ≡ bs) (sym e3) h.bytes.1);
-  lists =
-      subst (λ (ts : List ThreadRow). AreQueues ts (before_none (nth (tables m') 2)) (before_none (nth (tables m') 3))) (sym et)
-      (subst (λ (bs : List ℕ). AreQueues (kernel_of m).threads (before_none bs) (before_none (nth (tables m') 3))) (sym e2)
-      (subst (λ (bs : List ℕ). AreQueues (kernel_of m).threads (before_none (nth (tables m) 2)) (before_none bs)) (sym e3) h.lists));
-}
+-- the lists, and the bytes that they ask for, are those of three tables
+abbrev Lists : (ends unused rows : List ℕ) → Type 0
+Lists es us rs =
+    let threads = rows thread_read 48 32 rs in let ready = gathered (walked es rs) 8 in let sleepers = walked es rs 8 in
+    ((queue_ends threads ready sleepers ≡ es) × ((replicate 32 0 ≡ us) × (flat_map linked_bytes (linked_rows (links_of threads ready sleepers) 0 threads) ≡ rs)))
+    × AreQueues threads ready sleepers
 
-leaves_kept : (m m' : List ℕ) (k : Kernel) → Kept m m' k → k.threads ≡ (kernel_of m).threads → Leaves m m' k
-leaves_kept m m' k h e = record {
+lists_of : (m : List ℕ) → QueuesHold m → Lists (nth (tables m) 2) (nth (tables m) 3) (nth (tables m) 7)
+unfolding HasQueueBytes kernel_of kernel_in
+lists_of m h = (h.bytes, h.lists)
+
+hold_of : (m : List ℕ) → Lists (nth (tables m) 2) (nth (tables m) 3) (nth (tables m) 7) → QueuesHold m
+unfolding HasQueueBytes kernel_of kernel_in
+hold_of m h = record { bytes = h.0; lists = h.1 }
+
+pub queues_kept : (m m' : List ℕ) → nth (tables m') 2 ≡ nth (tables m) 2 → nth (tables m') 3 ≡ nth (tables m) 3 → nth (tables m') 7 ≡ nth (tables m) 7 → QueuesHold m → QueuesHold m'
+queues_kept m m' e2 e3 e7 h =
+    hold_of m'
+    (subst (λ (es : List ℕ). Lists es (nth (tables m') 3) (nth (tables m') 7)) (sym e2)
+    (subst (λ (us : List ℕ). Lists (nth (tables m) 2) us (nth (tables m') 7)) (sym e3)
+    (subst (λ (rs : List ℕ). Lists (nth (tables m) 2) (nth (tables m) 3) rs) (sym e7) (lists_of m h))))
+
+leaves_kept : (m m' : List ℕ) (k : Kernel) → Kept m m' k → Leaves m m' k
+leaves_kept m m' k h = record {
   kernel = h.kernel;
   others = h.others;
   laid_out = h.laid_out;
-  queues = queues_kept m m' h.ready_bytes h.sleepers_bytes (ap (λ (j : Kernel). j.threads) h.kernel ∙ e);
+  queues = queues_kept m m' h.ends_bytes h.unused_bytes h.thread_bytes;
 }
 
 -- ---- each table
@@ -111,8 +126,9 @@ app_table m e = record {
   size = length-part m 608 128 (omega arith);
   sized = refl;
   is_table = omega arith;
-  ready_stays = λ q. refl;
-  sleepers_stay = λ q. refl;
+  ends_stay = λ q. refl;
+  unused_stays = λ q. refl;
+  threads_stay = λ q. refl;
   rewritten = λ bs h. refl;
 }
 
@@ -121,7 +137,7 @@ unfolding kernel_of kernel_in
 leaves_app m m' a row e h p =
     let kept : Kept m (patch m (608 + 16 * a) (app_bytes row)) (with_app (kernel_of m) a row) =
     kept_row app_read app_bytes 16 8 4 m (λ xs. record (kernel_of m) { apps = xs }) a (608 + 16 * a) row (app_table m e) (app_back row) e h refl in
-    leaves_kept m m' (with_app (kernel_of m) a row) (subst (λ (n : List ℕ). Kept m n (with_app (kernel_of m) a row)) (sym p) kept) refl
+    leaves_kept m m' (with_app (kernel_of m) a row) (subst (λ (n : List ℕ). Kept m n (with_app (kernel_of m) a row)) (sym p) kept)
 
 pub app_got : (m : List ℕ) (a : ℕ) → length m ≡ 65536 → a < 8 → app_at (kernel_of m) a ≡ app_read (part m (608 + 16 * a) 16)
 unfolding kernel_of kernel_in tables
@@ -136,8 +152,9 @@ module_table m e = record {
   size = length-part m 736 64 (omega arith);
   sized = refl;
   is_table = omega arith;
-  ready_stays = λ q. refl;
-  sleepers_stay = λ q. refl;
+  ends_stay = λ q. refl;
+  unused_stays = λ q. refl;
+  threads_stay = λ q. refl;
   rewritten = λ bs h. refl;
 }
 
@@ -146,7 +163,7 @@ unfolding kernel_of kernel_in
 leaves_module m m' t row e h p =
     let kept : Kept m (patch m (736 + 16 * t) (module_bytes row)) (with_module (kernel_of m) t row) =
     kept_row module_read module_bytes 16 4 5 m (λ xs. record (kernel_of m) { modules = xs }) t (736 + 16 * t) row (module_table m e) (module_back row) e h refl in
-    leaves_kept m m' (with_module (kernel_of m) t row) (subst (λ (n : List ℕ). Kept m n (with_module (kernel_of m) t row)) (sym p) kept) refl
+    leaves_kept m m' (with_module (kernel_of m) t row) (subst (λ (n : List ℕ). Kept m n (with_module (kernel_of m) t row)) (sym p) kept)
 
 pub module_got : (m : List ℕ) (t : ℕ) → length m ≡ 65536 → t < 4 → module_at (kernel_of m) t ≡ module_read (part m (736 + 16 * t) 16)
 unfolding kernel_of kernel_in tables
@@ -161,8 +178,9 @@ function_table m e = record {
   size = length-part m 800 256 (omega arith);
   sized = refl;
   is_table = omega arith;
-  ready_stays = λ q. refl;
-  sleepers_stay = λ q. refl;
+  ends_stay = λ q. refl;
+  unused_stays = λ q. refl;
+  threads_stay = λ q. refl;
   rewritten = λ bs h. refl;
 }
 
@@ -171,7 +189,7 @@ unfolding kernel_of kernel_in
 leaves_function m m' t row e h p =
     let kept : Kept m (patch m (800 + 4 * t) (function_bytes row)) (with_function (kernel_of m) t row) =
     kept_row function_read function_bytes 4 64 6 m (λ xs. record (kernel_of m) { functions = xs }) t (800 + 4 * t) row (function_table m e) (function_back row) e h refl in
-    leaves_kept m m' (with_function (kernel_of m) t row) (subst (λ (n : List ℕ). Kept m n (with_function (kernel_of m) t row)) (sym p) kept) refl
+    leaves_kept m m' (with_function (kernel_of m) t row) (subst (λ (n : List ℕ). Kept m n (with_function (kernel_of m) t row)) (sym p) kept)
 
 pub function_got : (m : List ℕ) (t : ℕ) → length m ≡ 65536 → t < 64 → function_at (kernel_of m) t ≡ function_read (part m (800 + 4 * t) 4)
 unfolding kernel_of kernel_in tables
@@ -204,8 +222,9 @@ mutex_table m e = record {
   size = length-part m 2592 256 (omega arith);
   sized = refl;
   is_table = omega arith;
-  ready_stays = λ q. refl;
-  sleepers_stay = λ q. refl;
+  ends_stay = λ q. refl;
+  unused_stays = λ q. refl;
+  threads_stay = λ q. refl;
   rewritten = mutex_rewritten;
 }
 
@@ -218,8 +237,9 @@ condition_table m e = record {
   size = length-part m 2848 128 (omega arith);
   sized = refl;
   is_table = omega arith;
-  ready_stays = λ q. refl;
-  sleepers_stay = λ q. refl;
+  ends_stay = λ q. refl;
+  unused_stays = λ q. refl;
+  threads_stay = λ q. refl;
   rewritten = filled_size 4;
 }
 
@@ -232,8 +252,9 @@ line_table m e = record {
   size = length-part m 2976 448 (omega arith);
   sized = refl;
   is_table = omega arith;
-  ready_stays = λ q. refl;
-  sleepers_stay = λ q. refl;
+  ends_stay = λ q. refl;
+  unused_stays = λ q. refl;
+  threads_stay = λ q. refl;
   rewritten = filled_size 32;
 }
 
@@ -250,7 +271,7 @@ unfolding kernel_of kernel_in
 leaves_mutex m m' a i row e h l f p =
     let kept : Kept m (patch m (2592 + 8 * (4 * a + i)) (mutex_bytes row)) (with_mutex (kernel_of m) a i row) =
     kept_row mutex_read mutex_bytes 8 32 8 m (λ xs. record (kernel_of m) { mutexes = xs }) (4 * a + i) (2592 + 8 * (4 * a + i)) row (mutex_table m e) (mutex_back row f) e (place_below a i h l) refl in
-    leaves_kept m m' (with_mutex (kernel_of m) a i row) (subst (λ (n : List ℕ). Kept m n (with_mutex (kernel_of m) a i row)) (sym p) kept) refl
+    leaves_kept m m' (with_mutex (kernel_of m) a i row) (subst (λ (n : List ℕ). Kept m n (with_mutex (kernel_of m) a i row)) (sym p) kept)
 
 pub mutex_got : (m : List ℕ) (a i : ℕ) → length m ≡ 65536 → a < 8 → i < 4 → mutex_at (kernel_of m) a i ≡ mutex_read (part m (2592 + 8 * (4 * a + i)) 8)
 unfolding kernel_of kernel_in tables
@@ -263,7 +284,7 @@ unfolding kernel_of kernel_in
 leaves_condition m m' a i xs e h l f p =
     let kept : Kept m (patch m (2848 + 4 * (4 * a + i)) (filled 4 xs)) (with_condition (kernel_of m) a i xs) =
     kept_row before_none (filled 4) 4 32 9 m (λ ys. record (kernel_of m) { conditions = ys }) (4 * a + i) (2848 + 4 * (4 * a + i)) xs (condition_table m e) (list_back 4 xs f) e (place_below a i h l) refl in
-    leaves_kept m m' (with_condition (kernel_of m) a i xs) (subst (λ (n : List ℕ). Kept m n (with_condition (kernel_of m) a i xs)) (sym p) kept) refl
+    leaves_kept m m' (with_condition (kernel_of m) a i xs) (subst (λ (n : List ℕ). Kept m n (with_condition (kernel_of m) a i xs)) (sym p) kept)
 
 pub condition_got : (m : List ℕ) (a i : ℕ) → length m ≡ 65536 → a < 8 → i < 4 → condition_at (kernel_of m) a i ≡ before_none (part m (2848 + 4 * (4 * a + i)) 4)
 unfolding kernel_of kernel_in tables
@@ -276,34 +297,13 @@ unfolding kernel_of kernel_in
 leaves_line m m' n xs e h f p =
     let kept : Kept m (patch m (2976 + 32 * n) (filled 32 xs)) (with_line (kernel_of m) n xs) =
     kept_row before_none (filled 32) 32 14 10 m (λ ys. record (kernel_of m) { lines = ys }) n (2976 + 32 * n) xs (line_table m e) (list_back 32 xs f) e h refl in
-    leaves_kept m m' (with_line (kernel_of m) n xs) (subst (λ (n' : List ℕ). Kept m n' (with_line (kernel_of m) n xs)) (sym p) kept) refl
+    leaves_kept m m' (with_line (kernel_of m) n xs) (subst (λ (n' : List ℕ). Kept m n' (with_line (kernel_of m) n xs)) (sym p) kept)
 
 pub line_got : (m : List ℕ) (n : ℕ) → length m ≡ 65536 → n < 14 → line_at (kernel_of m) n ≡ before_none (part m (2976 + 32 * n) 32)
 unfolding kernel_of kernel_in tables
 line_got m n e h = rows-get before_none 32 14 (part m 2976 448) n [] h ∙ ap (λ bs. before_none bs) (part-part m 2976 448 (32 * n) 32 (omega arith))
 
 -- ---- threads
-
-thread_rewritten : (bs : List ℕ) → length bs ≡ 48 → length (thread_bytes (thread_read bs)) ≡ 48
-unfolding thread_read
-thread_rewritten bs h =
-    let words : length (words_of bs) ≡ 24 = length-words_of 24 bs h in
-    let regs : length (take 16 (words_of bs)) ≡ 16 = length-take-le 16 (words_of bs) (omega arith) in
-    (thread_back (thread_read bs) (record { regs = regs })).size
-
-pub thread_table : (m : List ℕ) → length m ≡ 65536 → IsTable thread_read thread_bytes 48 32 7 m (λ xs. record (kernel_of m) { threads = xs })
-unfolding tables kernel_in kernel_of
-thread_table m e = record {
-  read_in = λ q. refl;
-  written_in = λ xs. refl;
-  stands = refl;
-  size = length-part m 1056 1536 (omega arith);
-  sized = refl;
-  is_table = omega arith;
-  ready_stays = λ q. refl;
-  sleepers_stay = λ q. refl;
-  rewritten = thread_rewritten;
-}
 
 -- a row's bytes in its table are those at its address
 pub thread_piece : (m : List ℕ) (t : ℕ) → t < 32 → part (nth (tables m) 7) (48 * t) 48 ≡ part m (1056 + 48 * t) 48
@@ -313,11 +313,6 @@ thread_piece m t h = part-part m 1056 1536 (48 * t) 48 (omega arith)
 pub thread_got : (m : List ℕ) (t : ℕ) → length m ≡ 65536 → t < 32 → thread_at (kernel_of m) t ≡ thread_read (part m (1056 + 48 * t) 48)
 unfolding kernel_of kernel_in tables
 thread_got m t e h = rows-get thread_read 48 32 (part m 1056 1536) t free_thread h ∙ ap (λ bs. thread_read bs) (part-part m 1056 1536 (48 * t) 48 (omega arith))
-
-pub kept_thread : (m : List ℕ) (t : ℕ) (row : ThreadRow) → length m ≡ 65536 → t < 32 → length row.regs ≡ 16 → Kept m (patch m (1056 + 48 * t) (thread_bytes row)) (with_thread (kernel_of m) t row)
-unfolding kernel_of kernel_in
-kept_thread m t row e h f =
-    kept_row thread_read thread_bytes 48 32 7 m (λ xs. record (kernel_of m) { threads = xs }) t (1056 + 48 * t) row (thread_table m e) (thread_back row (record { regs = f })) e h refl
 
 pub thread_count : (m : List ℕ) → length (kernel_of m).threads ≡ 32
 unfolding kernel_of kernel_in

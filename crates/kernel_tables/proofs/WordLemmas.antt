@@ -1,6 +1,6 @@
 -- The words of a row, read one by one.
 use Rattle.std.proofs.Common.{◌≡◌, ℕ, ◌+◌, ◌*◌, ◌%◌, ◌<◌, ◌≤◌, zero, suc, List, [], ◌∷◌, ◌++◌, length, take, drop, get_or, refl, ap, sym, ◌∙◌, arith}
-use Rattle.std.proofs.lemmas.List.{get_or-take, get_or-drop, take_at, drop_at}
+use Rattle.std.proofs.lemmas.List.{take_at, drop_at}
 use Rattle.flat_mem.specs.Bytes.{word_at, even}
 use Rattle.kernel_model.specs.Bytes.{part, words_of, before_none}
 use Rattle.kernel_model.specs.Layout.{app_read, module_read, function_read, thread_read, mutex_read}
@@ -12,7 +12,7 @@ use Rattle.kernel_model.specs.declared.rows.MutexRow.{MutexRow}
 use Rattle.kernel_model.proofs.BytesLemmas.{length-part, length-words_of, part-two}
 use Rattle.kernel_model.specs.Words.{priority_of}
 use Rattle.kernel_model.specs.Layout.{kernel_of}
-use Rattle.kernel_tables.proofs.Patches.{part-part}
+use Rattle.kernel_tables.proofs.Patches.{part-part, byte_in}
 use Rattle.kernel_tables.proofs.TableLemmas.{thread_got}
 
 -- word i of bytes
@@ -26,10 +26,6 @@ words_of-get (a ∷ b ∷ bs) (suc i) h =
     words_of-get bs i (omega arith)
     ∙ ap (λ k. get_or (a ∷ b ∷ bs) k 0 + 256 * get_or bs (2 * i + 1) 0) (sym low)
     ∙ ap (λ k. get_or (a ∷ b ∷ bs) (2 * suc i) 0 + 256 * get_or (a ∷ b ∷ bs) k 0) (sym high)
-
-byte_in : (m : List ℕ) (at n i : ℕ) → i < n → get_or (part m at n) i 0 ≡ get_or m (at + i) 0
-unfolding part
-byte_in m at n i h = get_or-take n (drop at m) i 0 h ∙ get_or-drop at m i 0
 
 -- word i of a piece at an even address
 pub word_in : (m : List ℕ) (at n i b : ℕ) → at % 2 ≡ 0 → b ≡ at + 2 * i → 2 * i + 2 ≤ n → at + n ≤ length m → word_at m b ≡ get_or (words_of (part m at n)) i 0

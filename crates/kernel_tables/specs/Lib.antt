@@ -1,3 +1,4 @@
 pub mod Clearing
 pub mod Lists
 pub mod Places
+pub mod Linking

@@ -7,8 +7,8 @@ ghost use Rattle.kernel_tables.specs.Clearing.{Cleared, copies, repeated, vector
 
 use crate::pieces::{NONE, put_words};
 use crate::places::{
-    APP_ROWS, CONDITION_LISTS, FUNCTION_ROW_BYTES, FUNCTION_ROWS, MUTEX_ROW_BYTES, MUTEX_ROWS,
-    READY_LIST, SYSTEM_WORDS, TABLES_END, THREAD_ROWS, UNUSED_END, UNUSED_WORDS, VECTORS,
+    CONDITION_LISTS, FUNCTION_ROW_BYTES, FUNCTION_ROWS, MUTEX_ROW_BYTES, MUTEX_ROWS, SYSTEM_WORDS,
+    TABLES_END, THREAD_ROWS, UNUSED_END, UNUSED_WORDS, VECTORS,
 };
 use flat_mem::FlatMem;
 
@@ -31,9 +31,7 @@ fn clear_tables(m: &mut FlatMem)
         SYSTEM_WORDS,
         &[0x1006, 0x1100, 0xFFFF, 0xFFFF, 0, 0, 0, 0],
     );
-    fill(m, UNUSED_WORDS, 0, READY_LIST - UNUSED_WORDS);
-    fill(m, READY_LIST, NONE, APP_ROWS - READY_LIST);
-    fill(m, APP_ROWS, 0, FUNCTION_ROWS - APP_ROWS);
+    fill(m, UNUSED_WORDS, 0, FUNCTION_ROWS - UNUSED_WORDS);
     free_functions(m);
     fill(m, THREAD_ROWS, 0, MUTEX_ROWS - THREAD_ROWS);
     free_mutexes(m);

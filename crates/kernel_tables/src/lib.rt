@@ -6,12 +6,14 @@
 //! the tables are as before, and where the tables were laid out, or the two lists in order, they still are. No call takes memory.
 //!
 //! `clear` begins a memory. `ready` and `sleepers` and the calls that change them stand on `queues_hold`, which tells whether a
-//! memory's two lists are laid out and in order; an orderly kernel's are (`laws`).
+//! memory's two lists are laid out and in order; an orderly kernel's are (`laws`). Each priority's ready threads, and the sleepers,
+//! are a doubly linked queue in the threads' rows: putting a ready thread in, or taking a thread out, writes four bytes.
 #![tactic(auto)]
 
 mod domains;
 mod emptying;
 pub mod laws;
+mod links;
 mod order;
 mod pieces;
 mod places;

@@ -1,44 +1,133 @@
 //! Whether the ready list and the sleepers are laid out and in order.
 
-ghost use Rattle.std.specs.Prelude.{◌≡◌, ◌≢◌, ◌↔◌, ◌+◌, ◌<◌, ◌≤◌, ℕ, IsTrue, All, AllPairs, length, slice_index};
-ghost use Rattle.kernel_model.specs.Bytes.{part, before_none, filled};
+ghost use Rattle.std.specs.Prelude.{◌≡◌, ◌≢◌, ◌↔◌, ◌+◌, ◌*◌, ◌<◌, ◌≤◌, ℕ, IsTrue, All, AllPairs, List, [], ◌∷◌, length, replicate, slice_index};
+ghost use Rattle.kernel_model.specs.Bytes.{part};
+ghost use Rattle.kernel_model.specs.Links.{first, last, queue};
 ghost use Rattle.kernel_model.specs.Words.{priority_of, wake_time};
-ghost use Rattle.kernel_model.specs.Layout.{kernel_of};
+ghost use Rattle.kernel_model.specs.Layout.{kernel_of, links_of, queue_of};
 ghost use Rattle.kernel_model.specs.Queues.{QueuesHold, AreQueues};
 ghost use Rattle.kernel_tables.specs.Lists.{IsNewAt, AreApart};
+ghost use Rattle.kernel_tables.specs.Linking.{AreEnds, AreLinks};
 
-use crate::pieces::{list_at, list_bytes};
-use crate::places::{READY_LIST, SLEEPERS};
+use crate::links::{first_link, last_link, next_link, prev_link, walk, walk_ready};
+use crate::places::{NEXT_AT, QUEUE_ENDS, SLEEPERS, THREAD_ROW_BYTES, THREAD_ROWS, UNUSED_ENDS};
 use crate::threads::{priority, wake_time};
 use arrayvec::ArrayVec;
 use flat_mem::FlatMem;
 
-/// Whether the ready list and the sleepers are laid out: each is followed by FF alone, its members are below 32, no thread stands
-/// twice in the two, each ready thread's priority is at most 7, higher priorities stand before lower ones, and sleepers stand by
-/// the tick that they wait for.
+/// Whether the ready list and the sleepers are laid out and in order: their members are below 32, no thread stands twice in the two,
+/// each ready thread stands in the queue of its priority, which is at most 7, sleepers stand by the tick that they wait for, and the
+/// queues' ends and each thread's links are those of the two lists.
 pub fn queues_hold(m: &FlatMem) -> bool
     ensures { IsTrue result ↔ QueuesHold m.now }
 {
-    let ready: ArrayVec<u8, 32> = list_at(m, READY_LIST);
-    let sleepers: ArrayVec<u8, 32> = list_at(m, SLEEPERS);
-    if !is_list(m, READY_LIST, &ready) {
+    m.is_flat();
+    let mut ready_list: ArrayVec<u8, 32> = ArrayVec::new();
+    let mut sleeper_list: ArrayVec<u8, 32> = ArrayVec::new();
+    if !walk_ready(m, &mut ready_list) {
         return false;
     }
-    if !is_list(m, SLEEPERS, &sleepers) {
+    if !walk(m, SLEEPERS, &mut sleeper_list) {
         return false;
     }
-    in_order(m, ready.as_slice(), sleepers.as_slice())
+    let ready = ready_list.as_slice();
+    let sleepers = sleeper_list.as_slice();
+    if !in_order(m, ready, sleepers) {
+        return false;
+    }
+    if !ends_hold(m, ready, sleepers) {
+        return false;
+    }
+    links_hold(m, ready, sleepers)
 }
 
-/// Whether 32 bytes are a list's.
-fn is_list(m: &FlatMem, at: u16, list: &ArrayVec<u8, 32>) -> bool
-    requires { at + 32 ≤ 65536 }
-    ensures { IsTrue result ↔ (filled 32 list.now.items ≡ part m.now at 32) }
+/// Whether the queues' ends are those of two lists, and the bytes behind them 0.
+fn ends_hold(m: &FlatMem, ready: &[u8], sleepers: &[u8]) -> bool
+    requires room { length ready.now ≤ 32 }
+    requires ready { All (λ t. t < 32) ready.now }
+    requires sleepers { All (λ t. t < 32) sleepers.now }
+    ensures { IsTrue result ↔ AreEnds m.now (kernel_of m.now).threads ready.now sleepers.now }
+{
+    for q in 0..9u8 {
+        if !are_at(m, QUEUE_ENDS + 2 * q as u16, &ends(m, ready, sleepers, q)) {
+            return false;
+        }
+    }
+    are_at(m, UNUSED_ENDS, &[0; 46])
+}
+
+/// Whether each thread's links are those of two lists.
+fn links_hold(m: &FlatMem, ready: &[u8], sleepers: &[u8]) -> bool
+    requires room { length ready.now ≤ 32 }
+    requires ready { All (λ t. t < 32) ready.now }
+    requires sleepers { All (λ t. t < 32) sleepers.now }
+    ensures { IsTrue result ↔ AreLinks m.now (kernel_of m.now).threads ready.now sleepers.now }
+{
+    for t in 0..32u8 {
+        let at = THREAD_ROWS + THREAD_ROW_BYTES * t as u16 + NEXT_AT;
+        if !are_at(m, at, &links(m, ready, sleepers, t)) {
+            return false;
+        }
+    }
+    true
+}
+
+/// The first and the last link of queue q of two lists.
+fn ends(m: &FlatMem, ready: &[u8], sleepers: &[u8], q: u8) -> [u8; 2]
+    requires room { length ready.now ≤ 32 }
+    requires ready { All (λ t. t < 32) ready.now }
+    requires sleepers { All (λ t. t < 32) sleepers.now }
+    ensures { result ≡ first (queue_of (kernel_of m.now).threads ready.now sleepers.now q) ∷ last (queue_of (kernel_of m.now).threads ready.now sleepers.now q) ∷ [] }
+{
+    if q == SLEEPERS {
+        return [first_link(sleepers), last_link(sleepers)];
+    }
+    let own = of_priority(m, ready, q as u16);
+    [first_link(own.as_slice()), last_link(own.as_slice())]
+}
+
+/// The four bytes behind thread t's row, as two lists ask.
+fn links(m: &FlatMem, ready: &[u8], sleepers: &[u8], t: u8) -> [u8; 4]
+    requires number { t < 32 }
+    requires room { length ready.now ≤ 32 }
+    requires ready { All (λ t. t < 32) ready.now }
+    requires sleepers { All (λ t. t < 32) sleepers.now }
+    ensures { result ≡ links_of (kernel_of m.now).threads ready.now sleepers.now t }
+{
+    let own = of_priority(m, ready, priority(m, t));
+    let own = own.as_slice();
+    [
+        next_link(own, t) + next_link(sleepers, t),
+        prev_link(own, t) + prev_link(sleepers, t),
+        0,
+        0,
+    ]
+}
+
+/// The members of a list that have a priority.
+fn of_priority(m: &FlatMem, list: &[u8], p: u16) -> ArrayVec<u8, 32>
+    requires room { length list.now ≤ 32 }
+    requires members { All (λ t. t < 32) list.now }
+    ensures value { result.items ≡ queue (λ t. priority_of (kernel_of m.now) t) list.now p }
+    ensures members { All (λ t. t < 32) result.items }
+{
+    let mut own = ArrayVec::new();
+    for i in 0..list.len() {
+        if priority(m, list[i]) == p {
+            own.push(list[i]);
+        }
+    }
+    own
+}
+
+/// Whether bytes stand at an address.
+fn are_at(m: &FlatMem, at: u16, bytes: &[u8]) -> bool
+    requires { at + length bytes.now ≤ 65536 }
+    ensures { IsTrue result ↔ (part m.now at (length bytes.now) ≡ bytes.now) }
 {
     m.is_flat();
-    let bytes = list_bytes(list);
-    for i in 0..32 {
-        if bytes[i] != m.byte(at + i as u16) {
+    for i in 0..bytes.len() {
+        if m.byte(at + i as u16) != bytes[i] {
             return false;
         }
     }

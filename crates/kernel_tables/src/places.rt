@@ -4,10 +4,10 @@
 pub const SYSTEM_WORDS: u16 = 0x0200;
 /// The unused words behind them.
 pub const UNUSED_WORDS: u16 = 0x0210;
-/// The ready list.
-pub const READY_LIST: u16 = 0x0220;
-/// The sleepers.
-pub const SLEEPERS: u16 = 0x0240;
+/// The first and the last thread of each queue.
+pub const QUEUE_ENDS: u16 = 0x0220;
+/// The unused bytes behind them.
+pub const UNUSED_ENDS: u16 = 0x0232;
 /// The applications' rows.
 pub const APP_ROWS: u16 = 0x0260;
 /// The modules' rows.
@@ -41,9 +41,16 @@ pub const FUNCTION_ROW_BYTES: u16 = 4;
 pub const THREAD_ROW_BYTES: u16 = 48;
 /// Where the priority stands in a thread's row.
 pub const PRIORITY_AT: u16 = 34;
+/// Where the next link stands in a thread's row.
+pub const NEXT_AT: u16 = 44;
+/// Where the previous link stands in a thread's row.
+pub const PREVIOUS_AT: u16 = 45;
 /// The bytes of a mutex's row.
 pub const MUTEX_ROW_BYTES: u16 = 8;
 /// The bytes of a condition's list.
 pub const CONDITION_LIST_BYTES: u16 = 4;
-/// The bytes of a line's list, of the ready list and of the sleepers.
+/// The bytes of a line's list.
 pub const LIST_BYTES: u16 = 32;
+
+/// The number of the sleepers' queue. The ready queues have their priorities' numbers.
+pub const SLEEPERS: u8 = 8;

@@ -1,34 +1,40 @@
 //! The ready list and the sleepers.
+//!
+//! Each priority's ready threads are one doubly linked queue, and the sleepers are one.
 
-ghost use Rattle.std.specs.Prelude.{◌≡◌, ◌+◌, ◌*◌, ◌<◌, ◌≤◌, ◌==◌, nat_le, nat_lt, All, Contains, length};
+ghost use Rattle.std.specs.Prelude.{◌≡◌, ◌+◌, ◌*◌, ◌<◌, ◌≤◌, ◌==◌, nat_le, All, Contains, length};
 ghost use Rattle.std.specs.List.{position_or_len, prefix_len};
 ghost use Rattle.kernel_model.specs.Kernel.{with_ready, with_sleepers};
 ghost use Rattle.kernel_model.specs.Words.{priority_of, wake_time};
 ghost use Rattle.kernel_model.specs.Layout.{kernel_of};
-ghost use Rattle.kernel_model.specs.Queues.{Leaves, QueuesHold, HasQueues, at_front, at_end, among_sleepers, without};
+ghost use Rattle.kernel_model.specs.Queues.{Leaves, QueuesHold, at_front, at_end, among_sleepers, without};
 
-use crate::pieces::{list_at, put_list};
-use crate::places::{READY_LIST, SLEEPERS};
+use crate::links::{first_link, last_link, link, next_place, prev_place, unlink, walk, walk_ready};
+use crate::places::SLEEPERS;
 use crate::threads::{priority, wake_time};
 use arrayvec::ArrayVec;
 use flat_mem::FlatMem;
 
 /// The ready list, the first thread first. The two lists are laid out and in order.
-#[tactic(auto, using(crate::proofs::ListLemmas::ready_got))]
 pub fn ready(m: &FlatMem) -> ArrayVec<u8, 32>
     requires { QueuesHold m.now }
     ensures { result.items ≡ (kernel_of m.now).ready }
 {
-    list_at(m, READY_LIST)
+    m.is_flat();
+    let mut list = ArrayVec::new();
+    walk_ready(m, &mut list);
+    list
 }
 
 /// The sleepers, the first to wake first. The two lists are laid out and in order.
-#[tactic(auto, using(crate::proofs::ListLemmas::sleepers_got))]
 pub fn sleepers(m: &FlatMem) -> ArrayVec<u8, 32>
     requires { QueuesHold m.now }
     ensures { result.items ≡ (kernel_of m.now).sleepers }
 {
-    list_at(m, SLEEPERS)
+    m.is_flat();
+    let mut list = ArrayVec::new();
+    walk(m, SLEEPERS, &mut list);
+    list
 }
 
 /// Puts thread t, which is in neither list, directly before the first ready thread whose priority is at most its own, or last where
@@ -42,10 +48,10 @@ pub fn ready_front(m: &mut FlatMem, t: u8)
     ensures leaves { Leaves m.old m.new (with_ready (kernel_of m.old) (at_front (kernel_of m.old) t)) }
     ensures queues { QueuesHold m.new }
 {
-    let mut list = ready(m);
-    let place = first_at_most(m, list.as_slice(), priority(m, t));
-    list.insert(place, t);
-    put_ready(m, &list);
+    m.is_flat();
+    let q = priority(m, t) as u8;
+    let first = m.byte(next_place(q, 0));
+    link(m, q, t, 0, first);
 }
 
 /// Puts thread t, which is in neither list, directly before the first ready thread of a lower priority, or last where there is none.
@@ -59,10 +65,10 @@ pub fn ready_end(m: &mut FlatMem, t: u8)
     ensures leaves { Leaves m.old m.new (with_ready (kernel_of m.old) (at_end (kernel_of m.old) t)) }
     ensures queues { QueuesHold m.new }
 {
-    let mut list = ready(m);
-    let place = first_below(m, list.as_slice(), priority(m, t));
-    list.insert(place, t);
-    put_ready(m, &list);
+    m.is_flat();
+    let q = priority(m, t) as u8;
+    let last = m.byte(prev_place(q, 0));
+    link(m, q, t, last, 0);
 }
 
 /// Takes thread t, which is ready, out of the ready list.
@@ -72,9 +78,8 @@ pub fn ready_take(m: &mut FlatMem, t: u8)
     ensures leaves { Leaves m.old m.new (with_ready (kernel_of m.old) (without (kernel_of m.old).ready t)) }
     ensures queues { QueuesHold m.new }
 {
-    let mut list = ready(m);
-    take_out(&mut list, t);
-    put_ready(m, &list);
+    m.is_flat();
+    unlink(m, priority(m, t) as u8, t);
 }
 
 /// Puts thread t, which is in neither list, directly after the last sleeper whose tick is at most its own, or first where there is
@@ -87,10 +92,12 @@ pub fn sleep_in(m: &mut FlatMem, t: u8)
     ensures leaves { Leaves m.old m.new (with_sleepers (kernel_of m.old) (among_sleepers (kernel_of m.old) t)) }
     ensures queues { QueuesHold m.new }
 {
-    let mut list = sleepers(m);
+    m.is_flat();
+    let list = sleepers(m);
     let place = first_later(m, list.as_slice(), wake_time(m, t));
-    list.insert(place, t);
-    put_sleepers(m, &list);
+    let before = last_link(&list.as_slice()[..place]);
+    let behind = first_link(&list.as_slice()[place..]);
+    link(m, SLEEPERS, t, before, behind);
 }
 
 /// Takes thread t, which sleeps, out of the sleepers.
@@ -100,37 +107,8 @@ pub fn sleep_take(m: &mut FlatMem, t: u8)
     ensures leaves { Leaves m.old m.new (with_sleepers (kernel_of m.old) (without (kernel_of m.old).sleepers t)) }
     ensures queues { QueuesHold m.new }
 {
-    let mut list = sleepers(m);
-    take_out(&mut list, t);
-    put_sleepers(m, &list);
-}
-
-/// The place of the first thread whose priority is at most a bound, or the list's length.
-fn first_at_most(m: &FlatMem, list: &[u8], bound: u16) -> usize
-    requires { All (λ t. t < 32) list.now }
-    ensures value { result ≡ position_or_len (λ t. nat_le (priority_of (kernel_of m.now) t) bound) list.now }
-    ensures within { result ≤ length list.now }
-{
-    for i in 0..list.len() {
-        if priority(m, list[i]) <= bound {
-            return i;
-        }
-    }
-    list.len()
-}
-
-/// The place of the first thread whose priority is below a bound, or the list's length.
-fn first_below(m: &FlatMem, list: &[u8], bound: u16) -> usize
-    requires { All (λ t. t < 32) list.now }
-    ensures value { result ≡ position_or_len (λ t. nat_lt (priority_of (kernel_of m.now) t) bound) list.now }
-    ensures within { result ≤ length list.now }
-{
-    for i in 0..list.len() {
-        if priority(m, list[i]) < bound {
-            return i;
-        }
-    }
-    list.len()
+    m.is_flat();
+    unlink(m, SLEEPERS, t);
 }
 
 /// The place of the first thread that wakes after a tick, or the list's length. The list's members are below 32.
@@ -147,15 +125,6 @@ pub fn first_later(m: &FlatMem, list: &[u8], tick: u32) -> usize
     list.len()
 }
 
-/// Takes a member out of a list.
-fn take_out(list: &mut ArrayVec<u8, 32>, t: u8)
-    requires { Contains list.old.items t }
-    ensures { list.new.items ≡ without list.old.items t }
-{
-    let place = place_of(list.as_slice(), t);
-    list.remove(place);
-}
-
 /// The place of a member, or the list's length.
 pub fn place_of(list: &[u8], t: u8) -> usize
     ensures value { result ≡ position_or_len (λ x. x == t) list.now }
@@ -167,24 +136,4 @@ pub fn place_of(list: &[u8], t: u8) -> usize
         }
     }
     list.len()
-}
-
-/// Replaces the ready list by one that is in order.
-fn put_ready(m: &mut FlatMem, list: &ArrayVec<u8, 32>)
-    requires { HasQueues (with_ready (kernel_of m.old) list.now.items) }
-    ensures { Leaves m.old m.new (with_ready (kernel_of m.old) list.now.items) }
-{
-    m.is_flat();
-    let _room = list.len();
-    put_list(m, READY_LIST, list);
-}
-
-/// Replaces the sleepers by a list that is in order.
-fn put_sleepers(m: &mut FlatMem, list: &ArrayVec<u8, 32>)
-    requires { HasQueues (with_sleepers (kernel_of m.old) list.now.items) }
-    ensures { Leaves m.old m.new (with_sleepers (kernel_of m.old) list.now.items) }
-{
-    m.is_flat();
-    let _room = list.len();
-    put_list(m, SLEEPERS, list);
 }

@@ -4,7 +4,9 @@ ghost use Rattle.std.specs.Prelude.{◌<◌, ◌≤◌, IsTrue, Contains};
 ghost use Rattle.kernel_model.specs.Layout.{kernel_of};
 ghost use Rattle.kernel_model.specs.Queues.{QueuesHold};
 
+mod damaged;
 mod filled;
+mod linked;
 mod setters;
 
 use crate::order::{all_below, new_at};
@@ -146,8 +148,8 @@ fn clear_writes_the_empty_kernel_and_the_vectors(rt: HostRuntime) -> Result<(), 
         (0x0204, 0xFFFF),
         (0x0206, 0xFFFF),
         (0x0208, 0),
-        (0x0234, 0xFFFF),
-        (0x0252, 0xFFFF),
+        (0x0234, 0),
+        (0x0252, 0),
         (0x0260, 0),
         (0x0320, 0xFFFF),
         (0x0322, 0),
@@ -286,53 +288,37 @@ fn equal_priorities_and_ticks_keep_their_order(rt: HostRuntime) -> Result<(), Fa
     }
     assert!(rt; take(&mut m, 0));
     assert!(rt; !take(&mut m, 6));
-    let bytes: [(u16, u8); 12] = [
-        (0x0220, 2),
+    // priority 3 has threads 5, 1, 3, priority 0 has thread 4, priority 5 has thread 2, and the sleepers are 7, 9, 6, 8
+    let bytes: [(u16, u8); 26] = [
+        (0x0220, 5),
         (0x0221, 5),
-        (0x0222, 1),
-        (0x0223, 3),
-        (0x0224, 4),
-        (0x0225, 0xFF),
-        (0x0226, 0xFF),
-        (0x0240, 7),
-        (0x0241, 9),
-        (0x0242, 6),
-        (0x0243, 8),
-        (0x0244, 0xFF),
+        (0x0222, 0),
+        (0x0226, 6),
+        (0x0227, 4),
+        (0x022A, 3),
+        (0x022B, 3),
+        (0x0230, 8),
+        (0x0231, 9),
+        (0x0232, 0),
+        (0x044C, 0),
+        (0x044D, 0),
+        (0x047C, 4),
+        (0x047D, 6),
+        (0x04DC, 0),
+        (0x04DD, 2),
+        (0x053C, 2),
+        (0x053D, 0),
+        (0x059C, 10),
+        (0x059D, 0),
+        (0x05FC, 7),
+        (0x05FD, 8),
+        (0x056C, 9),
+        (0x056D, 10),
+        (0x05CC, 0),
+        (0x05CD, 7),
     ];
     for (at, byte) in bytes {
         assert_eq!(rt; m.byte(at), byte, "at {at:#x}");
-    }
-    Ok(())
-}
-
-#[test]
-fn lists_out_of_order_do_not_hold(rt: HostRuntime) -> Result<(), Fail> {
-    let mut m = FlatMem::new(rt.alloc())?;
-    // a member past the list, a repeated one, an identity too large, a lower priority first, one in both lists, a later tick first
-    let cases: [(u16, [u8; 3], bool); 8] = [
-        (0x0220, [2, 1, 0xFF], true),
-        (0x0220, [1, 0xFF, 2], false),
-        (0x0220, [1, 1, 0xFF], false),
-        (0x0220, [32, 0xFF, 0xFF], false),
-        (0x0220, [1, 2, 0xFF], false),
-        (0x0220, [3, 0xFF, 0xFF], false),
-        (0x0240, [3, 1, 0xFF], true),
-        (0x0240, [1, 3, 0xFF], false),
-    ];
-    for (at, list, holds) in cases {
-        clear(&mut m);
-        for t in 1..4 {
-            let mut row = thread_row(t, t as u16);
-            row.wake_low = 8 - t as u16;
-            row.wake_high = 0;
-            assert!(rt; put_row(&mut m, t, &row));
-        }
-        if at == 0x0220 {
-            m.set_byte(0x0240, 3);
-        }
-        m.copy_in(at, &list);
-        assert_eq!(rt; queues_hold(&m), holds, "{list:?} at {at:#x}");
     }
     Ok(())
 }

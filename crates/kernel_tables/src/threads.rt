@@ -25,7 +25,7 @@ pub fn thread(m: &FlatMem, t: u8) -> ThreadRow
 }
 
 /// Replaces the row of the thread with identity t, t below 32. A thread in the ready list keeps its priority, and a sleeper the
-/// tick that it waits for.
+/// tick that it waits for. Its links stay.
 pub fn set_thread(m: &mut FlatMem, t: u8, row: &ThreadRow)
     requires number { t < 32 }
     requires queues { QueuesHold m.old }
@@ -91,10 +91,10 @@ fn thread_row(m: &FlatMem, at: u16) -> ThreadRow
     }
 }
 
-/// Writes a row from an even address on.
+/// Writes a row from an even address on. The four bytes behind it, which link the thread, stay.
 fn put_thread_row(m: &mut FlatMem, at: u16, row: &ThreadRow)
     requires aligned { at % 2 ≡ 0 }
-    requires room { at + 48 ≤ 65536 }
+    requires room { at + 44 ≤ 65536 }
     ensures put { m.new ≡ patch m.old at (thread_bytes row.now) }
     ensures registers { length row.now.regs ≡ 16 }
 {
@@ -110,8 +110,6 @@ fn put_thread_row(m: &mut FlatMem, at: u16, row: &ThreadRow)
             row.wake_high,
             row.object,
             row.mutex,
-            0,
-            0,
         ],
     );
 }

@@ -15,8 +15,10 @@ use fixture::{
     put_marks, ready_list, runner, tick_words, try_jump, try_return, two_apps,
 };
 use flat_mem::FlatMem;
+use kernel_tables::laws::orderly_queues_hold;
 use kernel_tables::{
-    ModuleRow, SysWord, app, clear, cond, mutex, put, queues_hold, set_module, thread,
+    ModuleRow, SysWord, app, clear, cond, mutex, put, queues_hold, ready, set_module, sleepers,
+    thread,
 };
 use msp_machine::Regs;
 use std::test::Fail;
@@ -319,21 +321,35 @@ fn all_sleep(m: &mut FlatMem, r: &mut Regs) -> bool
     true
 }
 
+/// The ready list and the sleepers.
+fn queue_lists(m: &FlatMem) -> (ArrayVec<u8, 32>, ArrayVec<u8, 32>)
+    requires { IsSettled m.now }
+{
+    orderly_queues_hold(m);
+    (ready(m), sleepers(m))
+}
+
+/// Whether a list has all threads, in the order of their numbers.
+fn has_all(list: &ArrayVec<u8, 32>) -> bool {
+    for i in 0..list.len() {
+        if list.as_slice()[i] as usize != i {
+            return false;
+        }
+    }
+    list.len() == 32
+}
+
 #[test]
 fn thirty_two_sleepers_wake_at_one_tick(rt: HostRuntime) -> Result<(), Fail> {
     let mut m = eight_apps(rt.alloc())?;
     let mut r = Regs::new();
     assert!(rt; all_sleep(&mut m, &mut r));
     assert!(rt; make_ticks(&mut m, 1));
-    for t in 0..32 {
-        assert_eq!(rt; m.byte(0x0240 + t), t as u8, "sleeper {t}");
-        assert_eq!(rt; m.byte(0x0220 + t), NO, "ready {t}");
-    }
+    let (first, second) = queue_lists(&m);
+    assert!(rt; first.is_empty() && has_all(&second));
     assert!(rt; make_ticks(&mut m, 1));
-    for t in 0..32 {
-        assert_eq!(rt; m.byte(0x0240 + t), NO, "sleeper {t}");
-        assert_eq!(rt; m.byte(0x0220 + t), t as u8, "ready {t}");
-    }
+    let (first, second) = queue_lists(&m);
+    assert!(rt; has_all(&first) && second.is_empty());
     Ok(())
 }
 
@@ -406,8 +422,23 @@ fn members<const N: usize>(some: &[u8]) -> ArrayVec<u8, N> {
 fn lists_lose_the_threads_of_one_application_alone(rt: HostRuntime) -> Result<(), Fail> {
     let mut m = FlatMem::new(rt.alloc())?;
     clear(&mut m);
-    m.copy_in(0x0220, &[0, 4, 31, 5, 8]);
-    m.copy_in(0x0240, &[1, 6, 7, 9]);
+    // ready are 0, 4, 31, 5 and 8, and asleep 1, 6, 7 and 9: the ends of the two queues, and the links behind the threads' rows
+    let links: [(u16, [u8; 2]); 11] = [
+        (0x0220, [1, 9]),
+        (0x044C, [5, 0]),
+        (0x050C, [32, 1]),
+        (0x0A1C, [6, 5]),
+        (0x053C, [9, 32]),
+        (0x05CC, [0, 6]),
+        (0x0230, [2, 10]),
+        (0x047C, [7, 0]),
+        (0x056C, [8, 2]),
+        (0x059C, [10, 7]),
+        (0x05FC, [0, 8]),
+    ];
+    for (at, pair) in links {
+        m.copy_in(at, &pair);
+    }
     // lines 0, 3 and 13
     m.copy_in(0x0BA0, &[4]);
     m.copy_in(0x0C00, &[7, 0, 6, 1, 5]);
@@ -416,9 +447,24 @@ fn lists_lose_the_threads_of_one_application_alone(rt: HostRuntime) -> Result<()
     leave_ready(&mut m, 1);
     leave_sleepers(&mut m, 1);
     leave_lines(&mut m, 1);
-    let bytes: [(u16, [u8; 5]); 5] = [
-        (0x0220, [0, 31, 8, NO, NO]),
-        (0x0240, [1, 9, NO, NO, NO]),
+    // ready are 0, 31 and 8, and asleep 1 and 9
+    let links: [(u16, [u8; 2]); 11] = [
+        (0x0220, [1, 9]),
+        (0x044C, [32, 0]),
+        (0x050C, [0, 0]),
+        (0x0A1C, [9, 1]),
+        (0x053C, [0, 0]),
+        (0x05CC, [0, 32]),
+        (0x0230, [2, 10]),
+        (0x047C, [10, 0]),
+        (0x056C, [0, 0]),
+        (0x059C, [0, 0]),
+        (0x05FC, [0, 2]),
+    ];
+    for (at, pair) in links {
+        assert_eq!(rt; [m.byte(at), m.byte(at + 1)], pair, "{at:#x}");
+    }
+    let bytes: [(u16, [u8; 5]); 3] = [
         (0x0BA0, [NO; 5]),
         (0x0C00, [0, 1, NO, NO, NO]),
         (0x0D40, [2, NO, NO, NO, NO]),

@@ -78,7 +78,7 @@ written-shows s e before w h p =
     let x : System = with-writes s e.written in
     let same : put_all before e.written ≡ seen x =
     ap (λ (m : List ℕ). put_all m e.written) w.bytes ∙ seen-writes s.memory s.kernel s.placed e.written h.bytes p.pools in
-    subst (λ (m : List ℕ). Shows m x) (sym same) (shows-seen before s x w p.memory refl)
+    subst (λ (m : List ℕ). Shows m x) (sym same) (shows-seen before s x w h p.memory refl)
 
 is-written : (s : System) (e : Effect) (before : List ℕ) → Shows before s → IsSound s → IsPooled s e
     → IsWritten s e.written (put_all before e.written)

@@ -6,11 +6,11 @@ use Rattle.std.proofs.lemmas.List.{get_or_past}
 use Rattle.std.proofs.lemmas.List.Elements.{All-from_get_or}
 use Rattle.machine_model.specs.Memory.{IsMemory}
 use Rattle.kernel_model.specs.Kernel.{Kernel, module_at}
-use Rattle.kernel_model.specs.Layout.{kernel_of, layout, table_bytes, Fits, IsLaidOut}
+use Rattle.kernel_model.specs.Layout.{kernel_in, kernel_of, layout, written, table_bytes, Fits, IsLaidOut}
 use Rattle.kernel_model.specs.Queues.{Leaves}
 use Rattle.kernel_model.specs.Words.{free}
 use Rattle.kernel_model.proofs.FitLemmas.{memory_fits_lem}
-use Rattle.kernel_model.proofs.LayoutLemmas.{kernel_of-layout, laid_out_from_layout, layout_from_laid_out}
+use Rattle.kernel_model.proofs.LayoutLemmas.{parts_of_layout, layout_from_laid_out}
 use Rattle.kernel_model.proofs.SmallLemmas.{layout_size, layout_small}
 use Rattle.place_model.specs.Settled.{IsSettled, IsSettledKernel}
 use Rattle.load_model.specs.Domains.{Domain}
@@ -53,12 +53,16 @@ tables-seen m k ds e h = same_number_lists (table_bytes (seen_in m k ds)) (layou
     each : (a : ℕ) → a < 3584 → get_or (table_bytes (seen_in m k ds)) a 0 ≡ get_or (layout k) a 0
     each a l = part-byte (seen_in m k ds) a l ∙ seen-tables m k ds a e l ∙ whole k a h.size (h.small a) l
 
-pub seen-kernel : (m : List ℕ) (k : Kernel) (ds : List (Option Domain)) → length m ≡ 65536 → IsHeld k
+-- where the kernel is read back from its layout's parts, the memory that is seen has it
+pub seen-kernel : (m : List ℕ) (k : Kernel) (ds : List (Option Domain)) → length m ≡ 65536 → IsHeld k → kernel_in (written k) ≡ k
     → kernel_of (seen_in m k ds) ≡ k
-seen-kernel m k ds e h = kernel_of-layout (seen_in m k ds) k h.fits (tables-seen m k ds e h)
+unfolding kernel_of
+seen-kernel m k ds e h back = ap (λ (ps : List (List ℕ)). kernel_in ps) (sym (parts_of_layout (seen_in m k ds) k h.fits (tables-seen m k ds e h))) ∙ back
 
-seen-laid : (m : List ℕ) (k : Kernel) (ds : List (Option Domain)) → length m ≡ 65536 → IsHeld k → IsLaidOut (seen_in m k ds)
-seen-laid m k ds e h = laid_out_from_layout (seen_in m k ds) k h.fits (tables-seen m k ds e h)
+seen-laid : (m : List ℕ) (k : Kernel) (ds : List (Option Domain)) → length m ≡ 65536 → IsHeld k → kernel_in (written k) ≡ k → IsLaidOut (seen_in m k ds)
+unfolding IsLaidOut
+seen-laid m k ds e h back =
+    ap (λ (j : Kernel). written j) (seen-kernel m k ds e h back) ∙ parts_of_layout (seen_in m k ds) k h.fits (tables-seen m k ds e h)
 
 -- a laid-out memory has the tables that are seen with its kernel
 pub tables-shown : (after m : List ℕ) (j : Kernel) (ds : List (Option Domain)) (a : ℕ) → IsMemory after → IsLaidOut after
@@ -75,9 +79,16 @@ tables-shown after m j ds a h laid e size l =
 pub held-shown : (m : List ℕ) (s : System) → Shows m s → IsHeld s.kernel
 held-shown m s w = subst (λ (k : Kernel). IsHeld k) w.kernel (held m w.memory)
 
+-- a kernel that is shown is read back: the memory that is seen has it
+pub back-shown : (m : List ℕ) (s : System) → Shows m s → IsMemory s.memory → kernel_in (written s.kernel) ≡ s.kernel
+unfolding kernel_of
+back-shown m s w h =
+    ap (λ (ps : List (List ℕ)). kernel_in ps) (parts_of_layout (seen s) s.kernel (held-shown m s w).fits (tables-seen s.memory s.kernel s.placed h.bytes (held-shown m s w)))
+    ∙ ap (λ (x : List ℕ). kernel_of x) (sym w.bytes) ∙ w.kernel
+
 pub laid-shown : (m : List ℕ) (s : System) → Shows m s → IsMemory s.memory → IsLaidOut m
 laid-shown m s w h = subst (λ (x : List ℕ). IsLaidOut x) (sym w.bytes)
-    (seen-laid s.memory s.kernel s.placed h.bytes (held-shown m s w))
+    (seen-laid s.memory s.kernel s.placed h.bytes (held-shown m s w) (back-shown m s w h))
 
 pub settled-shown : (m : List ℕ) (s : System) → Shows m s → IsMemory s.memory → IsSettledKernel s.kernel → IsSettled m
 settled-shown m s w h k = record {
@@ -99,11 +110,12 @@ pub loading-settled : LoadingSettledLaw
 loading-settled m s w h = settled-shown m s w h.code.memory h.settled
 
 -- what is seen of another system with the same kernel is shown where the kernel is
-pub shows-seen : (m : List ℕ) (s x : System) → Shows m s → IsMemory x.memory → x.kernel ≡ s.kernel → Shows (seen x) x
-shows-seen m s x w h e = record {
+pub shows-seen : (m : List ℕ) (s x : System) → Shows m s → IsMemory s.memory → IsMemory x.memory → x.kernel ≡ s.kernel → Shows (seen x) x
+shows-seen m s x w g h e = record {
   memory = seen-memory x.memory x.kernel x.placed h;
   bytes = refl;
-  kernel = seen-kernel x.memory x.kernel x.placed h.bytes (subst (λ (k : Kernel). IsHeld k) (sym e) (held-shown m s w));
+  kernel = seen-kernel x.memory x.kernel x.placed h.bytes (subst (λ (k : Kernel). IsHeld k) (sym e) (held-shown m s w))
+      (subst (λ (k : Kernel). kernel_in (written k) ≡ k) (sym e) (back-shown m s w g));
 }
 
 -- behind a call of the kernel

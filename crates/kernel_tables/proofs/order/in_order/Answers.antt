@@ -1,6 +1,6 @@
 use Rattle.std.proofs.lemmas.Bool.{iff_false}
 use Rattle.kernel_tables.proofs.OrderLemmas.{no, once_from_parts, apart_from_once}
-use Rattle.kernel_tables.proofs.QueueEdits.{distinct_front, distinct_back}
+use Rattle.kernel_model.proofs.LayoutLemmas.{distinct_front, distinct_back}
 use Rattle.kernel_tables.proofs.order.in_order.Goals as goal
 
 pub returns-then-not-distinct : goal.returns-then-not-distinct

@@ -1,24 +1,32 @@
-use Rattle.std.proofs.Common.{◌≡◌, ◌<◌, ◌≤◌, List, ℕ, length, subst, sym, ap, lit<, arith}
-use Rattle.kernel_model.specs.Kernel.{Kernel, with_ready}
+use Rattle.std.proofs.Common.{◌≡◌, ◌≤◌, subst, sym, ap, ◌∙◌, arith, slice_index}
+use Rattle.kernel_model.specs.Kernel.{with_ready}
 use Rattle.kernel_model.specs.Layout.{kernel_of}
-use Rattle.kernel_model.specs.Queues.{HasQueues}
-use Rattle.kernel_tables.proofs.QueueEdits.{GoesIn, ready_room, end_queues, end_list}
+use Rattle.kernel_model.specs.Queues.{Leaves, at_end}
+use Rattle.kernel_model.specs.Standing.{prev_in}
+use Rattle.kernel_tables.proofs.Patches.{flat_small}
+use Rattle.kernel_tables.proofs.QueueCalls.{ready_room, end_leaves}
 use Rattle.kernel_tables.proofs.queues.ready_end.Goals as goal
 
-pub insert-requires : goal.insert-requires
-insert-requires c =
-    let k : Kernel = kernel_of c.args.m.now in
-    let goes : GoesIn k c.args.t = record { number = c.requires.number; not_ready = c.requires.not_ready; not_asleep = c.requires.not_asleep } in
-    let room : length c.ready-list.result.items < 32 = ready_room k c.args.t c.ready-list.result.items c.requires.queues.lists goes c.ready-list.ensures in
-    let size : length c.as_slice.result.now ≡ length c.ready-list.result.items = ap (λ xs. length xs) c.as_slice.ensures.value in
-    let within : c.first_below-place.result ≤ length c.ready-list.result.items = omega (arith, c.first_below-place.ensures.within) in
-    (lit< tt, (within, room))
+pub link-requires-clause-links : goal.link-requires-clause-links
+link-requires-clause-links c =
+    let m = c.args.m.now in
+    let is : c.byte-last.result ≡ prev_in m c.priority-q.result 0 = c.byte-last.ensures ∙ ap (λ a. slice_index m a) c.prev_place.ensures in
+    let room : prev_in m c.priority-q.result 0 ≤ 32 = subst (λ q. prev_in m q 0 ≤ 32) (sym c.priority-q.ensures)
+    (ready_room m c.args.t c.is_flat.ensures.size (flat_small m c.is_flat.ensures.small) c.requires.queues c.requires.priority).0 in
+    (subst (λ b. b ≤ 32) (sym is) room, omega arith)
 
-pub put_ready-requires : goal.put_ready-requires
-put_ready-requires c =
-    let k : Kernel = kernel_of c.args.m.now in
-    let goes : GoesIn k c.args.t = record { number = c.requires.number; not_ready = c.requires.not_ready; not_asleep = c.requires.not_asleep } in
-    subst (λ (xs : List ℕ). HasQueues (with_ready k xs))
-    (sym (end_list k c.args.t c.priority.result c.first_below-place.result c.ready-list.result.items c.as_slice.result.now c.insert.new.self.items
-    c.ready-list.ensures c.as_slice.ensures.value c.priority.ensures c.first_below-place.ensures.value c.insert.ensures.items))
-    (end_queues k c.args.t c.requires.queues.lists goes c.requires.priority)
+pub returns-clause-leaves : goal.returns-clause-leaves
+returns-clause-leaves c =
+    let m = c.args.m.now in
+    end_leaves m c.args.t c.is_flat.ensures.size (flat_small m c.is_flat.ensures.small) c.requires.queues c.link.new.m c.priority-q.result c.byte-last.result
+    (record { number = c.requires.number; not_ready = c.requires.not_ready; not_asleep = c.requires.not_asleep }) c.requires.priority
+    c.priority-q.ensures (c.byte-last.ensures ∙ ap (λ a. slice_index m a) c.prev_place.ensures) c.link.ensures
+
+pub returns-clause-queues : goal.returns-clause-queues
+returns-clause-queues c =
+    let m = c.args.m.now in
+    let left : Leaves m c.link.new.m (with_ready (kernel_of m) (at_end (kernel_of m) c.args.t)) =
+    end_leaves m c.args.t c.is_flat.ensures.size (flat_small m c.is_flat.ensures.small) c.requires.queues c.link.new.m c.priority-q.result c.byte-last.result
+    (record { number = c.requires.number; not_ready = c.requires.not_ready; not_asleep = c.requires.not_asleep }) c.requires.priority
+    c.priority-q.ensures (c.byte-last.ensures ∙ ap (λ a. slice_index m a) c.prev_place.ensures) c.link.ensures in
+    left.queues c.requires.queues

@@ -1,16 +1,21 @@
-use Rattle.std.proofs.Common.{List, ℕ, Contains, subst, sym, ap, ◌∙◌}
-use Rattle.kernel_model.specs.Kernel.{Kernel, with_sleepers}
+use Rattle.kernel_model.specs.Kernel.{with_sleepers}
 use Rattle.kernel_model.specs.Layout.{kernel_of}
-use Rattle.kernel_model.specs.Queues.{HasQueues, without}
-use Rattle.kernel_tables.proofs.QueueEdits.{wake_queues}
+use Rattle.kernel_model.specs.Queues.{Leaves, without}
+use Rattle.kernel_tables.proofs.Patches.{flat_small}
+use Rattle.kernel_tables.proofs.QueueCalls.{wake_room, wake_leaves}
 use Rattle.kernel_tables.proofs.queues.sleep_take.Goals as goal
 
-pub take_out-requires : goal.take_out-requires
-take_out-requires c = subst (λ (xs : List ℕ). Contains xs c.args.t) (sym c.sleepers-list.ensures) c.requires.there
+pub unlink-requires-clause-links : goal.unlink-requires-clause-links
+unlink-requires-clause-links c = let m = c.args.m.now in wake_room m c.args.t c.is_flat.ensures.size (flat_small m c.is_flat.ensures.small) c.requires.queues c.requires.there
 
-pub put_sleepers-requires : goal.put_sleepers-requires
-put_sleepers-requires c =
-    let k : Kernel = kernel_of c.args.m.now in
-    subst (λ (xs : List ℕ). HasQueues (with_sleepers k xs))
-    (sym (c.take_out.ensures ∙ ap (λ xs. without xs c.args.t) c.sleepers-list.ensures))
-    (wake_queues k c.args.t c.requires.queues.lists c.requires.there)
+pub returns-clause-leaves : goal.returns-clause-leaves
+returns-clause-leaves c =
+    let m = c.args.m.now in
+    wake_leaves m c.args.t c.is_flat.ensures.size (flat_small m c.is_flat.ensures.small) c.requires.queues c.unlink.new.m c.requires.there c.unlink.ensures
+
+pub returns-clause-queues : goal.returns-clause-queues
+returns-clause-queues c =
+    let m = c.args.m.now in
+    let left : Leaves m c.unlink.new.m (with_sleepers (kernel_of m) (without (kernel_of m).sleepers c.args.t)) =
+    wake_leaves m c.args.t c.is_flat.ensures.size (flat_small m c.is_flat.ensures.small) c.requires.queues c.unlink.new.m c.requires.there c.unlink.ensures in
+    left.queues c.requires.queues

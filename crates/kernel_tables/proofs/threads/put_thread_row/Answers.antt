@@ -10,7 +10,7 @@ pub returns-clause-put : goal.returns-clause-put
 unfolding thread_bytes
 returns-clause-put c =
     let row = c.args.row.now in
-    let others : List ℕ = row.state ∷ row.priority ∷ row.wake_low ∷ row.wake_high ∷ row.object ∷ row.mutex ∷ 0 ∷ 0 ∷ [] in
+    let others : List ℕ = row.state ∷ row.priority ∷ row.wake_low ∷ row.wake_high ∷ row.object ∷ row.mutex ∷ [] in
     let size : length (bytes_of row.regs) ≡ 2 * length row.regs = length-bytes_of row.regs in
     let regs : length row.regs ≡ 16 = omega arith in
     put_two c.args.m.now c.put_words.new.m c.put_words-2.new.m (bytes_of row.regs) (bytes_of others) c.args.at (c.args.at + 32)
