@@ -6,6 +6,7 @@ use Rattle.std.proofs.lemmas.List.Elements.{All-append, All-take, All-drop, All-
 use Rattle.std.proofs.lemmas.List.Quantifiers.{all_pairs_remove}
 use Rattle.std.proofs.lemmas.List.Sums.{fails_before_first, passes_at_first, prefix_len_passes, prefix_len_stops, prefix_len-le-length}
 use Rattle.std.proofs.lemmas.Bool.{cases_eq, cases_lt, leb-true, leb-false, ltb-true, ltb-false, eq-eqb, both_ways}
+use Rattle.kernel_model.proofs.OrderlyLemmas.{distinct_below}
 use Rattle.kernel_model.specs.Kernel.{Kernel, with_ready, with_sleepers}
 use Rattle.kernel_model.specs.Words.{priority_of, wake_time}
 use Rattle.kernel_model.specs.Queues.{AreQueues, HasQueues, priority_in, wake_time_in, at_front, at_end, among_sleepers, without}
@@ -60,6 +61,16 @@ all_remove P xs i h = All-append P (take i xs) (drop (suc i) xs) (All-take P i x
 -- what isn't in a list is none of its members
 not_member : (xs : List ℕ) (t : ℕ) → (Contains xs t → ⊥) → (k d : ℕ) → k < length xs → get_or xs k d ≢ t
 not_member xs t none k d h e = none (subst (λ (x : ℕ). Contains xs x) e (Contains-get_or xs k d h))
+
+-- ---- room
+
+-- a list of distinct identities that lacks one has room
+pub room_for : (xs : List ℕ) (t : ℕ) → AllPairs (λ x y. x ≢ y) xs → All (λ x. x < 32) xs → t < 32 → (Contains xs t → ⊥) → length xs < 32
+room_for xs t h below l none =
+    let more : AllPairs (λ x y. x ≢ y) (t ∷ xs) =
+    all_pairs_insert (λ x y. x ≢ y) xs 0 t (omega arith) h (λ k d less. absurd (omega arith)) (λ k d on in' e. not_member xs t none k d in' (sym e)) in
+    let all : length (t ∷ xs) ≤ 32 = distinct_below (t ∷ xs) 32 more (All-cons (λ x. x < 32) t xs l below) in
+    omega arith
 
 -- ---- put into the lists
 

@@ -6,7 +6,7 @@ use Rattle.kernel_model.specs.Kernel.{Kernel, with_ready}
 use Rattle.kernel_model.specs.Words.{running_state, with_running, with_state}
 use Rattle.kernel_model.specs.Queues.{HasQueues, Leaves, without}
 use Rattle.kernel_model.specs.Layout.{kernel_of}
-use Rattle.kernel_tables.proofs.QueueEdits.{distinct_front}
+use Rattle.kernel_model.proofs.LayoutLemmas.{distinct_front}
 use Rattle.kernel_model.specs.Dispatching.{chosen_place, chosen_thread, dispatched, nothing_ready}
 
 -- among distinct members the one at a place is taken out there
