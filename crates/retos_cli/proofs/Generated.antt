@@ -43,8 +43,8 @@ units_alone os o q u e h = ap (λ (x : Loadable). x.units) (alone_is os o (recor
 
 -- ---- the run
 
-pub has_run : {o0 o1 : SinkState} (old new : Node) (os : List Loadable) (t : Script) (end : End) → Boots (parts old) os (booted os) → t ≡ empty_script → RunsTo old new os generated_steps t o0 o1 end → HasRun os end
-has_run {o0} {o1} old new os t end b e r =
+pub has_run : (o0 o1 : SinkState) (old new : Node) (os : List Loadable) (t : Script) (end : End) → Boots (parts old) os (booted os) → t ≡ empty_script → RunsTo old new os generated_steps t o0 o1 end → HasRun os end
+has_run o0 o1 old new os t end b e r =
     let k : IsBooted (parts old) os (booted os) = booted_by (parts old) os (booted os) b in
     let P : Script → Type 0 = λ u. RunsTo old new os generated_steps u o0 o1 end in
     record { system = k.system; boots = k.boots; ends = (subst P e r k.system k.represents k.sound).0 }
