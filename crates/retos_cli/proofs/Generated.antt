@@ -8,12 +8,12 @@ use Rattle.load_model.specs.Loading.{Loadable}
 use Rattle.trace_model.specs.declared.scripts.Script.{Script}
 use Rattle.trace_model.specs.Grammar.{empty_script}
 use Rattle.node_model.specs.Systems.{System}
-use Rattle.node_model.specs.Runs.{faults}
+use Rattle.node_model.specs.Runs.{run, faults}
 use Rattle.node_model.specs.Booting.{booted}
-use Rattle.node_model.specs.Nodes.{Boots, end_line}
-use Rattle.retos_node.specs.declared.node.Node.{Node}
+use Rattle.node_model.specs.Sound.{IsSound}
+use Rattle.node_model.specs.Nodes.{Parts, Represents, Boots, end_line}
 use Rattle.retos_node.specs.declared.node.End.{End}
-use Rattle.retos_node.specs.Parts.{parts, RunsTo}
+use Rattle.retos_node.specs.Parts.{IsRunEnd}
 use Rattle.retos_cli.specs.declared.command.Command.TheVariants.{Gen}
 use Rattle.retos_cli.specs.declared.generating.Made.{Made}
 use Rattle.retos_cli.specs.declared.outcome.Outcome.TheVariants.{Done, WriteFault}
@@ -43,11 +43,12 @@ units_alone os o q u e h = ap (λ (x : Loadable). x.units) (alone_is os o (recor
 
 -- ---- the run
 
-pub has_run : (o0 o1 : SinkState) (old new : Node) (os : List Loadable) (t : Script) (end : End) → Boots (parts old) os (booted os) → t ≡ empty_script → RunsTo old new os generated_steps t o0 o1 end → HasRun os end
-has_run o0 o1 old new os t end b e r =
-    let k : IsBooted (parts old) os (booted os) = booted_by (parts old) os (booted os) b in
-    let P : Script → Type 0 = λ u. RunsTo old new os generated_steps u o0 o1 end in
-    record { system = k.system; boots = k.boots; ends = (subst P e r k.system k.represents k.sound).0 }
+pub has_run : (n : Parts) (os : List Loadable) (t : Script) (end : End) → Boots n os (booted os) → t ≡ empty_script
+    → ((s : System) → Represents n os s → IsSound s → IsRunEnd t (run generated_steps t s) end) → HasRun os end
+has_run n os t end b e r =
+    let k : IsBooted n os (booted os) = booted_by n os (booted os) b in
+    let P : Script → Type 0 = λ u. IsRunEnd u (run generated_steps u k.system) end in
+    record { system = k.system; boots = k.boots; ends = subst P e (r k.system k.represents k.sound) }
 
 -- ---- the output
 
