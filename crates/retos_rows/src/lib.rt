@@ -2,7 +2,8 @@
 //!
 //! Nothing but tests stands here. They call `retos` (`retos_cli`) alone, so that crate isn't proved a second time for them.
 //! `command_rows` has words, refusals and failing devices, `check_rows`, `solo_rows`, `run_rows`, `asm_rows` and `insert_rows` a
-//! command each, `system_rows` the system's own files, `code_rows` the codes that calls of the kernel give. What they leave comes
+//! command each, `system_rows` the system's own files. The others have runs of nodes: `code_rows` the codes of calls, `jump_rows`
+//! addresses that are jumped to, `line_rows` interrupts and picks, `clock_rows` a node of two applications. What they leave comes
 //! from outside of the program.
 #![tactic(auto)]
 
@@ -11,11 +12,17 @@ mod asm_rows;
 #[cfg(test)]
 mod check_rows;
 #[cfg(test)]
+mod clock_rows;
+#[cfg(test)]
 mod code_rows;
 #[cfg(test)]
 mod command_rows;
 #[cfg(test)]
 mod insert_rows;
+#[cfg(test)]
+mod jump_rows;
+#[cfg(test)]
+mod line_rows;
 #[cfg(test)]
 mod run_rows;
 #[cfg(test)]
