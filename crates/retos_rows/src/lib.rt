@@ -2,9 +2,9 @@
 //!
 //! Nothing but tests stands here. They call `retos` (`retos_cli`) alone, so that crate isn't proved a second time for them.
 //! `command_rows` has words, refusals and failing devices, `check_rows`, `solo_rows`, `run_rows`, `asm_rows` and `insert_rows` a
-//! command each, `system_rows` the system's own files. The others have runs of nodes: `code_rows` the codes of calls, `jump_rows`
-//! addresses that are jumped to, `line_rows` interrupts and picks, `clock_rows` a node of two applications. What they leave comes
-//! from outside of the program.
+//! command each, `system_rows` the system's own files. The others have runs of nodes: `thread_rows` who runs next, `code_rows` the
+//! codes of calls, `jump_rows` addresses that are jumped to, `line_rows` interrupts and picks, `lock_rows` mutexes and conditions,
+//! `module_rows` modules, `clock_rows` a node of two applications. What they leave comes from outside of the program.
 #![tactic(auto)]
 
 #[cfg(test)]
@@ -24,6 +24,10 @@ mod jump_rows;
 #[cfg(test)]
 mod line_rows;
 #[cfg(test)]
+mod lock_rows;
+#[cfg(test)]
+mod module_rows;
+#[cfg(test)]
 mod run_rows;
 #[cfg(test)]
 mod solo_rows;
@@ -33,3 +37,5 @@ mod system_rows;
 mod test_nodes;
 #[cfg(test)]
 mod test_support;
+#[cfg(test)]
+mod thread_rows;
