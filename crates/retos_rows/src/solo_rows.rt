@@ -1,6 +1,8 @@
 //! Worked rows of `solo`: the guards at work, what an application reads, its steps one by one, and what is refused.
 
-use crate::test_support::{Case, CodeReloc, add, all_files, application, folder, try_case};
+use crate::test_support::{
+    Case, CodeReloc, add, all_files, application, folder, try_case, try_pieces,
+};
 use edge_io::lists::Bytes;
 use std::alloc::Global;
 use std::process::Abort;
@@ -323,4 +325,31 @@ fn each_step_of_a_self_jump_is_shown(rt: HostRuntime) -> Result<(), Fail> {
     let out = "a0 6000 6002 2000 2010\n1 a0.t0 6000 3FFF\n2 a0.t0 6000 3FFF\n3 a0.t0 6000 3FFF\n\
 end limit 3 emits 0 faults 0\n";
     try_solo(&rt, rt.alloc(), &text, "solo --all x.o 3", out, 0)
+}
+
+/// A store at the region's upper end less one: an odd address, of which the word's even one is written.
+#[test]
+fn the_written_bytes_are_shown(rt: HostRuntime) -> Result<(), Fail> {
+    let code = [
+        0x4036, 0xFFFF, 0x4205, 0x4604, 0x5034, 0, 0x9034, 0, 0x2803, 0x9034, 0, 0x2802, 0x4030,
+        0xF000, 0x4502, 0x4384, 0, 0x3FFF,
+    ];
+    let relocs: [CodeReloc; 3] = [(HI, 0x0002), (LO, 0x000E), (HI, 0x0014)];
+    let text = application(rt.alloc(), &code, &relocs)?;
+    let mut files = folder(rt.alloc(), &[])?;
+    add(&mut files, b"s.o", text.as_slice())?;
+    let end = "10 a0.t0 601E 4384 200E:00 200F:00\n11 a0.t0 6022 3FFF\n12 a0.t0 6022 3FFF\n\
+end limit 12 emits 0 faults 0\n";
+    try_pieces(&rt, rt.alloc(), &mut files, "solo --all s.o 12", &[end], 0)
+}
+
+#[test]
+fn an_entry_that_prints_has_one_line(rt: HostRuntime) -> Result<(), Fail> {
+    let mut files = all_files(rt.alloc(), &[])?;
+    let pieces = [
+        "\n6 a0.t0 6012 12B0 200E:16 200F:60\n7 a0.t0 emit 0005\n8 a0.t0 6016 4205\n",
+        "\n13 a0.t0 exit last\nend quiet 13 emits 1 faults 0\n",
+    ];
+    let line = "solo --all e.o 100";
+    try_pieces(&rt, rt.alloc(), &mut files, line, &pieces, 0)
 }

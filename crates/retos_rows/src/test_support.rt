@@ -145,6 +145,96 @@ pub fn do_words(
     retos(alloc, words, files, out, err)
 }
 
+/// What words left on out and on err, and their status.
+#[derive(Drop)]
+pub struct Left {
+    pub out: MemSink,
+    pub err: MemSink,
+    pub status: Status,
+}
+
+/// Does what a line of words says, where out has room for so many bytes.
+pub fn leave(alloc: Global, files: &mut MemFolder, line: &str, room: u32) -> Result<Left, Fail>
+    requires { files.old.created ≡ None }
+{
+    let words = words_of(alloc, line)?;
+    let mut out = MemSink::new(alloc, room, Calls::new(alloc), Calls::new(alloc))?;
+    let mut err = sink(alloc, &[])?;
+    let status = do_words(alloc, &words, files, &mut out, &mut err);
+    Ok(Left { out, err, status })
+}
+
+/// Whether a piece stands somewhere in bytes.
+fn has(bytes: &[u8], piece: &[u8]) -> bool {
+    for at in 0..bytes.len() {
+        if bytes[at..].starts_with(piece) {
+            return true;
+        }
+    }
+    false
+}
+
+/// Tells which of these pieces doesn't stand in bytes.
+fn find_pieces(rt: &impl Abort, bytes: &[u8], pieces: &[&str], line: &str) {
+    for piece in pieces {
+        assert!(rt; has(bytes, piece.as_bytes()), "{piece} in {line}");
+    }
+}
+
+/// Does what words say, and tells where out lacks one of these pieces, something stands on err, or the status is another.
+pub fn try_pieces(
+    rt: &impl Abort,
+    alloc: Global,
+    files: &mut MemFolder,
+    line: &str,
+    pieces: &[&str],
+    status: u8,
+) -> Result<(), Fail>
+    requires { files.old.created ≡ None }
+{
+    let left = leave(alloc, files, line, 1_000_000)?;
+    assert_eq!(rt; left.err.bytes(), b"".as_slice(), "err of {line}");
+    assert_eq!(rt; left.status.number(), status, "status of {line}");
+    find_pieces(rt, left.out.bytes(), pieces, line);
+    Ok(())
+}
+
+/// What a folder holds under a name.
+pub fn held_bytes(alloc: Global, files: &MemFolder, name: &[u8]) -> Result<Bytes, Fail> {
+    let name = Name::from_slice(name).ok_or("a name")?;
+    match files.held(&name) {
+        Some(held) => Ok(Bytes::from_slice(alloc, held)?),
+        None => Err(Fail::from("a file")),
+    }
+}
+
+/// A folder of one file, with room for 2,000 bytes of another.
+fn one_file(alloc: Global, name: &[u8], whole: &[u8]) -> Result<MemFolder, Fail>
+    ensures { IfOk result (λ files. files.created ≡ None) }
+{
+    let none = Failing {
+        reads: &[],
+        writes: &[],
+        out: &[],
+    };
+    let mut files = writable(alloc, 2000, &none)?;
+    add(&mut files, name, whole)?;
+    Ok(files)
+}
+
+/// What a command leaves in `y.o`, which has `x` as its input.
+fn made(alloc: Global, line: &str, input: &[u8]) -> Result<Bytes, Fail> {
+    let mut files = one_file(alloc, b"x", input)?;
+    let _ = leave(alloc, &mut files, line, 1000)?;
+    held_bytes(alloc, &files, b"y.o")
+}
+
+/// The object of a source text with its guards.
+pub fn guarded(alloc: Global, source: &[u8]) -> Result<Bytes, Fail> {
+    let plain = made(alloc, "asm x y.o", source)?;
+    made(alloc, "insert x y.o", plain.as_slice())
+}
+
 /// Does what a case's words say, and tells where it comes to something else.
 pub fn try_case(
     rt: &impl Abort,
