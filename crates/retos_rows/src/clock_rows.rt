@@ -23,7 +23,7 @@ const NODE_LINES: &str =
 109 a0.t0 emit 0001\n239 a0.t0 emit 0000\n259 a1.t1 emit 0000\n";
 
 /// The node's sources.
-const SOURCES: [Source; 2] = [
+pub const SOURCES: [Source; 2] = [
     Source {
         name: b"blink.o",
         text: BLINKS,

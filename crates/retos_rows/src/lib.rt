@@ -5,7 +5,7 @@
 //! `gen_rows` a command each, `tail_rows` the option `--tail`, `attack_rows` programs that leave their stack, `system_rows` the
 //! system's own files. The others have runs of nodes: `thread_rows` who runs next, `code_rows` the codes of calls, `jump_rows`
 //! addresses that are jumped to, `line_rows` interrupts and picks, `lock_rows` mutexes and conditions, `module_rows` modules,
-//! `clock_rows` a node of two applications. What they leave comes from outside of the program.
+//! `clock_rows` a node of two applications; `damage_rows` damaged objects and failing devices. What they leave comes from outside of the program.
 #![tactic(auto)]
 
 #[cfg(test)]
@@ -20,6 +20,8 @@ mod clock_rows;
 mod code_rows;
 #[cfg(test)]
 mod command_rows;
+#[cfg(test)]
+mod damage_rows;
 #[cfg(test)]
 mod gen_rows;
 #[cfg(test)]
