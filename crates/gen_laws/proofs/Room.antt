@@ -67,6 +67,7 @@ code_place c h = by (c == 0)
   where
     fits : nat_le c 32768 ≡ true
     fits = search rules
+
     by : (b : Bool)
         → (if b then Ok 0x6000 else (if nat_le c (longest (gaps (pool_range Code) [])) then Ok (lowest 0xE000 c (gaps (pool_range Code) [])) else Err (longest (gaps (pool_range Code) [])))) ≡ Ok 0x6000
     by true = refl
@@ -78,6 +79,7 @@ region_place r h = by (r == 0)
   where
     fits : nat_le r 16384 ≡ true
     fits = search rules
+
     by : (b : Bool)
         → (if b then Ok 0x2000 else (if nat_le r (longest (gaps (pool_range Data) [])) then Ok (lowest 0x6000 r (gaps (pool_range Data) [])) else Err (longest (gaps (pool_range Data) [])))) ≡ Ok 0x2000
     by true = refl

@@ -10,7 +10,8 @@ use std::process::Abort;
 use std::test::Fail;
 
 /// What `gen 1` prints.
-const ONE: &str = "gen 1: source 912 words, inserted 3014 words, units 790\nend limit 100000 emits 2710 faults 0\n";
+const ONE: &str =
+    "gen 1: source 912 words, inserted 3014 words, units 790\nend limit 100000 emits 2710 faults 0\n";
 
 /// Room for the text of each generated object.
 const ROOM: u32 = 20_000;
