@@ -4,7 +4,8 @@
 mod words;
 
 use edge_io::standard::{StdFolder, StdSink};
-use retos_cli::outcome::Status;
+use retos_cli::outcome::{Outcome, Stop};
+use retos_cli::report::report;
 use retos_cli::top::retos;
 use std::fs::File;
 use std::process::ExitCode;
@@ -21,7 +22,10 @@ fn main(rt: HostRuntime) -> ExitCode {
             let mut err = StdSink::new(rt.stderr());
             retos(rt.alloc(), &words, &mut files, &mut out, &mut err)
         }
-        Err(_) => Status::NoMemory,
+        Err(_) => {
+            let mut err = StdSink::new(rt.stderr());
+            report(&Outcome::Stopped(Stop::NoMemory), &mut err)
+        }
     };
     ExitCode::from(status.number())
 }
