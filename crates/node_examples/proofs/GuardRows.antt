@@ -101,7 +101,7 @@ pub keeps_the_tail : KeepsTheTail
 unfolding all_handed_over woken raised_at pick_at is_quiet run case_of fetched step accepted is_unit_address mark_bytes
     seen_in bytes_in first_memory empty_system places_of loaded booted all_owned system_of trace_text shown_texts ticked
     woken_line threads_ended waits_ended ended exited app_bytes app_read module_bytes module_read function_bytes
-    function_read thread_bytes thread_read mutex_bytes mutex_read layout table_bytes outside tables kernel_in kernel_of
+    function_read thread_bytes linked_bytes linked_read queue_ends thread_read mutex_bytes mutex_read layout table_bytes outside tables kernel_in kernel_of
     empty part filled rows free_from gaps longest lowest added placed_word placed_words code_image placed_byte region_image
     read_two read_one read_jump read_instr reading set_reg logical decimal_byte decimal alu alu_one two change push call one
     reti jump does with_flags source_value after_source place_to value_in place_of put_context put_pairs word_at patch
