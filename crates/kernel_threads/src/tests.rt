@@ -418,6 +418,17 @@ fn members<const N: usize>(some: &[u8]) -> ArrayVec<u8, N> {
     list
 }
 
+/// Writes two bytes, one behind the other.
+fn put_pair(m: &mut FlatMem, at: u16, pair: [u8; 2]) {
+    m.set_byte(at, pair[0]);
+    m.set_byte(at.wrapping_add(1), pair[1]);
+}
+
+/// The two bytes at an address and behind it.
+fn pair_at(m: &FlatMem, at: u16) -> [u8; 2] {
+    [m.byte(at), m.byte(at.wrapping_add(1))]
+}
+
 #[test]
 fn lists_lose_the_threads_of_one_application_alone(rt: HostRuntime) -> Result<(), Fail> {
     let mut m = FlatMem::new(rt.alloc())?;
@@ -437,7 +448,7 @@ fn lists_lose_the_threads_of_one_application_alone(rt: HostRuntime) -> Result<()
         (0x05FC, [0, 8]),
     ];
     for (at, pair) in links {
-        m.copy_in(at, &pair);
+        put_pair(&mut m, at, pair);
     }
     // lines 0, 3 and 13
     m.copy_in(0x0BA0, &[4]);
@@ -462,7 +473,7 @@ fn lists_lose_the_threads_of_one_application_alone(rt: HostRuntime) -> Result<()
         (0x05FC, [0, 2]),
     ];
     for (at, pair) in links {
-        assert_eq!(rt; [m.byte(at), m.byte(at + 1)], pair, "{at:#x}");
+        assert_eq!(rt; pair_at(&m, at), pair, "{at:#x}");
     }
     let bytes: [(u16, [u8; 5]); 3] = [
         (0x0BA0, [NO; 5]),
