@@ -137,6 +137,7 @@ impl Node {
     }
 
     /// One step: the lines of a mask are raised before it, and a dispatch in it takes this pick.
+    #[inline(always)]
     pub fn step(&mut self, raised: u16, pick: Option<u32>, objects: &ObjectList) -> Record
         requires few { (self.old).steps < most_steps }
         requires sound { IsSoundNode (parts self.old) objects.now }

@@ -95,6 +95,7 @@ fn print_owned<S: Sink>(
 
 /// Prints a record's line, if it is shown, and counts the record. Before a fault's line stand those of the last instructions, if
 /// they are shown.
+#[inline(always)]
 pub(crate) fn tell<S: Sink>(
     show: Show,
     tail: &Tail,

@@ -29,6 +29,7 @@ const LIVE: u16 = 1;
 const APPS: u8 = 8;
 
 /// Whether a run is at its quiet end, after so many steps.
+#[inline(always)]
 pub(crate) fn is_quiet(
     m: &FlatMem,
     r: &Regs,

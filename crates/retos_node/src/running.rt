@@ -128,6 +128,7 @@ pub(crate) fn run_steps<S: Sink>(
 }
 
 /// One step, with its line if it is shown.
+#[inline(always)]
 fn turn<S: Sink>(
     node: &mut Node,
     script: &Script,
@@ -162,6 +163,7 @@ fn turn<S: Sink>(
 
 impl Node {
     /// Whether the run is at its quiet end.
+    #[inline(always)]
     fn is_quiet(&self, script: &Script, schedule: &Schedule, objects: &ObjectList) -> bool
         requires ready { IsReady script.now (self.now).steps schedule.now }
         requires sound { IsSoundNode (parts self.now) objects.now }

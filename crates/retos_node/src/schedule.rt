@@ -73,6 +73,7 @@ impl Schedule {
     }
 
     /// What the script gives for the step behind so many.
+    #[inline(always)]
     pub fn next(&mut self, script: &Script, made: u32) -> Stimulus
         requires few { made < most_steps }
         requires script { IsScript script.now }
@@ -102,6 +103,7 @@ impl Schedule {
     }
 
     /// The pick that is drawn for the next step, if there is a `mix` line.
+    #[inline(always)]
     fn draw_next(&mut self, mix: Option<u32>) -> Option<u32>
         ensures drawn { (s : ℕ) → IsDrawn mix s (self.old).draw → IsDrawn mix (s + 1) (self.new).draw × (result ≡ mix_pick mix (s + 1)) }
         ensures same { ((self.new).place ≡ (self.old).place) × ((self.new).due ≡ (self.old).due) }

@@ -78,6 +78,7 @@ const LAST_ROUTINE: u16 = 0xF09A;
 const MOST_INSTRUCTIONS: u16 = 4096;
 
 /// One step, with this number: the lines of a mask are raised before it, and a dispatch in it takes this pick.
+#[inline(always)]
 pub fn step(m: &mut FlatMem, r: &mut Regs, raised: u16, moment: Moment) -> Record
     requires stands { StandsForOne m.old r.old moment.step }
     ensures { GivesRaised m.old m.new r.old r.new raised moment result }
@@ -90,6 +91,7 @@ pub fn step(m: &mut FlatMem, r: &mut Regs, raised: u16, moment: Moment) -> Recor
 // ---- lines
 
 /// Raises the lines of a mask. Where there is none, nothing is read or written.
+#[inline(always)]
 fn raise_lines(m: &mut FlatMem, raised: u16)
     ensures { (s : System) → Shows m.old s → IsSound s → Shows m.new (with_raised s raised) }
 {
@@ -100,6 +102,7 @@ fn raise_lines(m: &mut FlatMem, raised: u16)
 }
 
 /// Makes each line of a mask pending.
+#[inline(never)]
 fn raise(m: &mut FlatMem, mask: u16)
     ensures left { Leaves m.old m.new (with_pending (kernel_of m.old) mask) }
     ensures memory { IsMemory m.new }
@@ -110,6 +113,7 @@ fn raise(m: &mut FlatMem, mask: u16)
 }
 
 /// The highest pending line, if SR lets interrupts be accepted.
+#[inline(always)]
 fn line_to_accept(m: &FlatMem, r: &Regs) -> Option<u8>
     ensures value { result ≡ line_to_accept (kernel_of m.now) r.now }
     ensures line { IfSome result (λ n. n < LINES) }
@@ -127,6 +131,7 @@ fn line_to_accept(m: &FlatMem, r: &Regs) -> Option<u8>
 // ---- the cases
 
 /// The first case that applies.
+#[inline(always)]
 fn by_case(m: &mut FlatMem, r: &mut Regs, moment: Moment) -> Record
     requires stands { StandsForOne m.old r.old moment.step }
     ensures { Gives m.old m.new r.old r.new moment result }
@@ -152,6 +157,7 @@ fn memory_is_ready(m: &FlatMem, r: &Regs, moment: Moment)
 }
 
 /// An interrupt of a line is accepted, which isn't pending any more.
+#[inline(never)]
 fn acceptance(m: &mut FlatMem, r: &mut Regs, line: u8, moment: Moment) -> Record
     requires line { line < LINES }
     requires pending { 2 ^ line ≤ pending (kernel_of m.old) }
@@ -177,6 +183,7 @@ fn acceptance(m: &mut FlatMem, r: &mut Regs, line: u8, moment: Moment) -> Record
 }
 
 /// The case at an address of the kernel.
+#[inline(never)]
 fn in_kernel(m: &mut FlatMem, r: &mut Regs, moment: Moment) -> Record
     requires above { FIRST_ENTRY ≤ reg r.old 0 }
     requires stands { StandsForOne m.old r.old moment.step }
@@ -271,6 +278,7 @@ fn serve(m: &mut FlatMem, r: &mut Regs, line: u8, moment: Moment) -> Record
 // ---- in code
 
 /// An instruction, or the end of a module whose budget is spent.
+#[inline(always)]
 fn in_code(m: &mut FlatMem, r: &mut Regs, moment: Moment) -> Record
     requires stands { StandsForOne m.old r.old moment.step }
     requires case { case_of (kernel_of m.old) r.old ≡ case_in_code (kernel_of m.old) }
@@ -286,6 +294,7 @@ fn in_code(m: &mut FlatMem, r: &mut Regs, moment: Moment) -> Record
 }
 
 /// A module's instruction, or its end where it ran as many as it may.
+#[inline(never)]
 fn in_module(m: &mut FlatMem, r: &mut Regs, who: Who, moment: Moment) -> Record
     requires stands { StandsForOne m.old r.old moment.step }
     requires case { case_of (kernel_of m.old) r.old ≡ case_in_code (kernel_of m.old) }
@@ -348,6 +357,7 @@ fn counted_instruction(
 }
 
 /// An instruction of an application.
+#[inline(always)]
 fn instruction(m: &mut FlatMem, r: &mut Regs, who: Who, moment: Moment) -> Record
     requires case { case_of (kernel_of m.old) r.old ≡ Runs }
     requires who { who ≡ who_runs (kernel_of m.old) }

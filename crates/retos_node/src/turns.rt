@@ -67,6 +67,7 @@ pub fn thread_runs(m: &FlatMem)
 }
 
 /// Who runs.
+#[inline(always)]
 pub fn who_runs(m: &FlatMem) -> Who
     requires { IsSettled m.now }
     ensures { result ≡ who_runs (kernel_of m.now) }
