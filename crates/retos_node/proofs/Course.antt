@@ -5,6 +5,7 @@ use Rattle.std.proofs.lemmas.List.{append-nil}
 use Rattle.std.proofs.lemmas.List.Folds.{concat-append}
 use Rattle.std.proofs.lemmas.List.Elements.{filter-append}
 use Rattle.trace_model.specs.declared.records.Record.{Record}
+use Rattle.trace_model.specs.declared.records.Who.{Who}
 use Rattle.trace_model.specs.declared.scripts.Script.{Script}
 use Rattle.trace_model.specs.Texts.{is_emit, is_fault, is_instr, last_instrs, shown_text, shown_after, shown_texts, tail_line, tail_text, record_text, is_always_shown}
 use Rattle.trace_model.specs.declared.records.Record.TheVariants as record_of
@@ -374,3 +375,7 @@ not_true false h = refl
 pub not_false : (b : Bool) → not b ≡ false → b ≡ true
 not_false true h = refl
 not_false false h = cc
+
+-- an instruction's record isn't counted
+pub uncounted : (c : Counts) (step : ℕ) (w : Who) (pc word : ℕ) (writes : List (ℕ × ℕ)) → AreCounted c c (record_of.Instr step w pc word writes)
+uncounted c step w pc word writes = record { emits = omega arith; faults = omega arith }

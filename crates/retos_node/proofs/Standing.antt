@@ -31,7 +31,7 @@ use Rattle.node_model.specs.Confined.{IsConfined, IsJustAccepted, IsPushed}
 use Rattle.node_model.specs.Laws.{StepLaw, FetchedLaw, RowlessLaw, RaisedLaw}
 use Rattle.node_model.specs.Nodes.{Parts, Represents, Stepped, most_steps}
 use Rattle.load_model.specs.Loading.{Loadable}
-use Rattle.node_model.specs.Code.{StandsLaw, ShownLaw, Shows, SettledLaw, KnownLaw, OwnMarkLaw, GivesNext, TurnStandsLaw, IsWritten, InstructionStandsLaw, DoneWritesLaw, AcceptanceStandsLaw, AcceptedWritesLaw}
+use Rattle.node_model.specs.Code.{StandsLaw, ShownLaw, Shows, SettledLaw, KnownLaw, OwnMarkLaw, NoneRaisedLaw, GivesNext, TurnStandsLaw, IsWritten, InstructionStandsLaw, DoneWritesLaw, AcceptanceStandsLaw, AcceptedWritesLaw}
 use Rattle.node_laws.proofs.Stepping.{domain-runs}
 use Rattle.node_laws.proofs.Within.{domain-module}
 use Rattle.node_laws.proofs.Idling.{idle-is}
@@ -349,6 +349,12 @@ node_stands shown n os s r h few = record {
   number = ap (λ (x : ℕ). x + 1) r.steps;
   made = subst (λ (x : ℕ). x < most_steps) r.steps few;
 }
+
+-- where no line is raised, the next system is that of the system itself
+pub unraised : NoneRaisedLaw → (s : System) (raised : ℕ) (pick : Option ℕ) (m r : List ℕ) (shown : Record) → raised ≡ 0
+    → GivesNext m r shown (step_of s pick) → GivesNext m r shown (step_of (with_raised s raised) pick)
+unraised law s raised pick m r shown e h =
+    subst (λ (x : System). GivesNext m r shown (step_of x pick)) (sym (law s) ∙ ap (λ (n : ℕ). with_raised s n) (sym e)) h
 
 pub stepped : StandsLaw → (old new : Parts) (os : List Loadable) (s : System) (raised : ℕ) (pick : Option ℕ) (shown : Record)
     → Represents old os s → IsSound s → old.steps < most_steps → new.steps ≡ old.steps + 1 → new.owner ≡ old.owner
