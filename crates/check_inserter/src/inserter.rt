@@ -2,13 +2,14 @@
 
 ghost use Rattle.std.specs.Prelude.{Result, MatchResult, IfOk};
 ghost use Rattle.code_model.specs.declared.verdict.Verdict.{Verdict};
-ghost use Rattle.code_model.specs.Verdicts.{IsAcceptance, IsVerdict};
+ghost use Rattle.code_model.specs.Verdicts.{AllSpelled, IsAcceptance, IsVerdict};
 ghost use Rattle.code_model.specs.declared.object.Object.{Object};
 ghost use Rattle.insert_model.specs.declared.fault.InsertFault.{InsertFault};
 ghost use Rattle.insert_model.specs.Faults.{NoHit, IsAnswer, SameAnswer};
 ghost use Rattle.code_model.specs.Fields.{fields};
 ghost use Rattle.insert_model.specs.Source.{lines};
-ghost use Rattle.insert_laws.specs.Laws.{IsAcceptable};
+ghost use Rattle.insert_laws.specs.Laws.{IsAcceptable, PiecesStand};
+ghost use Rattle.insert_laws.specs.Lines.{LinesStand};
 ghost use Rattle.placed_unit_laws.specs.Ends.{UnitsEnd, CallsPush, UnitsStand, SourcesHide};
 ghost use Rattle.check_inserter.specs.Read.{IsSource};
 ghost use Rattle.check_inserter.specs.Places.{IsLaid};
@@ -20,7 +21,7 @@ use crate::source::read_lines;
 use crate::starts::starts;
 use code_laws::one_verdict;
 use code_model::object::Object;
-use insert_laws::{inserted_is_accepted, verdict_accepts};
+use insert_laws::{inserted_is_accepted, lines_are_spelled, starts_are_pieces, verdict_accepts};
 use insert_model::fault::InsertFault;
 use insert_model::line::Line;
 use object_form::laws::one_object_has_a_text;
@@ -28,17 +29,24 @@ use placed_unit_laws::{call_pushes, source_place_hidden, unit_ends, unit_stands}
 use std::alloc::Global;
 
 /// The object with guards for an object without, or the first fault of the source object: where an instruction isn't spelled
-/// that alone, else the least offset and there the least kind, and only where nothing else is wrong that it would be too
-/// large. `Memory` may come at any time.
+/// that alone, else the least offset and there the least kind, and only where nothing else is wrong that it would be too large.
+/// `Memory` may come at any time.
 ///
-/// The object is accepted: there are unit starts with which the definition accepts it, and each verdict on it is an acceptance. Wherever
-/// it is placed, the words of the unit of each source instruction stand where the place map says. From any context there the unit's
-/// run, without an interrupt, ends in one of three ways: at the next unit, the target's or a named entry, with all but R4 and R5 as
-/// the source instruction leaves it; at the entry that takes a return, a computed jump or a computed call over; or, exactly where its
-/// check fails, at the entry for that, with nothing written. A call pushes the address of the next unit.
+/// The object is accepted: there are unit starts with which the definition accepts it, and each verdict on it is an acceptance.
+/// Wherever it is placed, the words of the unit of each source instruction stand where the place map says. From any context
+/// there the unit's run, without an interrupt, ends in one of three ways: at the next unit, the target's or a named entry, with
+/// all but R4 and R5 as the source instruction leaves it; at the entry that takes a return, a computed jump or a computed call
+/// over; or, exactly where its check fails, at the entry for that, with nothing written. A call pushes the address of the next
+/// unit.
+///
+/// What is computed is what is spelled. Where all of the source is spelled, its lines are its instructions: each starts and
+/// stands where its line says, and each start has a line. In the object with guards the starts are the places of the units'
+/// pieces, and the words there spell the piece's instruction, whose words of code name units.
 pub fn insert(alloc: Global, o: &Object) -> Result<Object, InsertFault>
     ensures right { IsAnswer o.now result }
     ensures only { (answer : Result Object InsertFault) → IsAnswer o.now answer → SameAnswer result answer }
+    ensures lines { AllSpelled o.now → LinesStand o.now }
+    ensures pieces { IfOk result (λ q. PiecesStand o.now q) }
     ensures accepted { IfOk result (λ q. IsAcceptable q) }
     ensures verdicts { IfOk result (λ q. (v : Verdict) → IsVerdict q v → IsAcceptance v) }
     ensures units { IfOk result (λ q. UnitsEnd o.now q) }
@@ -54,6 +62,8 @@ pub fn insert(alloc: Global, o: &Object) -> Result<Object, InsertFault>
     call_pushes();
     unit_stands();
     source_place_hidden();
+    lines_are_spelled();
+    starts_are_pieces();
     inserted(alloc, o)
 }
 

@@ -25,5 +25,6 @@ pub mod Accepting
 pub mod Deciding
 pub mod Bitmaps
 pub mod Accepted
+pub mod SourceLines
 pub mod LineUnits
 pub mod PlaceBounds

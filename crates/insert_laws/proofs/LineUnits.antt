@@ -1,19 +1,16 @@
 -- The lines of the source, one behind another, and the words of their units.
-use Rattle.std.proofs.Common.{◌≡◌, ℕ, zero, suc, ◌+◌, ◌*◌, ◌/◌, ◌≤◌, ◌<◌, nat_lt, true, false, List, [], ◌∷◌, ◌++◌, inl, inr, length, drop, slice_index_or, refl, sym, subst, ap, ◌∙◌, arith, rules}
+use Rattle.std.proofs.Common.{◌≡◌, ℕ, zero, suc, ◌+◌, ◌*◌, ◌/◌, ◌≤◌, ◌<◌, nat_lt, true, false, List, [], ◌∷◌, ◌++◌, inl, inr, length, slice_index_or, refl, sym, subst, ap, ◌∙◌, arith, rules}
 use Rattle.std.proofs.lemmas.Bool.{cases_lt}
-use Rattle.std.proofs.lemmas.List.{append-nil, length-append, drop_all}
+use Rattle.std.proofs.lemmas.List.{append-nil, length-append}
 use Rattle.std.proofs.lemmas.List.Concat.{flat_map-append}
 use Rattle.msp_encode.specs.Laws.{LegalByCases}
 use Rattle.msp_decode.specs.Function.{ReadingLaw}
 use Rattle.code_model.specs.declared.object.Object.{Object}
 use Rattle.code_model.specs.Fields.{fields}
-use Rattle.msp_encode.specs.declared.instr.Instr.{Instr}
-use Rattle.code_model.specs.Starts.{Reached, IsSpelled}
-use Rattle.code_model.specs.Verdicts.{AllSpelled}
 use Rattle.insert_model.specs.declared.line.Line.{Line}
 use Rattle.insert_model.specs.declared.piece.Word.{Word}
 use Rattle.insert_model.specs.Words.{count, unit_words}
-use Rattle.insert_model.specs.Source.{line_at, lines_from, lines}
+use Rattle.insert_model.specs.Source.{lines}
 use Rattle.insert_model.specs.Units.{static_bytes, unit}
 use Rattle.insert_model.specs.Inserted.{units, before, place_in, place_map}
 use Rattle.insert_model.specs.Laws.{SizeLaw, LineLaw}
@@ -22,6 +19,7 @@ use Rattle.insert_laws.specs.Shapes.{IsCleanLine}
 use Rattle.insert_laws.specs.Lines.{line_words, UnitLies, LinesAreClean, CodeIsPieces, LinesHaveUnits}
 use Rattle.insert_laws.proofs.Standing.{units_words}
 use Rattle.insert_laws.proofs.ShapedUnits.{AllClean, all_clean}
+use Rattle.insert_laws.proofs.SourceLines.{Consecutive, source_consecutive}
 use Rattle.insert_laws.proofs.FormRules.{source_fits, words_are}
 
 -- ---- each line is clean
@@ -50,11 +48,6 @@ split_in (x ∷ ls) l zero h e = record { front = []; back = ls; are = ap (λ (m
 split_in (x ∷ ls) l (suc k) h e =
     let s : Split ls l = split_in ls l k (omega arith) e in record { front = x ∷ s.front; back = s.back; are = ap (λ (ms : List Line). x ∷ ms) s.are }
 
--- each line has its place just behind the words of the one before
-abbrev Consecutive : ℕ → List Line → Type 0
-Consecutive t [] = Unit {0}
-Consecutive t (l ∷ ls) = (l.at ≡ t) × Consecutive (t + count l.instr) ls
-
 not_before : (t : ℕ) (front : List Line) (l : Line) (back : List Line) → Consecutive t (front ++ l ∷ back) → t ≤ l.at
 not_before t [] l back c = omega (arith, c.0)
 not_before t (x ∷ front) l back c = omega (arith, not_before (t + count x.instr) front l back c.1)
@@ -81,44 +74,6 @@ before_next k t [] l back c h g =
 before_next k t (x ∷ front) l back c h g =
     let f : x.at < k = omega (arith, c.0, not_before (t + count x.instr) front l back c.1) in
     let e : nat_lt x.at k ≡ true = search rules in rw e (ap (λ (ms : List Line). x ∷ ms) (before_next k (t + count x.instr) front l back c.1 h g))
-
--- ---- the lines of spelled code
-
-module _ (size : SizeLaw) (line : LineLaw) (o : Object) (spelled : AllSpelled o) where
-  from_end : (t : ℕ) → length o.code ≤ t → lines_from o.relocs t 0 (drop t o.code) ≡ []
-  unfolding lines_from
-  from_end t h = ap (lines_from o.relocs t 0) (drop_all t o.code h)
-
-  first_at : (t : ℕ) (i : Instr) (l : Line) (xs ls : List Line) → line_at o.relocs t i ∷ xs ≡ l ∷ ls → Consecutive (t + count i) ls → Consecutive t (l ∷ ls)
-  unfolding line_at
-  first_at t i l xs ls e c =
-      let here : line_at o.relocs t i ≡ l = heads e in subst (λ (m : Line). (m.at ≡ t) × Consecutive (t + count m.instr) ls) here (refl, c)
-    where
-      heads : line_at o.relocs t i ∷ xs ≡ l ∷ ls → line_at o.relocs t i ≡ l
-      heads e = cc
-
-  consecutive : (ls : List Line) (k t : ℕ) → Reached o.code k t → lines_from o.relocs t 0 (drop t o.code) ≡ ls → Consecutive t ls
-  consecutive [] k t r e = tt
-  consecutive (l ∷ ls) k t r e = elim (cases_lt t (length o.code)) [
-    | inl less ↦
-        let s : IsSpelled o.code t = spelled t (record { count = k; reached = r; below = less }) in
-        let cut : line_at o.relocs t s.instr ∷ lines_from o.relocs (t + s.words) 0 (drop (t + s.words) o.code) ≡ l ∷ ls = sym (line o.relocs o.code t s.instr s.words o.form.words_small less s.stands) ∙ e in
-        let n : s.words ≡ count s.instr = size o.code t s.instr s.words s.stands in
-        let next : Reached o.code (suc k) (t + s.words) = (t, r, record { instr = s.instr; words = s.words; stands = s.stands; ends = refl }) in
-        first_at t s.instr l (lines_from o.relocs (t + s.words) 0 (drop (t + s.words) o.code)) ls cut
-        (subst (λ (c : ℕ). Consecutive (t + c) ls) n (consecutive ls (suc k) (t + s.words) next (tails (line_at o.relocs t s.instr) l (lines_from o.relocs (t + s.words) 0 (drop (t + s.words) o.code)) ls cut)))
-    | inr more ↦ absurd (no_line l ls (sym (from_end t more) ∙ e))
-  ]
-    where
-      tails : (m n : Line) (xs ys : List Line) → m ∷ xs ≡ n ∷ ys → xs ≡ ys
-      tails m n xs ys e = cc
-
-      no_line : (m : Line) (ms : List Line) → [] ≡ m ∷ ms → ⊥
-      no_line m ms e = cc
-
-  source_consecutive : Consecutive 0 (lines (fields o))
-  unfolding lines
-  source_consecutive = consecutive (lines_from o.relocs 0 0 o.code) 0 0 refl refl
 
 -- ---- the words of their units
 

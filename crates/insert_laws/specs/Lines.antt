@@ -1,8 +1,10 @@
 -- Laws of the source's lines: each is clean, and its unit has its words in the code of the object with guards.
 use Rattle.std.specs.Prelude.{◌≡◌, ℕ, ◌+◌, ◌*◌, ◌%◌, ◌≤◌, ◌⊎◌, List, ◌++◌, length, map}
-use Rattle.std.specs.List.{Contains}
+use Rattle.std.specs.List.{All, Contains}
 use Rattle.code_model.specs.declared.object.Object.{Object}
 use Rattle.code_model.specs.Fields.{fields}
+use Rattle.code_model.specs.Starts.{Stands, Start}
+use Rattle.code_model.specs.Verdicts.{AllSpelled}
 use Rattle.insert_model.specs.declared.line.Line.{Line}
 use Rattle.insert_model.specs.declared.piece.Word.{Word}
 use Rattle.insert_model.specs.Words.{count, unit_words}
@@ -12,6 +14,20 @@ use Rattle.insert_model.specs.Inserted.{moved, place_map}
 use Rattle.insert_model.specs.Faults.{IsInserted}
 use Rattle.insert_laws.specs.Pieces.{pieces}
 use Rattle.insert_laws.specs.Shapes.{IsCleanLine}
+
+-- an instruction starts at the line's place, and the words from there on spell the line's
+pub record IsInstruction (code : List ℕ) (l : Line) : Type 0 where
+  pub start : Start code l.at
+  pub stands : Stands code l.at l.instr (count l.instr)
+
+-- the lines, which are read by a function, are the instructions of the code: each line is one, and each start has a line
+pub record LinesStand (o : Object) : Type 0 where
+  pub are : All (IsInstruction o.code) (lines (fields o))
+  pub each : (at : ℕ) → Start o.code at → (l : Line) × Contains (lines (fields o)) l × (l.at ≡ at)
+
+-- so it is where all of the code is spelled
+abbrev pub LinesAreSpelled : Type 0
+LinesAreSpelled = (o : Object) → AllSpelled o → LinesStand o
 
 -- nothing is wrong with any line
 abbrev pub LinesAreClean : Type 0

@@ -3,7 +3,7 @@
 
 ghost use Rattle.insert_laws.specs.Laws.{StartsArePieces, RelocsArePieces, FormRulesPass, StartsAreUnits, EntryRulePasses, TargetRulePasses, EndRulePasses, JumpRulePasses, NothingRefused, VerdictAccepts, InsertedIsAccepted};
 ghost use Rattle.insert_laws.specs.Source.{SpellingLaw, StartsDecided};
-ghost use Rattle.insert_laws.specs.Lines.{CodeIsPieces, LinesAreClean, LinesHaveUnits, PlacesWithin};
+ghost use Rattle.insert_laws.specs.Lines.{CodeIsPieces, LinesAreClean, LinesAreSpelled, LinesHaveUnits, PlacesWithin};
 
 use code_laws::{next_start, one_stands, starts_apart};
 use insert_model::laws::{instruction_size, line_stands};
@@ -135,6 +135,16 @@ pub fn starts_decided()
 {
     next_start();
     starts_apart();
+}
+
+/// Where all of a source is spelled, its lines are its instructions: the words from each line's place on spell the line's
+/// instruction, and each start has a line.
+pub fn lines_are_spelled()
+    ensures { LinesAreSpelled }
+{
+    starts_apart();
+    instruction_size();
+    line_stands();
 }
 
 /// Nothing is wrong with any line of a source that an object with guards was made from.

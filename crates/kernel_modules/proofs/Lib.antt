@@ -1,3 +1,4 @@
 pub mod CallLemmas
 pub mod LeavingLemmas
 mod FunctionLemmas
+pub mod TakenLemmas

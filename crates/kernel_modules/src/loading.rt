@@ -1,6 +1,6 @@
 //! A module is loaded, with its functions.
 
-ghost use Rattle.std.specs.Prelude.{◌≡◌, ◌<◌, ◌+◌, ◌≤◌, ℕ, MatchResult, Some, Err, Ok};
+ghost use Rattle.std.specs.Prelude.{◌≡◌, ◌<◌, ◌+◌, ◌≤◌, ℕ, MatchResult, IfOk, IfErr, OnOk, Some, Err, Ok};
 ghost use Rattle.std.specs.List.{fold};
 ghost use Rattle.code_model.specs.Verdicts.{IsAccepted};
 ghost use Rattle.kernel_model.specs.declared.kinds.Kind.TheVariants.{Module};
@@ -8,11 +8,12 @@ ghost use Rattle.kernel_model.specs.Kernel.{module_at};
 ghost use Rattle.kernel_model.specs.Layout.{kernel_of};
 ghost use Rattle.kernel_model.specs.Queues.{Leaves};
 ghost use Rattle.place_model.specs.declared.places.Regions.{Regions};
-ghost use Rattle.place_model.specs.Placing.{placing};
+ghost use Rattle.place_model.specs.Placing.{placing, domain_rows, first_number, number_count, IsLeastFree, IsPlacing, IsRefusal};
 ghost use Rattle.place_model.specs.Settled.{IsSettled};
 ghost use Rattle.load_model.specs.Domains.{code_length, region_length};
 ghost use Rattle.load_model.specs.Loading.{places_of, loaded_kernel, with_export, taken_number, unless_taken, Loaded};
 ghost use Rattle.kernel_model.specs.Modules.{HasKnownModules};
+ghost use Rattle.kernel_modules.specs.Refusals.{NoneTaken, IsModuleRefusal};
 
 use code_model::marks::Marks;
 use code_model::object::Object;
@@ -21,16 +22,19 @@ use flat_mem::FlatMem;
 use kernel_tables::{FnRow, function, module, set_function};
 use kernel_threads::NONE;
 use load_model::{loaded_is_settled, tables_stand_apart};
+use place_model::laws::{numbers_are_least, placings_are_lowest};
 use region_table::{NoRoom, free_row};
 use reloc_loader::put_module;
 
 /// The number of the first module among the domains.
 const FIRST_MODULE: u8 = 8;
 
-/// Loads a module that was accepted with these marks, with its functions, and answers its number, 8 to 11. A function's row gets the
-/// module and the address that its offset is at. Refusals leave memory as it was: first that each module's row is in use, then that
-/// a function of the module is one that a live or ended module has exported, with the least such number, then that no gap is as long
-/// as the code, and then that none is as long as the region. Memory is settled before and after.
+/// Loads a module that was accepted with these marks, with its functions, of which no module has exported one, and answers its
+/// number, the least free one of 8 to 11. It gets the lowest gap of each pool that fits. A function's row gets the module and
+/// the address that its offset is at. Refusals leave memory as it was: first that each module's row is in use, then that a
+/// function of the module is one that a live or ended module has exported, with the least such number, then that no gap is as
+/// long as the code, and then that none is as long as the region, with the length of the longest. Memory is settled before and
+/// after.
 pub fn load_module(m: &mut FlatMem, o: &Object, marks: &Marks) -> Result<u8, NoRoom>
     requires of_module { (o.now).kind ≡ Module }
     requires accepted { IsAccepted o.now marks.now }
@@ -39,9 +43,16 @@ pub fn load_module(m: &mut FlatMem, o: &Object, marks: &Marks) -> Result<u8, NoR
         (λ n. (r : Regions) × (places_of (kernel_of m.old) o.now ≡ Ok r) × (r.dom ≡ n)
         × Loaded m.old m.new (loaded_kernel Module (kernel_of m.old) o.now r) (record { object = o.now; units = marks.now }) r)
         (λ e. (places_of (kernel_of m.old) o.now ≡ Err e) × (m.new ≡ m.old)) }
+    ensures number { IfOk result (λ n. IsLeastFree (domain_rows (kernel_of m.old)) (first_number Module) (number_count Module) n) }
+    ensures lowest { IfOk result (λ n. (r : Regions) × (r.dom ≡ n) × IsPlacing (kernel_of m.old) Module (code_length o.now) (region_length o.now) r
+        × Loaded m.old m.new (loaded_kernel Module (kernel_of m.old) o.now r) (record { object = o.now; units = marks.now }) r) }
+    ensures untaken { OnOk result (NoneTaken (kernel_of m.old) o.now) }
+    ensures cause { IfErr result (λ e. IsModuleRefusal (kernel_of m.old) o.now e) }
     ensures known { HasKnownModules (kernel_of m.old) → HasKnownModules (kernel_of m.new) }
     ensures settled { IsSettled m.new }
 {
+    numbers_are_least();
+    placings_are_lowest();
     match taken_number(m, o) {
         Some(number) => Err(cause_where_taken(m, number)),
         None => put_with_functions(m, o, marks),
@@ -57,6 +68,10 @@ fn put_with_functions(m: &mut FlatMem, o: &Object, marks: &Marks) -> Result<u8, 
         (λ n. (r : Regions) × (placing (kernel_of m.old) Module (code_length o.now) (region_length o.now) ≡ Ok r) × (r.dom ≡ n)
         × Loaded m.old m.new (loaded_kernel Module (kernel_of m.old) o.now r) (record { object = o.now; units = marks.now }) r)
         (λ e. (placing (kernel_of m.old) Module (code_length o.now) (region_length o.now) ≡ Err e) × (m.new ≡ m.old)) }
+    ensures number { IfOk result (λ n. IsLeastFree (domain_rows (kernel_of m.old)) (first_number Module) (number_count Module) n) }
+    ensures lowest { IfOk result (λ n. (r : Regions) × (r.dom ≡ n) × IsPlacing (kernel_of m.old) Module (code_length o.now) (region_length o.now) r
+        × Loaded m.old m.new (loaded_kernel Module (kernel_of m.old) o.now r) (record { object = o.now; units = marks.now }) r) }
+    ensures cause { IfErr result (λ e. IsRefusal (kernel_of m.old) Module (code_length o.now) (region_length o.now) e) }
     ensures known { HasKnownModules (kernel_of m.old) → HasKnownModules (kernel_of m.new) }
     ensures settled { IsSettled m.new }
 {

@@ -1,4 +1,4 @@
-use Rattle.insert_laws.specs.Laws.{IsAcceptable}
+use Rattle.insert_laws.specs.Laws.{IsAcceptable, PiecesStand}
 use Rattle.placed_unit_laws.specs.Ends.{UnitsEnd, CallsPush, UnitsStand, SourcesHide}
 use Rattle.check_inserter.proofs.Answering.{of_answer, one_answer}
 use Rattle.check_inserter.proofs.inserter.insert.Goals as goal
@@ -20,3 +20,9 @@ returns-clause-stand c = of_answer c.args.o.now (UnitsStand c.args.o.now) (c.uni
 
 pub returns-clause-anywhere : goal.returns-clause-anywhere
 returns-clause-anywhere c = of_answer c.args.o.now (SourcesHide c.args.o.now) (c.source_place_hidden.ensures c.args.o.now) c.inserted.result c.inserted.ensures
+
+pub returns-clause-lines : goal.returns-clause-lines
+returns-clause-lines c = c.lines_are_spelled.ensures c.args.o.now
+
+pub returns-clause-pieces : goal.returns-clause-pieces
+returns-clause-pieces c = of_answer c.args.o.now (PiecesStand c.args.o.now) (c.starts_are_pieces.ensures c.args.o.now) c.inserted.result c.inserted.ensures

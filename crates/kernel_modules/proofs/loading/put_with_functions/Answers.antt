@@ -42,3 +42,17 @@ returns-in-Ok-clause-settled c =
     module_settled m c.put_functions.new.m o put.0 c.loaded_is_settled.ensures.whole c.requires.of_module c.requires.settled put.1
     (with_functions m c.put_module.new.m c.put_functions.new.m o put.0 c.in-Ok.n c.tables_stand_apart.ensures.last c.is_flat.ensures.size
     c.is_flat-in-Ok.ensures.size p put.3 c.put_functions.ensures)
+
+pub returns-in-Ok-clause-lowest : goal.returns-in-Ok-clause-lowest
+returns-in-Ok-clause-lowest c =
+    let m : List ℕ = c.args.m.now in
+    let o : Loadable = record { object = c.args.o.now; units = c.args.marks.now } in
+    let put = c.in-Ok.ensures.lowest in
+    let p : IsPlaced (kernel_of m) put.0 c.in-Ok.n =
+    is_placed m c.put_module.new.m o put.0 c.in-Ok.n c.requires.of_module c.requires.settled put.3 put.1 in (
+      put.0,
+      put.1,
+      put.2,
+      with_functions m c.put_module.new.m c.put_functions.new.m o put.0 c.in-Ok.n c.tables_stand_apart.ensures.last c.is_flat.ensures.size
+          c.is_flat-in-Ok.ensures.size p put.3 c.put_functions.ensures,
+    )
