@@ -1,13 +1,9 @@
-//! Rows on code and objects: words and what they spell, what instructions do, sources, objects with guards, verdicts and texts.
+//! Rows on code and objects: words and what they spell, what instructions do, objects with guards, verdicts and texts.
 //!
 //! Nothing but tests stands here. They make public calls of the crates whose names they have, so none of those is proved a second
 //! time for them. What is expected is worked out by hand from the tables, or comes from outside of the program.
 #![tactic(auto)]
 
-#[cfg(test)]
-mod assembler;
-#[cfg(test)]
-mod assembler_faults;
 #[cfg(test)]
 mod checker;
 #[cfg(test)]

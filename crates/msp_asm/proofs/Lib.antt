@@ -1,9 +1,4 @@
-pub mod Cutting
-pub mod Capping
-pub mod Defining
-pub mod Listing
 pub mod Rests
 pub mod Counting
-pub mod Lining
 pub mod Sounding
 pub mod Whole

@@ -13,9 +13,9 @@ ghost use Rattle.msp_asm.specs.Given.{fault_at, FirstGives, SecondGives, output_
 use crate::built::{Built, nothing};
 use crate::drafts::{Pieces, Stop, start};
 use crate::first_pass::put_line;
-use crate::names::Names;
 use crate::second_pass::put;
-use crate::text::cut_line;
+use asm_lines::names::Names;
+use asm_lines::text::cut_line;
 use asm_model::fault::{AsmFault, AsmKind};
 use asm_model::laws::{drafts_are_sound, results_meet_the_form};
 use asm_model::progress::{Header, Progress};

@@ -1,59 +1,21 @@
-//! What each directive does.
+//! What directives do to what the first pass has come to.
 
-ghost use Rattle.std.specs.Prelude.{◌≡◌, true, false, is_some, IfOk};
+ghost use Rattle.std.specs.Prelude.{◌≡◌, true, IfOk};
 ghost use Rattle.asm_model.specs.Drafts.{by_progress};
 ghost use Rattle.msp_asm.specs.Given.{HasSmallNumber};
-ghost use Rattle.asm_model.specs.Names.{is_taken, name_of, value_of};
-ghost use Rattle.asm_model.specs.Directives.{application, application_of, module_of, with_header, headed, only_header, number_named, named_by, equate, is_application, is_module, entry_by, entry_of, export_by, export_of, told, section_from, is_code, is_data, is_zero, space_by, space_of};
+ghost use Rattle.asm_model.specs.Directives.{with_header, headed, only_header, is_application, is_module, entry_by, entry_of, export_by, export_of, told, section_from, is_code, is_data, is_zero, space_by, space_of};
 
-use crate::bytes::is_empty;
 use crate::drafts::grow;
-use crate::instructions::label;
-use crate::names::{Names, has_form, name, taken};
-use crate::numbers::{between, fits, numeral, word as numeral_word};
-use crate::text::{rest as behind_word, word as first_word};
+use asm_lines::bytes::is_empty;
+use asm_lines::instructions::label;
+use asm_lines::names::Names;
+use asm_lines::numbers::{between, numeral};
+use asm_lines::text::{rest as behind_word, word as first_word};
 use asm_model::expression::Numeral;
 use asm_model::fault::AsmKind;
-use asm_model::name::{Name, Value};
+use asm_model::name::Name;
 use asm_model::piece::Piece;
 use asm_model::progress::{Header, Progress, Section};
-
-/// An application's header.
-fn application(stack: Option<Numeral>, threads: Option<Numeral>) -> Result<Header, AsmKind>
-    ensures { result ≡ application stack threads }
-{
-    let (Some(stack), Some(threads)) = (stack, threads) else {
-        return Err(AsmKind::BadDirective);
-    };
-    if between(16, 1024, stack) && stack.size % 2 == 0 && between(1, 4, threads) {
-        Ok(Header::App {
-            stack: stack.size as u16,
-            threads: threads.size as u8,
-        })
-    } else {
-        Err(AsmKind::NumberRange)
-    }
-}
-
-/// The header of `.app`.
-#[tactic(auto, unfolding(asm_model::specs::Directives::application_of))]
-pub(crate) fn app_header(rest: &[u8]) -> Result<Header, AsmKind>
-    ensures { result ≡ application_of rest.now }
-{
-    application(numeral(first_word(rest)), numeral(behind_word(rest)))
-}
-
-/// The header of `.module`.
-#[tactic(auto, unfolding(asm_model::specs::Directives::module_of))]
-pub(crate) fn module_header(rest: &[u8]) -> Result<Header, AsmKind>
-    ensures { result ≡ module_of rest.now }
-{
-    if is_empty(rest) {
-        Ok(Header::Module)
-    } else {
-        Err(AsmKind::BadDirective)
-    }
-}
 
 /// With a header, where there is none yet.
 pub(crate) fn head(p: Progress, header: Result<Header, AsmKind>) -> Result<Progress, AsmKind>
@@ -74,36 +36,6 @@ pub(crate) fn head(p: Progress, header: Result<Header, AsmKind>) -> Result<Progr
             initialised: p.initialised,
             zeroed: p.zeroed,
         }),
-    }
-}
-
-/// The number of a name.
-fn named_number(n: Option<Numeral>) -> Result<Value, AsmKind>
-    ensures { result ≡ number_named n }
-{
-    match n {
-        None => Err(AsmKind::BadDirective),
-        Some(n) if fits(n) => Ok(Value::Number(numeral_word(n))),
-        Some(_) => Err(AsmKind::NumberRange),
-    }
-}
-
-/// The name and the number of `.equ`, where it may stand.
-#[tactic(auto, unfolding(asm_model::specs::Directives::equate, asm_model::specs::Names::is_taken))]
-pub(crate) fn equated(names: &Names, allowed: bool, rest: &[u8]) -> Result<(Name, Value), AsmKind>
-    ensures value { result ≡ equate names.now allowed rest.now }
-    ensures new { IfOk result (λ entry. is_some (value_of names.now entry.0) ≡ false) }
-{
-    let word = first_word(rest);
-    if taken(names, word) {
-        return Err(AsmKind::DoubleLabel);
-    }
-    if !allowed || !has_form(word) {
-        return Err(AsmKind::BadDirective);
-    }
-    match named_number(numeral(behind_word(rest))) {
-        Err(kind) => Err(kind),
-        Ok(value) => Ok((name(word), value)),
     }
 }
 

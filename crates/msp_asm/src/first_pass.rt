@@ -12,16 +12,15 @@ ghost use Rattle.asm_model.specs.Lines.{lines_of};
 ghost use Rattle.asm_model.specs.FirstPass.{put_code, take_instruction, go_on, define, tell, take_directive, take_keyword, take_statement, take_labelled, take_body, take_line, first_pass};
 ghost use Rattle.msp_asm.specs.Given.{Gives, HasSmallNumber};
 
-use crate::bytes::{Class, all, is_empty};
-use crate::directives::{
-    app_header, enter, entry, equated, export, head, in_code, module_header, space, tell,
-};
+use crate::directives::{enter, entry, export, head, in_code, space, tell};
 use crate::drafts::{Pieces, Stop, grow, place, words};
-use crate::instructions::instruction;
-use crate::keywords::keyword;
-use crate::names::{Names, has_form, name, taken};
 use crate::static_data::data;
-use crate::text::{
+use asm_lines::bytes::{is_empty, is_text};
+use asm_lines::declarations::{app_header, equated, module_header};
+use asm_lines::instructions::instruction;
+use asm_lines::keywords::keyword;
+use asm_lines::names::{Names, has_form, name, taken};
+use asm_lines::text::{
     body, is_labelled, label_word, labelled, rest as behind_word, word as first_word,
 };
 use asm_model::fault::AsmKind;
@@ -209,7 +208,7 @@ pub(crate) fn put_line(
 ) -> Result<Progress, Stop>
     ensures { Gives result (take_line line (draft_by p names.old pieces.old) bytes.now) names.new pieces.new }
 {
-    if !all(Class::Text, bytes) {
+    if !is_text(bytes) {
         return Err(Stop::Kind(AsmKind::NotText));
     }
     let body = body(bytes);

@@ -12,12 +12,12 @@ ghost use Rattle.msp_asm.specs.Given.{IsLegalPiece, Puts, output_of};
 
 use crate::built::Built;
 use crate::drafts::{Stop, source_words};
-use crate::names::Names;
 use crate::words::{
     known, place_destination, place_source, push_relocation, relocation_on, suit,
     use_of_destination, use_of_source, word_on,
 };
 use arrayvec::ArrayVec;
+use asm_lines::names::Names;
 use asm_model::expression::Base;
 use asm_model::fault::AsmKind;
 use asm_model::laws::{tested_is_legal, words_spell};

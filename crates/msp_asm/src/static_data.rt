@@ -10,13 +10,13 @@ ghost use Rattle.asm_model.specs.FirstPass.{take_data};
 ghost use Rattle.msp_asm.specs.Given.{Gives};
 ghost use Rattle.msp_asm.specs.Parts.{parts_of};
 
-use crate::bytes::is_empty;
 use crate::directives::in_data;
 use crate::drafts::{Pieces, Stop, grow};
-use crate::names::Names;
-use crate::numbers::{fits_byte, numeral, word as numeral_word};
-use crate::operands::address;
-use crate::text::{cut, trim};
+use asm_lines::bytes::is_empty;
+use asm_lines::names::Names;
+use asm_lines::numbers::{fits_byte, numeral, word as numeral_word};
+use asm_lines::operands::address;
+use asm_lines::text::{cut, trim};
 use asm_model::expression::Base;
 use asm_model::fault::AsmKind;
 use asm_model::piece::{DataUnit, Datum, Piece};

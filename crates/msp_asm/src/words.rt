@@ -4,7 +4,7 @@ ghost use Rattle.std.specs.Prelude.{◌≡◌, ◌≤◌, ◌<◌, ◌+◌, ◌^
 ghost use Rattle.asm_model.specs.SecondPass.{source_use, destination_use, is_known, is_place_of_code, is_place_of_data, label_suits, suits, offset_in, label_word, placed_word, place_relocation, label_relocation, relocation, relocation_at, source_with, destination_with, source_word, destination_word, placed_source, placed_destination, known_from};
 ghost use Rattle.asm_model.specs.declared.progress.Progress.{Progress};
 
-use crate::names::Names;
+use asm_lines::names::Names;
 use asm_model::expression::Base;
 use asm_model::name::Value;
 use asm_model::operand::Use;

@@ -2,8 +2,7 @@ use Rattle.std.proofs.Common.{◌≡◌, ◌+◌, ◌≤◌}
 use Rattle.asm_model.specs.Lines.{lines_of}
 use Rattle.asm_model.specs.Drafts.{first_progress, draft_by}
 use Rattle.asm_model.specs.FirstPass.{first_pass}
-use Rattle.msp_asm.proofs.Rests.{size_left}
-use Rattle.msp_asm.proofs.Lining.{lines_left}
+use Rattle.msp_asm.proofs.Rests.{lines_left, size_left}
 use Rattle.msp_asm.proofs.assembling.first.Given as goal
 
 abbrev pub invariant-lines : goal.invariant-lines

@@ -1,5 +1,0 @@
-use Rattle.msp_asm.proofs.Defining.{defined_last}
-use Rattle.msp_asm.proofs.names.Names.define.Goals as goal
-
-pub returns : goal.returns
-returns c = defined_last c.args.self.now c.self.inside.map.entries c.insert.new.self.entries c.args.name c.args.value c.self.view_is c.in_ok-insert.ensures.entries c.requires
