@@ -36,7 +36,7 @@ use Rattle.node_laws.proofs.Stepping.{domain-runs}
 use Rattle.node_laws.proofs.Within.{domain-module}
 use Rattle.node_laws.proofs.Idling.{idle-is}
 use Rattle.retos_node.specs.Cases.{Stands, StandsForOne, IsAtEntry}
-use Rattle.retos_node.specs.Turns.{IsReady, IsWork, HasRow, Turned}
+use Rattle.retos_node.specs.Turns.{MayTurn, IsWork, HasRow, Turned}
 
 -- ---- a system that memory and registers stand for
 
@@ -47,7 +47,7 @@ case_here m r n s x h e = ap (λ (c : List ℕ). case_of s.kernel c) (sym h.regs
 pub leaves_same : (m : List ℕ) → Leaves m m (kernel_of m)
 leaves_same m = record { kernel = refl; others = refl; laid_out = λ h. h; queues = λ h. h }
 
-pub ready : SettledLaw → KnownLaw → (m r : List ℕ) (n : ℕ) → StandsForOne m r n → IsReady m
+pub ready : SettledLaw → KnownLaw → (m r : List ℕ) (n : ℕ) → StandsForOne m r n → MayTurn m
 ready settled known m r n h = record {
   settled = settled m h.0 h.1.shows h.1.sound;
   known = subst (λ (k : Kernel). HasKnownModules k) (sym h.1.shows.kernel) (known h.0 h.1.sound);

@@ -31,7 +31,7 @@ pub record IsWork (m registers : List ℕ) (step : ℕ) (pick : Option ℕ) (w :
   pub pick_is : pick ≡ w.pick
 
 -- what each routine stands on: the tables are settled, module rows are known, and time is within bounds
-pub record IsReady (m : List ℕ) : Type 0 where
+pub record MayTurn (m : List ℕ) : Type 0 where
   pub settled : IsSettled m
   pub known : HasKnownModules (kernel_of m)
   pub time : tick_number (kernel_of m) < 10000000

@@ -14,6 +14,7 @@ ghost use Rattle.node_model.specs.Nodes.{IsBootRefusal};
 ghost use Rattle.node_model.specs.Systems.{System};
 ghost use Rattle.retos_node.specs.Boots.{IsStarting, IsUnderway, StartsTo};
 
+use crate::lines::APPS;
 use crate::objects::ObjectList;
 use code_model::marks::Marks;
 use code_model::object::Object;
@@ -30,9 +31,6 @@ use node_laws::{dispatch_is_sound, started_is_sound};
 use place_model::places::NoRoom;
 use reloc_loader::load;
 use std::alloc::{AllocError, Global};
-
-/// How many applications a node may have.
-const APPS: u8 = 8;
 
 /// The state of a row that no domain has.
 const FREE: u16 = 0;
@@ -115,7 +113,8 @@ fn load_object(m: &mut FlatMem, o: &Object, marks: &Marks) -> Result<u8, NoRoom>
     requires settled { IsSettled m.old }
     ensures answer { MatchResult result
         (λ n. (r : Regions) × (places_of (kernel_of m.old) o.now ≡ Ok r) × (r.dom ≡ n)
-        × Loaded m.old m.new (loaded_kernel (o.now).kind (kernel_of m.old) o.now r) (record { object = o.now; units = marks.now }) r)
+        × Loaded m.old m.new (loaded_kernel (o.now).kind (kernel_of m.old) o.now r)
+        (record { object = o.now; units = marks.now }) r)
         (λ e. (places_of (kernel_of m.old) o.now ≡ Err e) × (m.new ≡ m.old)) }
     ensures number { IfOk result (λ n. n < 12) }
 {

@@ -8,7 +8,7 @@ ghost use Rattle.kernel_model.specs.Words.{tick_number};
 ghost use Rattle.machine_model.specs.Context.{set_reg};
 ghost use Rattle.place_model.specs.Settled.{IsSettled};
 ghost use Rattle.node_model.specs.Entries.{exits, row, Spawn, Yield, Sleep, Priority, Self, Ticks, Line, Emits};
-ghost use Rattle.retos_node.specs.Turns.{DispatchesFrom, Does, IsReady};
+ghost use Rattle.retos_node.specs.Turns.{DispatchesFrom, Does, MayTurn};
 
 use crate::entries::{IDENTITY, LINE, PRIORITY, SLEEP, SPAWN, TICKS, YIELD};
 use crate::turns::{
@@ -130,7 +130,7 @@ pub fn emits(m: &mut FlatMem, r: &mut Regs, moment: Moment) -> Record
 
 /// The running thread sleeps for as many ticks as R12 says. No ticks are its turn's end.
 pub fn sleeps(m: &mut FlatMem, r: &mut Regs, moment: Moment) -> Record
-    requires ready { IsReady m.old }
+    requires ready { MayTurn m.old }
     requires runs { ThreadRuns (kernel_of m.old) }
     ensures { Does m.old m.new r.old r.new moment result (row Sleep) }
 {

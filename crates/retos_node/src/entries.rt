@@ -9,7 +9,7 @@ ghost use Rattle.place_model.specs.Settled.{IsSettled};
 ghost use Rattle.node_model.specs.Entries.{Call, by_jump, entry_address, has_row, is_for_app, is_for_module, row, turn_at};
 ghost use Rattle.node_model.specs.Steps.{entry_at};
 ghost use Rattle.retos_node.specs.EntryPoints.{call_of, kernel_call};
-ghost use Rattle.retos_node.specs.Turns.{Does, DoesCall, HasRow, IsReady, TurnsBy};
+ghost use Rattle.retos_node.specs.Turns.{Does, DoesCall, HasRow, MayTurn, TurnsBy};
 
 use crate::calls::{
     emits, exits, gives_priority, gives_ticks, sleeps, spawns, tells_identity, waits_for_line,
@@ -150,7 +150,7 @@ pub fn entry_at(pc: u16) -> Option<EntryPoint>
 
 /// Does what the entry at an address does, which has a row for who runs.
 pub fn entry(m: &mut FlatMem, r: &mut Regs, pc: u16, moment: Moment) -> Record
-    requires ready { IsReady m.old }
+    requires ready { MayTurn m.old }
     requires row { HasRow (kernel_of m.old) pc }
     ensures { (c : Call) → entry_at pc ≡ Some c → TurnsBy m.old m.new r.old r.new moment result (turn_at c) }
 {
@@ -174,7 +174,7 @@ fn row_runs(m: &FlatMem, entry: EntryPoint)
 
 /// Does what an entry does, which has a row for who runs.
 fn enter(m: &mut FlatMem, r: &mut Regs, entry: EntryPoint, moment: Moment) -> Record
-    requires ready { IsReady m.old }
+    requires ready { MayTurn m.old }
     requires row { has_row (kernel_of m.old) (call_of entry) ≡ true }
     ensures { DoesCall m.old m.new r.old r.new moment result (call_of entry) }
 {
@@ -210,7 +210,7 @@ fn jumps(m: &mut FlatMem, r: &mut Regs, entry: u16, moment: Moment) -> Record
 
 /// Does what a call does: its return address is popped, which has to be a mark.
 fn returns(m: &mut FlatMem, r: &mut Regs, call: KernelCall, moment: Moment) -> Record
-    requires ready { IsReady m.old }
+    requires ready { MayTurn m.old }
     requires row { has_row (kernel_of m.old) (kernel_call call) ≡ true }
     ensures { DoesCall m.old m.new r.old r.new moment result (kernel_call call) }
 {
@@ -223,7 +223,7 @@ fn returns(m: &mut FlatMem, r: &mut Regs, call: KernelCall, moment: Moment) -> R
 
 /// Does what a call does behind its return.
 fn calls(m: &mut FlatMem, r: &mut Regs, call: KernelCall, moment: Moment) -> Record
-    requires ready { IsReady m.old }
+    requires ready { MayTurn m.old }
     requires row { has_row (kernel_of m.old) (kernel_call call) ≡ true }
     ensures { Does m.old m.new r.old r.new moment result (row (kernel_call call)) }
 {

@@ -11,7 +11,7 @@ use kernel_tables::{app, module};
 use line_text::line::Line;
 
 /// How many domains an application's number may have.
-const APPS: u8 = 8;
+pub(crate) const APPS: u8 = 8;
 
 /// Where the domain with this number, below 12, was placed.
 pub(crate) fn of_placement(m: &FlatMem, number: u8) -> Line

@@ -6,7 +6,7 @@ ghost use Rattle.kernel_model.specs.Running.{ThreadRuns};
 ghost use Rattle.kernel_model.specs.Words.{none, running_module};
 ghost use Rattle.place_model.specs.Settled.{IsSettled};
 ghost use Rattle.node_model.specs.Entries.{row, turn_at, Leave, ModuleCall};
-ghost use Rattle.retos_node.specs.Turns.{Does, IsReady};
+ghost use Rattle.retos_node.specs.Turns.{Does, MayTurn};
 
 use crate::entries::{LEAVE, MODULE_CALL};
 use crate::turns::{Moment, called, code_number, go_on, run_next};
@@ -18,7 +18,7 @@ use trace_model::records::Record;
 
 /// The running thread enters the module that exported the function in R12.
 pub fn calls_module(m: &mut FlatMem, r: &mut Regs, moment: Moment) -> Record
-    requires ready { IsReady m.old }
+    requires ready { MayTurn m.old }
     requires runs { ThreadRuns (kernel_of m.old) }
     ensures { Does m.old m.new r.old r.new moment result (row ModuleCall) }
 {

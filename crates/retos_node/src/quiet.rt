@@ -8,7 +8,9 @@ ghost use Rattle.node_model.specs.Runs.{is_live_app, is_serving};
 ghost use Rattle.retos_node.specs.Readiness.{IsReady};
 ghost use Rattle.retos_node.specs.Underway.{quiet_in, rests_in};
 
+use crate::lines::APPS;
 use crate::schedule::Schedule;
+use crate::stepping::{FIRST_ROUTINE, LAST_ROUTINE};
 use flat_mem::FlatMem;
 use kernel_tables::laws::kernel_fits;
 use kernel_tables::{SysWord, app, get, ready};
@@ -17,16 +19,8 @@ use msp_machine::Regs;
 use msp_machine::regs::PC;
 use trace_model::scripts::Script;
 
-/// The first address of a vector routine, and the last.
-const FIRST_ROUTINE: u16 = 0xF080;
-
-const LAST_ROUTINE: u16 = 0xF09A;
-
 /// The state of a live application.
 const LIVE: u16 = 1;
-
-/// How many rows of applications there are.
-const APPS: u8 = 8;
 
 /// Whether a run is at its quiet end, after so many steps.
 #[inline(always)]

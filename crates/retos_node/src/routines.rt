@@ -11,7 +11,7 @@ ghost use Rattle.machine_model.specs.Does.{raised};
 ghost use Rattle.machine_model.specs.Memory.{word_at};
 ghost use Rattle.place_model.specs.Settled.{IsSettled};
 ghost use Rattle.node_model.specs.Entries.{interrupted, served, vector_turn};
-ghost use Rattle.retos_node.specs.Turns.{IsReady, TurnsBy};
+ghost use Rattle.retos_node.specs.Turns.{MayTurn, TurnsBy};
 
 use crate::turns::{Moment, run_next, runners_are_known};
 use flat_mem::FlatMem;
@@ -23,7 +23,7 @@ use trace_model::records::Record;
 
 /// Does what the routine of a line does, 0 to 13. No module runs.
 pub fn vector(m: &mut FlatMem, r: &mut Regs, line: u8, moment: Moment) -> Record
-    requires ready { IsReady m.old }
+    requires ready { MayTurn m.old }
     requires number { line < 14 }
     requires no_module { running_module (kernel_of m.old) ≡ none }
     ensures { TurnsBy m.old m.new r.old r.new moment result (vector_turn line m.old) }
@@ -68,7 +68,7 @@ fn pop_context(m: &FlatMem, r: &mut Regs)
 /// Keeps the interrupted thread, unless nothing was interrupted, and does the line's work: on line 0 time goes on, and on another
 /// all that wait for it wake. Nothing runs then.
 fn serve(m: &mut FlatMem, r: &Regs, line: u8)
-    requires ready { IsReady m.old }
+    requires ready { MayTurn m.old }
     requires number { line < 14 }
     requires no_module { running_module (kernel_of m.old) ≡ none }
     ensures leaves { Leaves m.old m.new (served line (kernel_of m.old) r.now) }
@@ -91,7 +91,7 @@ fn serve(m: &mut FlatMem, r: &Regs, line: u8)
 
 /// The same where nothing was interrupted.
 fn serve_idle(m: &mut FlatMem, line: u8)
-    requires ready { IsReady m.old }
+    requires ready { MayTurn m.old }
     requires number { line < 14 }
     requires none_runs { NoneRuns (kernel_of m.old) }
     ensures leaves { Leaves m.old m.new (if line == 0 then ticked (kernel_of m.old) else woken_line (kernel_of m.old) line) }

@@ -31,7 +31,7 @@ ghost use Rattle.node_model.specs.Steps.{
 };
 ghost use Rattle.node_model.specs.Systems.{System};
 ghost use Rattle.retos_node.specs.Cases.{Gives, GivesRaised, IsAtEntry, StandsForOne, line_to_accept};
-ghost use Rattle.retos_node.specs.Turns.{HasRow, IsReady};
+ghost use Rattle.retos_node.specs.Turns.{HasRow, MayTurn};
 
 use crate::entries::entry;
 use crate::routines::vector;
@@ -70,9 +70,9 @@ const LAST_ENTRY: u16 = 0xF026;
 const IDLE: u16 = 0xF07E;
 
 /// The routines of the first and of the last line.
-const FIRST_ROUTINE: u16 = 0xF080;
+pub(crate) const FIRST_ROUTINE: u16 = 0xF080;
 
-const LAST_ROUTINE: u16 = 0xF09A;
+pub(crate) const LAST_ROUTINE: u16 = 0xF09A;
 
 /// How many instructions a module may run in one call.
 const MOST_INSTRUCTIONS: u16 = 4096;
@@ -146,14 +146,12 @@ fn by_case(m: &mut FlatMem, r: &mut Regs, moment: Moment) -> Record
 /// What holds of the memory and the registers of a sound system.
 fn memory_is_ready(m: &FlatMem, r: &Regs, moment: Moment)
     requires { StandsForOne m.now r.now moment.step }
-    ensures ready { IsReady m.now }
+    ensures ready { MayTurn m.now }
     ensures settled { IsSettled m.now }
 {
     memory_is_shown();
     modules_are_known();
-    let _ = m;
-    let _ = r;
-    let _ = moment;
+    let _ = (m, r, moment);
 }
 
 /// An interrupt of a line is accepted, which isn't pending any more.
@@ -240,9 +238,7 @@ fn has_a_row(m: &FlatMem, r: &Regs, moment: Moment)
 {
     steps_are_safe();
     rowless_is_not_confined();
-    let _ = m;
-    let _ = r;
-    let _ = moment;
+    let _ = (m, r, moment);
 }
 
 /// No module runs at a routine.
@@ -252,10 +248,7 @@ fn no_module_runs(m: &FlatMem, r: &Regs, line: u8, moment: Moment)
     ensures { running_module (kernel_of m.now) ≡ none }
 {
     steps_are_safe();
-    let _ = m;
-    let _ = r;
-    let _ = line;
-    let _ = moment;
+    let _ = (m, r, line, moment);
 }
 
 /// The turn of a line's routine.

@@ -13,7 +13,7 @@ ghost use Rattle.node_model.specs.Steps.{over_budget};
 ghost use Rattle.trace_model.specs.declared.records.Record.{Record};
 ghost use Rattle.trace_model.specs.declared.records.Record.TheVariants as told;
 ghost use Rattle.retos_node.specs.Codes.{answer_number};
-ghost use Rattle.retos_node.specs.Turns.{DispatchesFrom, Does, IsReady, TurnsBy};
+ghost use Rattle.retos_node.specs.Turns.{DispatchesFrom, Does, MayTurn, TurnsBy};
 
 use flat_mem::FlatMem;
 use kernel_modules::end_module;
@@ -211,7 +211,7 @@ pub fn faults(m: &mut FlatMem, r: &mut Regs, kind: FaultKind, value: u16, moment
 
 /// The running module has run as many instructions in one call as it may, and ends.
 pub fn budget_fault(m: &mut FlatMem, r: &mut Regs, moment: Moment) -> Record
-    requires ready { IsReady m.old }
+    requires ready { MayTurn m.old }
     requires module_runs { running_module (kernel_of m.old) ≢ none }
     ensures { TurnsBy m.old m.new r.old r.new moment result over_budget }
 {

@@ -46,8 +46,7 @@ fn run_plain(m: &mut FlatMem, r: &mut Regs, instr: &Instr, words: u8, moment: Mo
     ensures { Gives m.old m.new r.old r.new moment (plain_record m.old r.old instr.now words moment.step) }
 {
     instruction_law();
-    let _ = moment;
-    let _ = exec(m, r, instr, words);
+    let _ = (moment, exec(m, r, instr, words));
 }
 
 impl Node {
@@ -84,8 +83,7 @@ impl Node {
         memory_is_shown();
         raised_is_shown();
         nodes_are_sound();
-        let _ = objects;
-        let _ = raised;
+        let _ = (objects, raised);
         let step = self.steps + 1;
         let moment = Moment { step, pick };
         run_plain(&mut self.mem, &mut self.regs, instr, words, moment);
