@@ -3,7 +3,6 @@ use Rattle.std.proofs.Common.{◌≡◌, ◌≢◌, ℕ, ◌*◌, ◌≤◌, ◌
 use Rattle.std.specs.Prelude.{IfOk}
 use Rattle.std.proofs.lemmas.List.{append_assoc, length-append}
 use Rattle.code_model.specs.declared.object.Object.{Object}
-use Rattle.object_form.specs.Spelling.{text_of, object_bytes}
 use Rattle.code_model.specs.Fields.{fields}
 use Rattle.code_model.specs.declared.verdict.Verdict.TheVariants.{Refused}
 use Rattle.code_model.specs.Verdicts.{AllSpelled, IsVerdict}
@@ -168,15 +167,11 @@ of_answer o P holds (Ok q) is = holds q is
 of_answer o P holds (Err (At k x)) is = tt
 of_answer o P holds (Err Memory) is = tt
 
-same_bytes : (p q : Object) → fields p ≡ fields q → object_bytes p ≡ object_bytes q
-unfolding object_bytes
-same_bytes p q e = ap text_of e
-
-pub one_answer : (o : Object) → OneVerdict → ((p q : Object) → object_bytes p ≡ object_bytes q → p ≡ q) → (a b : Result Object InsertFault) → IsAnswer o a → IsAnswer o b → SameAnswer a b
-one_answer o one text (Err Memory) b ha hb = tt
-one_answer o one text (Ok p) (Err Memory) ha hb = tt
-one_answer o one text (Err (At k x)) (Err Memory) ha hb = tt
-one_answer o one text (Ok p) (Ok q) ha hb = text p q (same_bytes p q (ha.is ∙ sym hb.is))
-one_answer o one text (Ok p) (Err (At j y)) ha hb = not_inserted o p j y ha (sort o j y hb)
-one_answer o one text (Err (At k x)) (Ok q) ha hb = not_inserted o q k x hb (sort o k x ha)
-one_answer o one text (Err (At k x)) (Err (At j y)) ha hb = same_sorts o k x j y one (sort o k x ha) (sort o j y hb)
+pub one_answer : (o : Object) → OneVerdict → ((p q : Object) → fields p ≡ fields q → p ≡ q) → (a b : Result Object InsertFault) → IsAnswer o a → IsAnswer o b → SameAnswer a b
+one_answer o one same (Err Memory) b ha hb = tt
+one_answer o one same (Ok p) (Err Memory) ha hb = tt
+one_answer o one same (Err (At k x)) (Err Memory) ha hb = tt
+one_answer o one same (Ok p) (Ok q) ha hb = same p q (ha.is ∙ sym hb.is)
+one_answer o one same (Ok p) (Err (At j y)) ha hb = not_inserted o p j y ha (sort o j y hb)
+one_answer o one same (Err (At k x)) (Ok q) ha hb = not_inserted o q k x hb (sort o k x ha)
+one_answer o one same (Err (At k x)) (Err (At j y)) ha hb = same_sorts o k x j y one (sort o k x ha) (sort o j y hb)

@@ -15,16 +15,15 @@ ghost use Rattle.check_inserter.specs.Read.{IsSource};
 ghost use Rattle.check_inserter.specs.Places.{IsLaid};
 
 use crate::faults::first_fault;
+use crate::laws::one_answer;
 use crate::laying::{Laid, lay};
 use crate::moving::{all_relocs, moved_bytes, moved_exports, moved_words, place_of};
 use crate::source::read_lines;
 use crate::starts::starts;
-use code_laws::one_verdict;
 use code_model::object::Object;
 use insert_laws::{inserted_is_accepted, lines_are_spelled, starts_are_pieces, verdict_accepts};
 use insert_model::fault::InsertFault;
 use insert_model::line::Line;
-use object_form::laws::one_object_has_a_text;
 use placed_unit_laws::{call_pushes, source_place_hidden, unit_ends, unit_stands};
 use std::alloc::Global;
 
@@ -54,8 +53,7 @@ pub fn insert(alloc: Global, o: &Object) -> Result<Object, InsertFault>
     ensures stand { IfOk result (λ q. UnitsStand o.now q) }
     ensures anywhere { IfOk result (λ q. SourcesHide o.now q) }
 {
-    one_verdict();
-    one_object_has_a_text();
+    one_answer();
     inserted_is_accepted();
     verdict_accepts();
     unit_ends();

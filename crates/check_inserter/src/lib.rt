@@ -3,7 +3,7 @@
 //! It stands on the decoder and the encoder, on objects (`object_form`), on what the checker asks of instructions
 //! (`static_checker`) and on the definitions of `insert_model`, which say what the unit of each source instruction is, what
 //! object the units make, and what is wrong with a source object. The layers above call `insert`: its answer is that object
-//! or the first fault with its offset, and no other answer is.
+//! or the first fault with its offset, and no other answer is. `laws` has that an object has one answer, for callers.
 //!
 //! The inserter reads the instructions once as lines (`source`), looks for the first fault (`faults`), lays the units of the
 //! lines one after another and keeps where each source word's unit stands (`laying`), and then gives the words, the
@@ -16,6 +16,7 @@ mod forbidden;
 mod forms;
 mod guards;
 mod inserter;
+pub mod laws;
 mod laying;
 mod moving;
 mod operands;

@@ -1,5 +1,6 @@
 pub mod Form
 pub mod Fields
+pub mod Marks
 pub mod Starts
 pub mod Relocs
 pub mod Guards

@@ -3,6 +3,7 @@
 ghost use Rattle.std.specs.Prelude.{◌≡◌, ◌≢◌, ℕ, ◌+◌, ◌*◌, ◌/◌, ◌%◌, ◌^◌, ◌<◌, ◌↔◌, IsTrue, List, length, replicate};
 ghost use Rattle.std.specs.Int.{bit_at};
 ghost use Rattle.kernel_model.specs.Bitmap.{Has};
+ghost use Rattle.code_model.specs.Marks.{AreMarks};
 
 use std::marker::Model;
 
@@ -48,7 +49,20 @@ impl Marks {
         let word = usize::from(offset / 2);
         has_bit(self.bytes[word / 8], word % 8)
     }
+
+    /// What holds of all marks: they are a bitmap.
+    pub fn is_bitmap(&self)
+        ensures { AreMarks self.now }
+    {
+        are_marks(&self.bytes);
+    }
 }
+
+/// So many bytes are marks.
+fn are_marks(bytes: &[u8])
+    requires { length bytes.now ≡ 1024 }
+    ensures { AreMarks bytes.now }
+{}
 
 /// The byte with one more bit.
 fn with_bit(byte: u8, bit: usize) -> u8

@@ -1,6 +1,5 @@
 -- The laws of objects' texts.
-use Rattle.std.proofs.Common.{◌≡◌, ℕ, List, Option, None, refl, ap, sym, subst, ◌∙◌}
-use Rattle.std.proofs.Props.{props}
+use Rattle.std.proofs.Common.{◌≡◌, ℕ, List, Option, None, refl, ap, sym, ◌∙◌}
 use Rattle.code_model.specs.declared.object.Object.{Object}
 use Rattle.object_form.specs.Spelling.{object_bytes}
 use Rattle.code_model.specs.Fields.{Fields, fields, Meets}
@@ -16,12 +15,6 @@ pub object-has_no_fault : (o : Object) → first_form_fault (object_bytes o) ≡
 unfolding object_bytes
 object-has_no_fault o = written-has_no_fault (fields o) o.form
 
--- to meet the form is one fact at most
-meets-once : (f : Fields) (m n : Meets f) → m ≡ n
-meets-once f =
-    let once : IsProp (Meets f) = hlevel props in
-    once
-
 -- the object of these fields
 abbrev pub object_of : (f : Fields) → Meets f → Object
 object_of f m = record { kind = f.kind; version = f.version; code = f.code; init = f.init; zeroed = f.zeroed; stack = f.stack; threads = f.threads; entry = f.entry; relocs = f.relocs; exports = f.exports; form = m }
@@ -29,12 +22,6 @@ object_of f m = record { kind = f.kind; version = f.version; code = f.code; init
 pub fields-same_text : (a b : Object) → object_bytes a ≡ object_bytes b → fields a ≡ fields b
 unfolding object_bytes
 fields-same_text a b e = sym (fields-written (fields a)) ∙ ap fields_in e ∙ fields-written (fields b)
-
-pub object-same : (a b : Object) → object_bytes a ≡ object_bytes b → a ≡ b
-object-same a b e =
-    let P : Fields → Type 0 = λ f. (m : Meets f) → a ≡ object_of f m in
-    let here : P (fields a) = λ m. ap (object_of (fields a)) (meets-once (fields a) a.form m) in
-    subst P (fields-same_text a b e) here b.form
 
 pub object-of_text : (t : List ℕ) → AreBytes t → first_form_fault t ≡ None → (o : Object) × (t ≡ object_bytes o)
 unfolding object_bytes fields_in

@@ -7,6 +7,8 @@ ghost use Rattle.code_model.specs.Fields.{fields};
 ghost use Rattle.object_form.specs.Reading.{fields_in};
 ghost use Rattle.object_form.specs.Faults.{first_form_fault};
 
+use code_model::laws::same_fields_same_object;
+
 /// No object's text has a fault.
 pub fn objects_have_no_fault()
     ensures { (o : Object) → first_form_fault (object_bytes o) ≡ None }
@@ -15,7 +17,9 @@ pub fn objects_have_no_fault()
 /// A text is one object's at most.
 pub fn one_object_has_a_text()
     ensures { (a b : Object) → object_bytes a ≡ object_bytes b → a ≡ b }
-{}
+{
+    same_fields_same_object();
+}
 
 /// A text of bytes without fault is an object's.
 pub fn no_fault_means_an_object()

@@ -9,6 +9,7 @@ ghost use Rattle.object_form.specs.Given.{AreRead};
 use super::entries::{Sizes, read_exports, read_relocs};
 use super::fault::{FormFault, FormKind};
 use super::head::{Head, read_head, wrong};
+use super::laws::one_object_has_a_text;
 use super::sections::read_sections;
 use code_model::lists::{CodeWords, Exports, Relocs};
 use code_model::object::Object;
@@ -65,6 +66,7 @@ pub fn read_object(alloc: Global, text: &[u8]) -> Result<Object, FormFault>
         (λ _. first_form_fault text.now ≡ None)
         (λ e. Names e (first_form_fault text.now)) }
 {
+    one_object_has_a_text();
     let Parts {
         head,
         code,

@@ -1,10 +1,10 @@
 use Rattle.insert_laws.specs.Laws.{IsAcceptable, PiecesStand}
 use Rattle.placed_unit_laws.specs.Ends.{UnitsEnd, CallsPush, UnitsStand, SourcesHide}
-use Rattle.check_inserter.proofs.Answering.{of_answer, one_answer}
+use Rattle.check_inserter.proofs.Answering.{of_answer}
 use Rattle.check_inserter.proofs.inserter.insert.Goals as goal
 
 pub returns-clause-only : goal.returns-clause-only
-returns-clause-only c answer is = one_answer c.args.o.now c.one_verdict.ensures c.one_object_has_a_text.ensures c.inserted.result answer c.inserted.ensures is
+returns-clause-only c answer is = c.one_answer.ensures c.args.o.now c.inserted.result answer c.inserted.ensures is
 
 pub returns-clause-accepted : goal.returns-clause-accepted
 returns-clause-accepted c = of_answer c.args.o.now IsAcceptable (c.inserted_is_accepted.ensures c.args.o.now) c.inserted.result c.inserted.ensures

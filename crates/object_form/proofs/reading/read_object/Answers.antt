@@ -3,7 +3,7 @@ use Rattle.std.proofs.lemmas.Result.{err_from_is_err_and}
 use Rattle.object_form.specs.Spelling.{object_bytes}
 use Rattle.object_form.specs.Faults.{first_form_fault}
 use Rattle.object_form.proofs.Named.{read-meets, read-text}
-use Rattle.object_form.proofs.Objects.{object-has_no_fault, object-same, only-memory}
+use Rattle.object_form.proofs.Objects.{object-has_no_fault, only-memory}
 use Rattle.object_form.proofs.reading.read_object.Goals as goal
 
 pub returns-in_err-head-clause-only : goal.returns-in_err-head-clause-only
@@ -20,4 +20,4 @@ returns-clause-found c = read-text c.args.text.now _ (λ i. omega (arith, c.type
 
 pub returns-clause-only : goal.returns-clause-only
 unfolding object_bytes
-returns-clause-only c = λ o text. object-same _ o (sym (read-text c.args.text.now _ (λ i. omega (arith, c.type_inv.text i)) c.in_ok-head.ensures) ∙ text)
+returns-clause-only c = λ o text. c.one_object_has_a_text.ensures _ o (sym (read-text c.args.text.now _ (λ i. omega (arith, c.type_inv.text i)) c.in_ok-head.ensures) ∙ text)
