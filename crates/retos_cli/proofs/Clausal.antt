@@ -12,7 +12,7 @@ use Rattle.retos_cli.specs.declared.outcome.Status.{Status}
 use Rattle.retos_cli.specs.declared.outcome.Status.TheVariants as status
 use Rattle.retos_cli.specs.declared.outcome.Refused.{Refused as Refusing}
 use Rattle.retos_cli.specs.Lines.{words_line, write_line, memory_line, read_line, refused_line}
-use Rattle.retos_cli.specs.Meaning.{IsRefused, IsPrinted, IsRefusal, IsFirstRefusal, IsDone, IsOutput, Output, inputs, written, status_by, refused_answer, done_answer, HasOneAnswer}
+use Rattle.retos_cli.specs.Meaning.{IsRefused, IsPrinted, IsRefusal, IsFirstRefusal, IsDone, IsOutput, Output, written, status_by, refused_answer, done_answer, HasOneAnswer}
 use Rattle.retos_cli.specs.Ends.{Told, EndedBy, Finished, CutShort, CutAt, StoppedFor, Printed, line_of, status_of}
 use Rattle.retos_cli.specs.Clauses.{Call, IsOutputOf, OutputClause, RefusedClause, ReadFaultClause, NoMemoryClause, WriteFaultClause, CompleteClause, NoCommandClause, OneAnswerClause, LineFor, IsLeft, IsUnwritten, IsReadLine, IsWriteFault, IsCut, Nothing, OfOutput, OfWrites, OfStatus, HasStatus}
 use Rattle.retos_cli.proofs.Told.{told_map, told_all}

@@ -1,5 +1,5 @@
 -- The words and the files have one answer.
-use Rattle.std.proofs.Common.{◌≡◌, ℕ, ◌⊎◌, Bool, nat_lt, List, [], ◌∷◌, ◌++◌, length, Some, None, Ok, Err, refl, ap, sym, subst, ◌∙◌, inl, inr}
+use Rattle.std.proofs.Common.{◌≡◌, ℕ, Bool, nat_lt, List, [], ◌∷◌, ◌++◌, length, Some, None, Ok, refl, ap, sym, subst, ◌∙◌, inl, inr}
 use Rattle.std.specs.declared.option.Option.{Option}
 use Rattle.edge_io.specs.Known.{Files, held}
 use Rattle.code_model.specs.declared.object.Object.{Object}
@@ -24,7 +24,7 @@ use Rattle.retos_cli.specs.declared.outcome.Status.{Status}
 use Rattle.retos_cli.specs.Words.{word}
 use Rattle.retos_cli.specs.Lines.{refused_line, accepted_lines, assembled_line, inserted_line, generated_line}
 use Rattle.retos_cli.specs.Meaning.{Input, AsksCheck, Taken, AreTaken, IsTaken, IsTakenAs, Refuses, IsScriptOf, IsSupplied, IsUnplaced, LacksRoom, IsFirstRefused, IsFirstRefusal, form_by, named_inputs, behind_script, inputs, job_inputs, Output, job_text, has_faulted, IsRunOutput, IsCheckOutput, IsAsmOutput, IsInsertOutput, IsGenOutput, IsGenerated, generated_run, IsOutput, IsRefusal, IsDone, Answer, IsAnswer, IsRefused, IsPrinted, refused_answer, done_answer, HasOneAnswer}
-use Rattle.retos_cli.proofs.OneInput.{Laws, same_some, same_ok, same_err, not_ok, not_refused, same_cause, one_units, one_loadable, one_taken, one_assembled, one_inserted, one_guarded, one_script}
+use Rattle.retos_cli.proofs.OneInput.{Laws, same_ok, same_err, not_ok, not_refused, same_cause, one_units, one_loadable, one_taken, one_assembled, one_inserted, one_guarded, one_script}
 
 -- ---- refusals and outputs by their parts
 

@@ -1,7 +1,7 @@
 -- The clauses of the top call: what each status says of the folder and the two sinks.
 use Rattle.std.specs.Prelude.{◌≡◌, ℕ, ◌⊎◌, List, [], ◌∷◌, Some, None, Ok}
 use Rattle.std.specs.declared.option.Option.{Option}
-use Rattle.edge_io.specs.Known.{Files, FolderState, SinkState, appended, held, GotPrefix}
+use Rattle.edge_io.specs.Known.{Files, FolderState, SinkState, appended, GotPrefix}
 use Rattle.edge_io.specs.Causes.{Rose, Still}
 use Rattle.retos_cli.specs.declared.command.Command.{Command}
 use Rattle.retos_cli.specs.declared.command.Command.TheVariants.{Run, Check, Asm, Insert, Gen}
