@@ -1,6 +1,6 @@
 -- The numbers of a command are in their ranges.
-use Rattle.std.proofs.Common.{◌≡◌, ℕ, ◌+◌, ◌*◌, ◌-◌, ◌≤◌, Bool, true, false, cond, ◌&&◌, nat_le, ◌==◌, List, [], ◌∷◌, length, drop, Some, None, refl, sym, subst, arith, bytes_eq, codes, slice_index}
-use Rattle.std.proofs.lemmas.Bool.{leb-true, eqb-true, and_parts}
+use Rattle.std.proofs.Common.{◌≡◌, ℕ, ◌+◌, ◌≤◌, Bool, true, false, cond, ◌&&◌, nat_le, ◌==◌, List, [], ◌∷◌, length, drop, Some, None, refl, sym, subst, arith, bytes_eq, codes}
+use Rattle.std.proofs.lemmas.Bool.{leb-true, and_parts}
 use Rattle.std.proofs.lemmas.List.{length-drop}
 use Rattle.std.specs.Option.{option_map, option_and_then}
 use Rattle.std.specs.declared.option.Option.{Option}
@@ -8,7 +8,7 @@ use Rattle.std.specs.Str.Parse.{digits_value}
 use Rattle.trace_model.specs.Grammar.{is_decimal, number_in}
 use Rattle.retos_node.specs.declared.node.Show.{Show}
 use Rattle.retos_cli.specs.declared.command.Command.{Command}
-use Rattle.retos_cli.specs.declared.command.Command.TheVariants.{Run, Check, Asm, Insert, Gen}
+use Rattle.retos_cli.specs.declared.command.Command.TheVariants.{Check, Asm, Insert, Gen}
 use Rattle.retos_cli.specs.Words.{word}
 use Rattle.retos_cli.specs.Commands.{is_name, name_of, names_of, steps_of, seed_of, show_of, solo_job, run_job, solo_from, run_from, behind_options, solo_of, run_of, check_of, asm_of, insert_of, gen_of, command_of}
 use Rattle.retos_cli.specs.Bounds.{IsBounded, IsBoundedIfSome}

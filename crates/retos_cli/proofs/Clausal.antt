@@ -12,9 +12,9 @@ use Rattle.retos_cli.specs.declared.outcome.Status.{Status}
 use Rattle.retos_cli.specs.declared.outcome.Status.TheVariants as status
 use Rattle.retos_cli.specs.declared.outcome.Refused.{Refused as Refusing}
 use Rattle.retos_cli.specs.Lines.{words_line, write_line, memory_line, read_line, refused_line}
-use Rattle.retos_cli.specs.Meaning.{IsRefused, IsPrinted, IsRefusal, IsFirstRefusal, IsDone, IsOutput, Output, inputs, written, status_by, refused_answer, done_answer}
+use Rattle.retos_cli.specs.Meaning.{IsRefused, IsPrinted, IsRefusal, IsFirstRefusal, IsDone, IsOutput, Output, written, status_by, refused_answer, done_answer, HasOneAnswer}
 use Rattle.retos_cli.specs.Ends.{Told, EndedBy, Finished, CutShort, CutAt, StoppedFor, Printed, line_of, status_of}
-use Rattle.retos_cli.specs.Clauses.{Call, IsOutputOf, OutputClause, RefusedClause, ReadFaultClause, NoMemoryClause, WriteFaultClause, CompleteClause, NoCommandClause, LineFor, IsLeft, IsUnwritten, IsReadLine, IsWriteFault, IsCut, Nothing, OfOutput, OfWrites, OfStatus, HasStatus}
+use Rattle.retos_cli.specs.Clauses.{Call, IsOutputOf, OutputClause, RefusedClause, ReadFaultClause, NoMemoryClause, WriteFaultClause, CompleteClause, NoCommandClause, OneAnswerClause, LineFor, IsLeft, IsUnwritten, IsReadLine, IsWriteFault, IsCut, Nothing, OfOutput, OfWrites, OfStatus, HasStatus}
 use Rattle.retos_cli.proofs.Told.{told_map, told_all}
 
 injected : (a b : Command) → Some a ≡ Some b → a ≡ b
@@ -31,6 +31,13 @@ refusal-is c m r h = (refl, (r, h, refl))
 bad-words-is : (m : Files) → IsRefusal None m status.BadWords words_line
 unfolding IsRefusal
 bad-words-is m = (refl, refl)
+
+-- words have one answer
+abbrev OneAnswer : Type 0
+OneAnswer = (c : Option Command) (m : Files) → HasOneAnswer c m
+
+pub one_answer_clause : (call : Call) → OneAnswer → OneAnswerClause call
+one_answer_clause call one = told_all call.f0.files (HasOneAnswer call.command) (λ m s. one call.command m)
 
 -- a count that rose isn't still
 moved : (a b : ℕ) → Rose a b → Still a b → ⊥
@@ -56,9 +63,10 @@ module _ (f0 f1 : FolderState) (o0 o1 e0 e1 : SinkState) where
 
   -- ---- the output
 
-  output-of : (c : Command) (faulted : Bool) → Finished c f0 f1 o0 o1 faulted → e1 ≡ e0 → Told f0.files (IsOutputOf (call-with (Some c)) (status_by faulted))
-  output-of c faulted h e = told_map f0.files (Written c faulted) (IsOutputOf (call-with (Some c)) (status_by faulted))
+  output-of : (c : Command) (faulted : Bool) → OneAnswer → Finished c f0 f1 o0 o1 faulted → e1 ≡ e0 → Told f0.files (IsOutputOf (call-with (Some c)) (status_by faulted))
+  output-of c faulted one h e = told_map f0.files (Written c faulted) (IsOutputOf (call-with (Some c)) (status_by faulted))
       (λ m s t. record {
+        unrefused = λ given line r. (one (Some c) m).apart given line t.0 r (done-is c m t.0 t.1);
         x = t.0;
         done = done-is c m t.0 t.1;
         out = t.3;
@@ -67,20 +75,20 @@ module _ (f0 f1 : FolderState) (o0 o1 e0 e1 : SinkState) where
         status = same-status t.0.faulted faulted t.2;
       }) h.told
 
-  output-whole : (c : Option Command) (o : Outcome) → Came c o → Whole (line_of o) → OutputClause (call-with c) (status_of o)
-  output-whole (Some c) (outcome.Done true) h w = output-of c true h w
-  output-whole (Some c) (outcome.Done false) h w = output-of c false h w
-  output-whole (Some c) outcome.BadWords h w = absurd h
-  output-whole (Some c) (outcome.Stopped (stop.Refuse r)) h w = tt
-  output-whole (Some c) (outcome.Stopped (stop.ReadFault n)) h w = tt
-  output-whole (Some c) (outcome.Stopped stop.NoMemory) h w = tt
-  output-whole (Some c) outcome.WriteFault h w = tt
-  output-whole None (outcome.Done b) h w = absurd h
-  output-whole None outcome.BadWords h w = tt
-  output-whole None (outcome.Stopped (stop.Refuse r)) h w = absurd h
-  output-whole None (outcome.Stopped (stop.ReadFault n)) h w = absurd h
-  output-whole None (outcome.Stopped stop.NoMemory) h w = tt
-  output-whole None outcome.WriteFault h w = absurd h
+  output-whole : (c : Option Command) (o : Outcome) → OneAnswer → Came c o → Whole (line_of o) → OutputClause (call-with c) (status_of o)
+  output-whole (Some c) (outcome.Done true) one h w = output-of c true one h w
+  output-whole (Some c) (outcome.Done false) one h w = output-of c false one h w
+  output-whole (Some c) outcome.BadWords one h w = absurd h
+  output-whole (Some c) (outcome.Stopped (stop.Refuse r)) one h w = tt
+  output-whole (Some c) (outcome.Stopped (stop.ReadFault n)) one h w = tt
+  output-whole (Some c) (outcome.Stopped stop.NoMemory) one h w = tt
+  output-whole (Some c) outcome.WriteFault one h w = tt
+  output-whole None (outcome.Done b) one h w = absurd h
+  output-whole None outcome.BadWords one h w = tt
+  output-whole None (outcome.Stopped (stop.Refuse r)) one h w = absurd h
+  output-whole None (outcome.Stopped (stop.ReadFault n)) one h w = absurd h
+  output-whole None (outcome.Stopped stop.NoMemory) one h w = tt
+  output-whole None outcome.WriteFault one h w = absurd h
 
   -- ---- the lines
 
@@ -264,8 +272,8 @@ module _ (f0 f1 : FolderState) (o0 o1 e0 e1 : SinkState) where
       cut-same a b x = cc x
 
   module _ (c : Option Command) (o : Outcome) (given : Status) (h : Came c o) (p : Printed (line_of o) (status_of o) e0 e1 given) where
-    pub output_clause : OutputClause (call-with c) given
-    output_clause = by-printed (line_of o) (status_of o) given (OutputClause (call-with c)) (output-whole c o h) (λ l e r g. tt) p
+    pub output_clause : OneAnswer → OutputClause (call-with c) given
+    output_clause one = by-printed (line_of o) (status_of o) given (OutputClause (call-with c)) (output-whole c o one h) (λ l e r g. tt) p
 
     pub refused_clause : RefusedClause (call-with c) given
     refused_clause = by-printed (line_of o) (status_of o) given (RefusedClause (call-with c)) (refused-whole c o h) (λ l e r g. tt) p

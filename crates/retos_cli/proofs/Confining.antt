@@ -1,5 +1,5 @@
 -- The run of objects that are taken is confined.
-use Rattle.std.proofs.Common.{◌≡◌, ℕ, zero, suc, ◌≤◌, List, [], ◌∷◌, slice_get, Some, None, Ok, subst, arith}
+use Rattle.std.proofs.Common.{◌≡◌, ℕ, zero, suc, List, [], ◌∷◌, Some, None, subst, arith}
 use Rattle.std.specs.declared.option.Option.{Option}
 use Rattle.edge_io.specs.Known.{Files}
 use Rattle.code_model.specs.Verdicts.{IsAccepted}
@@ -7,7 +7,6 @@ use Rattle.load_model.specs.Loading.{Loadable}
 use Rattle.trace_model.specs.declared.scripts.Script.{Script}
 use Rattle.trace_model.specs.Grammar.{empty_script}
 use Rattle.node_model.specs.Nodes.{IsFitting, BootedRunLaw}
-use Rattle.retos_cli.specs.declared.command.Job.{Job}
 use Rattle.retos_cli.specs.declared.command.Command.{Command}
 use Rattle.retos_cli.specs.declared.command.Command.TheVariants.{Run, Check, Asm, Insert, Gen}
 use Rattle.retos_cli.specs.declared.form.Form.{Form}

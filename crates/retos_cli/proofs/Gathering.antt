@@ -1,5 +1,5 @@
 -- Inputs that are taken one by one, and the lines of objects.
-use Rattle.std.proofs.Common.{◌≡◌, ℕ, ◌<◌, ◌≤◌, ◌+◌, List, [], ◌∷◌, ◌++◌, length, drop, zero, suc, slice_get, Some, None, Ok, Err, refl, ap, sym, subst, ◌∙◌, inl, inr, append_assoc, codes, decimal, arith}
+use Rattle.std.proofs.Common.{◌≡◌, ℕ, ◌<◌, ◌≤◌, ◌+◌, List, [], ◌∷◌, ◌++◌, length, drop, zero, suc, slice_get, Some, Ok, Err, refl, ap, sym, subst, ◌∙◌, inl, inr, append_assoc, codes, decimal, arith}
 use Rattle.std.specs.declared.option.Option.{Option}
 use Rattle.std.proofs.Math.Seq.{drop-cons}
 use Rattle.std.proofs.lemmas.Option.{unwrap_or-slice_get, get_or_from_slice_get, slice_get_within}

@@ -1,6 +1,5 @@
 -- What the command `gen` comes to.
-use Rattle.std.proofs.Common.{◌≡◌, ℕ, ◌⊎◌, Bool, nat_lt, List, [], ◌∷◌, ◌++◌, length, slice_get, Some, Ok, Err, refl, ap, sym, subst, ◌∙◌}
-use Rattle.std.specs.declared.option.Option.{Option}
+use Rattle.std.proofs.Common.{◌≡◌, ℕ, Bool, nat_lt, List, [], ◌∷◌, ◌++◌, length, slice_get, Some, Ok, refl, ap, sym, subst, ◌∙◌}
 use Rattle.edge_io.specs.Known.{Files, FolderState, SinkState, appended, put}
 use Rattle.code_model.specs.declared.object.Object.{Object}
 use Rattle.object_form.specs.Spelling.{object_bytes}
@@ -19,7 +18,7 @@ use Rattle.retos_cli.specs.declared.generating.Made.{Made}
 use Rattle.retos_cli.specs.declared.outcome.Outcome.TheVariants.{Done, WriteFault}
 use Rattle.retos_cli.specs.Lines.{generated_line}
 use Rattle.retos_cli.specs.Meaning.{Output, IsOutput, generated_steps, generated_run, written}
-use Rattle.retos_cli.specs.Ends.{Told, Ended, CutAt, FileCut}
+use Rattle.retos_cli.specs.Ends.{Ended, CutAt, FileCut}
 use Rattle.retos_cli.specs.Writing.{LineCut}
 use Rattle.retos_cli.specs.Generating.{HasRun, IsMade}
 use Rattle.retos_cli.specs.Tracing.{faults_of}

@@ -4,7 +4,7 @@ use Rattle.code_model.specs.declared.object.Object.{Object}
 use Rattle.object_form.specs.declared.fault.FormKind.{FormKind}
 use Rattle.object_form.specs.Spelling.{object_bytes}
 use Rattle.object_form.specs.Faults.{first_form_fault}
-use Rattle.code_model.specs.Verdicts.{IsAccepted, IsVerdict}
+use Rattle.code_model.specs.Verdicts.{IsVerdict}
 use Rattle.code_model.specs.declared.verdict.Verdict.TheVariants as verdict
 use Rattle.asm_model.specs.declared.fault.AsmKind.{AsmKind}
 use Rattle.asm_model.specs.FirstPass.{fault}

@@ -9,6 +9,8 @@ pub mod Guarding
 pub mod Inputs
 pub mod Joined
 pub mod Judgments
+pub mod OneAnswer
+pub mod OneInput
 pub mod Pieces
 pub mod Runs
 pub mod Sources

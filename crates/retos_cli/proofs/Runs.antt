@@ -1,5 +1,5 @@
 -- What running objects comes to.
-use Rattle.std.proofs.Common.{◌≡◌, ℕ, zero, suc, ◌<◌, ◌≤◌, ◌+◌, Bool, true, false, nat_lt, List, [], ◌∷◌, ◌++◌, length, Some, None, Ok, Err, refl, ap, sym, subst, ◌∙◌, inl, inr, arith}
+use Rattle.std.proofs.Common.{◌≡◌, ℕ, ◌<◌, ◌+◌, Bool, false, nat_lt, List, [], ◌∷◌, length, Some, None, Ok, Err, refl, ap, sym, subst, ◌∙◌, inl, inr, arith}
 use Rattle.std.specs.declared.option.Option.{Option}
 use Rattle.std.specs.declared.result.Result.{Result}
 use Rattle.edge_io.specs.Known.{Files, FolderState, SinkState, appended, GotPrefix}
@@ -22,7 +22,7 @@ use Rattle.retos_node.specs.declared.node.BootFault.TheVariants as boot_fault
 use Rattle.retos_node.specs.Parts.{parts, IsBootFault, IsRunEnd, RunsTo, RunsUpTo}
 use Rattle.retos_cli.specs.declared.command.Job.{Job}
 use Rattle.retos_cli.specs.declared.command.Command.{Command}
-use Rattle.retos_cli.specs.declared.command.Command.TheVariants.{Run, Check, Asm, Insert}
+use Rattle.retos_cli.specs.declared.command.Command.TheVariants.{Run, Check}
 use Rattle.retos_cli.specs.declared.form.Form.{Form}
 use Rattle.retos_cli.specs.declared.form.Form.TheVariants.{Checked, Script as Scripted}
 use Rattle.retos_cli.specs.declared.outcome.Outcome.{Outcome}
@@ -36,7 +36,7 @@ use Rattle.retos_cli.specs.Lines.{accepted_lines}
 use Rattle.retos_cli.specs.Meaning.{Input, Output, AreTaken, IsTaken, IsScriptOf, IsSupplied, IsUnplaced, IsOutput, IsFirstRefused, IsFirstRefusal, IsReached, inputs, job_inputs, named_inputs, behind_script, form_by, job_text, has_faulted, written}
 use Rattle.retos_cli.specs.Tracing.{IsTraced, IsTraceCut, RunEnds, faults_of}
 use Rattle.retos_cli.specs.Ends.{Told, Ended, TextEnds, ScriptEnds, StopCause, CommandStops, InputStops, RefusesInput, OnlyRead, CutAt, IsHeld}
-use Rattle.retos_cli.proofs.Told.{told_map, told_all, told_same, told_both, rose_before, read_more}
+use Rattle.retos_cli.proofs.Told.{told_map, told_all, told_same, told_both, rose_before}
 use Rattle.retos_cli.proofs.Gathering.{refused_here, refused_later, reached_here, reached_later}
 
 -- ---- why inputs end a command

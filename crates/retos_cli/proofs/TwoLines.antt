@@ -1,12 +1,11 @@
 -- A file, and then two lines, each by itself.
-use Rattle.std.proofs.Common.{◌≡◌, ℕ, ◌≤◌, List, ◌++◌, Some, Ok, Err, OnOk, OnErr, inl, ap, subst, ◌∙◌, append_assoc}
+use Rattle.std.proofs.Common.{◌≡◌, ℕ, ◌≤◌, List, ◌++◌, Ok, Err, OnOk, OnErr, inl, ap, subst, ◌∙◌, append_assoc}
 use Rattle.std.specs.declared.option.Option.{Option}
 use Rattle.std.specs.declared.result.Result.{Result}
-use Rattle.std.specs.FinMap.{insert}
 use Rattle.edge_io.specs.Known.{Files, FolderState, SinkState, appended, put, GotPrefix}
-use Rattle.edge_io.specs.Causes.{Rose, HasCause}
+use Rattle.edge_io.specs.Causes.{HasCause}
 use Rattle.edge_io.specs.declared.whole.SinkFault.{SinkFault}
-use Rattle.retos_cli.specs.Ends.{Told, FileCut, AsBefore, OfFile, OfLine}
+use Rattle.retos_cli.specs.Ends.{FileCut, AsBefore, OfFile, OfLine}
 use Rattle.retos_cli.specs.Writing.{LineCut, FileThenLine}
 use Rattle.retos_cli.proofs.Told.{told_map, told_all, rose_before}
 use Rattle.retos_cli.proofs.Pieces.{appended_twice, before_start, before_cut}

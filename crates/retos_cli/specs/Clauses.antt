@@ -1,7 +1,7 @@
 -- The clauses of the top call: what each status says of the folder and the two sinks.
 use Rattle.std.specs.Prelude.{◌≡◌, ℕ, ◌⊎◌, List, [], ◌∷◌, Some, None, Ok}
 use Rattle.std.specs.declared.option.Option.{Option}
-use Rattle.edge_io.specs.Known.{Files, FolderState, SinkState, appended, held, GotPrefix}
+use Rattle.edge_io.specs.Known.{Files, FolderState, SinkState, appended, GotPrefix}
 use Rattle.edge_io.specs.Causes.{Rose, Still}
 use Rattle.retos_cli.specs.declared.command.Command.{Command}
 use Rattle.retos_cli.specs.declared.command.Command.TheVariants.{Run, Check, Asm, Insert, Gen}
@@ -9,7 +9,7 @@ use Rattle.retos_cli.specs.declared.outcome.Status.{Status}
 use Rattle.retos_cli.specs.declared.outcome.Status.TheVariants.{Done, Refused, BadWords, ReadFault, WriteFault, NoMemory, Faulted}
 use Rattle.retos_cli.specs.Commands.{command_of}
 use Rattle.retos_cli.specs.Lines.{words_line, write_line, memory_line, read_line}
-use Rattle.retos_cli.specs.Meaning.{Answer, IsAnswer, IsRefusal, Output, IsDone, status_by, inputs, written, IsReached, IsSupplied, IsGenerated, generated_steps}
+use Rattle.retos_cli.specs.Meaning.{Answer, IsAnswer, IsRefusal, Output, IsDone, HasOneAnswer, status_by, inputs, written, IsReached, IsSupplied, IsGenerated, generated_steps}
 use Rattle.retos_cli.specs.Ends.{Told, CutAt, IsHeld}
 use Rattle.retos_cli.specs.declared.command.Job.{Job}
 use Rattle.code_model.specs.declared.object.Object.{Object}
@@ -36,6 +36,7 @@ call_of folder out err words f0 f1 o0 o1 e0 e1 = record { command = command_of w
 -- ---- statuses 0 and 6: there is no refusal, and all is the output's
 
 pub record IsOutputOf (call : Call) (given : Status) (m : Files) : Type 0 where
+  pub unrefused : (s : Status) (line : List ℕ) → IsRefusal call.command m s line → ⊥
   pub x : Output
   pub done : IsDone call.command m x
   pub out : call.o1.bytes ≡ appended call.o0.bytes x.out
@@ -145,6 +146,12 @@ CompleteClause call given = IsCalm call → Told call.f0.files (λ m. HasStatus 
 -- words that are no command, whatever the folder tells
 abbrev pub NoCommandClause : Call → Status → Type 0
 NoCommandClause call given = call.command ≡ None → (given ≡ BadWords) ⊎ ((given ≡ NoMemory) ⊎ ((given ≡ WriteFault) × Rose call.e0.faults call.e1.faults))
+
+-- ---- one answer
+
+-- the words and the files decide all that is answered
+abbrev pub OneAnswerClause : Call → Type 0
+OneAnswerClause call = Told call.f0.files (HasOneAnswer call.command)
 
 -- ---- confinement
 

@@ -2,6 +2,7 @@
 use Rattle.std.specs.Prelude.{◌≡◌, ℕ, List, [], ◌∷◌, length, Ok}
 use Rattle.code_model.specs.declared.object.Object.{Object}
 use Rattle.code_model.specs.Verdicts.{IsAccepted}
+use Rattle.code_model.specs.Marks.{AreMarks}
 use Rattle.object_form.specs.Spelling.{object_bytes}
 use Rattle.insert_model.specs.Faults.{IsInserted}
 use Rattle.load_model.specs.Loading.{Loadable}
@@ -19,6 +20,7 @@ pub record IsGuardedAlone (source : Object) (objects : List Loadable) : Type 0 w
   pub alone : objects ≡ object ∷ []
   pub gives : IsInserted source object.object
   pub accepted : IsAccepted object.object object.units
+  pub bitmap : AreMarks object.units
 
 -- the objects have room, and this is the end of their run
 pub record HasRun (objects : List Loadable) (end : End) : Type 0 where

@@ -7,6 +7,7 @@ use Rattle.code_model.specs.declared.object.Object.{Object}
 use Rattle.kernel_model.specs.declared.kinds.Kind.TheVariants as kind
 use Rattle.object_form.specs.Spelling.{object_bytes}
 use Rattle.code_model.specs.Fields.{fields}
+use Rattle.code_model.specs.Marks.{AreMarks}
 use Rattle.gen_model.specs.Generated.{generated}
 use Rattle.object_form.specs.Faults.{first_form_fault}
 use Rattle.asm_model.specs.FirstPass.{fault}
@@ -71,6 +72,7 @@ Suits Scripted o = ⊥
 pub record IsFit (form : Form) (o : Object) (units : List ℕ) : Type 0 where
   pub suits : Suits form o
   pub accepted : IsAccepted o units
+  pub bitmap : AreMarks units
 
 -- the input is an accepted object that the command takes
 pub record Taken (form : Form) (held : Option (List ℕ)) (o : Object) (units : List ℕ) : Type 0 where
@@ -274,6 +276,7 @@ pub record IsGenerated (seed : ℕ) (source : Object) (o : Loadable) : Type 0 wh
   pub source_is : fields source ≡ generated seed
   pub gives : IsInserted source o.object
   pub accepted : IsAccepted o.object o.units
+  pub bitmap : AreMarks o.units
 
 -- its run, alone and without a script
 abbrev pub generated_run : System → Made
@@ -328,3 +331,9 @@ IsDone (Some command) m x = IsOutput command m x
 pub data IsAnswer (command : Option Command) (m : Files) (a : Answer) : Type 0 where
   IsRefused : (s : Status) (line : List ℕ) → IsRefusal command m s line → a ≡ refused_answer s line → IsAnswer command m a
   IsPrinted : (x : Output) → IsDone command m x → a ≡ done_answer x → IsAnswer command m a
+
+-- there is one answer, and one output with its file, and where there is an output no refusal
+pub record HasOneAnswer (command : Option Command) (m : Files) : Type 0 where
+  pub answer : (a b : Answer) → IsAnswer command m a → IsAnswer command m b → a ≡ b
+  pub output : (x y : Output) → IsDone command m x → IsDone command m y → x ≡ y
+  pub apart : (s : Status) (line : List ℕ) (x : Output) → IsRefusal command m s line → IsDone command m x → ⊥

@@ -128,6 +128,7 @@ fn guarded(alloc: Global, source: &Object) -> Result<ObjectList, AllocError>
     };
     match check(&object) {
         Verdict::Accepted(marks) => {
+            marks.is_bitmap();
             let mut objects = ObjectList::new(alloc);
             objects.push(object, marks)?;
             Ok(objects)

@@ -128,7 +128,10 @@ fn judge_object(object: Object, form: Form) -> Result<(Object, Marks), Judged>
     }
     match check(&object) {
         Verdict::Refused { rule, place } => Err(Judged::Refused(Why::Check { rule, place })),
-        Verdict::Accepted(marks) => Ok((object, marks)),
+        Verdict::Accepted(marks) => {
+            marks.is_bitmap();
+            Ok((object, marks))
+        }
     }
 }
 

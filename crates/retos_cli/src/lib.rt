@@ -12,6 +12,7 @@ pub mod form;
 pub mod generating;
 pub mod input;
 pub mod inserting;
+pub mod laws;
 pub mod lines;
 pub mod outcome;
 pub mod parse;

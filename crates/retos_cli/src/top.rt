@@ -1,16 +1,18 @@
 //! The top call.
 
 ghost use Rattle.std.specs.Prelude.{◌≡◌, Some};
+ghost use Rattle.node_model.specs.Laws.{FetchedLaw};
 ghost use Rattle.retos_cli.specs.Commands.{command_of};
 ghost use Rattle.retos_cli.specs.Ends.{Ended, EndedBy, MayRun};
 ghost use Rattle.retos_cli.specs.Bounds.{IsBounded};
-ghost use Rattle.retos_cli.specs.Clauses.{call_of, OutputClause, RefusedClause, ReadFaultClause, WriteFaultClause, NoMemoryClause, CompleteClause, NoCommandClause, ConfinedClause};
+ghost use Rattle.retos_cli.specs.Clauses.{call_of, OutputClause, RefusedClause, ReadFaultClause, WriteFaultClause, NoMemoryClause, CompleteClause, NoCommandClause, OneAnswerClause, ConfinedClause};
 
 use super::assembling::assemble_file;
 use super::checking::check_all;
 use super::command::Command;
 use super::generating::generate_file;
 use super::inserting::insert_file;
+use super::laws::words_have_one_answer;
 use super::outcome::{Outcome, Status, Stop};
 use super::parse::read_command;
 use super::report::report;
@@ -18,6 +20,7 @@ use super::running::run_job;
 use edge_io::folder::Folder;
 use edge_io::sink::Sink;
 use edge_io::words::Words;
+use node_model::laws::fetched_where_spelled;
 use retos_node::laws::booted_runs_are_sound;
 use std::alloc::Global;
 
@@ -38,9 +41,13 @@ pub fn retos<F: Folder, O: Sink, E: Sink>(
     ensures no_memory { NoMemoryClause (call_of F.state O.state E.state words.now files.old files.new out.old out.new err.old err.new) result }
     ensures complete { CompleteClause (call_of F.state O.state E.state words.now files.old files.new out.old out.new err.old err.new) result }
     ensures no_command { NoCommandClause (call_of F.state O.state E.state words.now files.old files.new out.old out.new err.old err.new) result }
+    ensures one_answer { OneAnswerClause (call_of F.state O.state E.state words.now files.old files.new out.old out.new err.old err.new) }
+    ensures fetched { FetchedLaw }
     ensures confined { ConfinedClause (call_of F.state O.state E.state words.now files.old files.new out.old out.new err.old err.new) }
 {
     booted_runs_are_sound();
+    fetched_where_spelled();
+    words_have_one_answer();
     let outcome = run(alloc, words, files, out);
     report(&outcome, err)
 }

@@ -10,4 +10,5 @@ returns c =
       alone = c.in_ok-push-in-Accepted.ensures.pushed ∙ ap (λ (os : List Loadable). os ++ object ∷ []) c.new-objects.ensures;
       gives = c.in-Ok.ensures.right;
       accepted = c.in-Accepted.ensures.right;
+      bitmap = c.is_bitmap.ensures;
     }

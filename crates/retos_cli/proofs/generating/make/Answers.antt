@@ -10,7 +10,7 @@ returns c =
       source = c.in_ok-source.source;
       object = g.object;
       alone = g.alone;
-      generated = record { source_is = c.in_ok-source.ensures; gives = g.gives; accepted = g.accepted };
+      generated = record { source_is = c.in_ok-source.ensures; gives = g.gives; accepted = g.accepted; bitmap = g.bitmap };
       words = c.len.ensures;
       text = c.in_ok-text.ensures ∙ ap object_bytes (object_alone c.in_ok-objects.objects g.object c.object.result.now c.object.ensures.0 g.alone c.object.ensures.1);
       ran = c.in_ok-end.ensures;

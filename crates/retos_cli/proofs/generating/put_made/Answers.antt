@@ -1,4 +1,4 @@
-use Rattle.std.proofs.Common.{◌≡◌, ℕ, List, ◌++◌, refl, ap, subst, ◌∙◌}
+use Rattle.std.proofs.Common.{ℕ, List, ◌++◌, refl, ap, subst, ◌∙◌}
 use Rattle.edge_io.specs.Known.{put}
 use Rattle.trace_model.specs.Grammar.{empty_script}
 use Rattle.retos_cli.specs.Meaning.{generated_run}

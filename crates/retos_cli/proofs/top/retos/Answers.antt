@@ -1,12 +1,13 @@
 use Rattle.retos_cli.specs.Commands.{command_of}
-use Rattle.retos_cli.proofs.Clausal.{output_clause, refused_clause, read_fault_clause, no_memory_clause, write_fault_clause, complete_clause, no_command_clause}
+use Rattle.retos_cli.specs.Clauses.{call_of}
+use Rattle.retos_cli.proofs.Clausal.{output_clause, one_answer_clause, refused_clause, read_fault_clause, no_memory_clause, write_fault_clause, complete_clause, no_command_clause}
 use Rattle.retos_cli.proofs.Confining.{confined_clause}
 use Rattle.retos_cli.proofs.top.retos.Goals as goal
 
 pub returns-clause-output : goal.returns-clause-output
 returns-clause-output g c =
     output_clause (g.F.Folder.state c.args.files.now) (g.F.Folder.state c.run-outcome.new.files) (g.O.Sink.state c.args.out.now) (g.O.Sink.state c.run-outcome.new.out) (g.E.Sink.state c.args.err.now) (g.E.Sink.state c.report.new.err)
-    (command_of c.args.words.now) c.run-outcome.result c.report.result c.run-outcome.ensures c.report.ensures
+    (command_of c.args.words.now) c.run-outcome.result c.report.result c.run-outcome.ensures c.report.ensures c.words_have_one_answer.ensures
 
 pub returns-clause-refused : goal.returns-clause-refused
 returns-clause-refused g c =
@@ -40,3 +41,10 @@ returns-clause-no_command g c =
 
 pub returns-clause-confined : goal.returns-clause-confined
 returns-clause-confined g c = confined_clause c.booted_runs_are_sound.ensures (g.F.Folder.state c.args.files.now).files c.args.words.now
+
+pub returns-clause-one_answer : goal.returns-clause-one_answer
+returns-clause-one_answer g c =
+    one_answer_clause (call_of g.F.Folder.state g.O.Sink.state g.E.Sink.state c.args.words.now c.args.files.now c.run-outcome.new.files c.args.out.now c.run-outcome.new.out c.args.err.now c.report.new.err) c.words_have_one_answer.ensures
+
+pub returns-clause-fetched : goal.returns-clause-fetched
+returns-clause-fetched g c = c.fetched_where_spelled.ensures
