@@ -151,7 +151,9 @@ fn memory_is_ready(m: &FlatMem, r: &Regs, moment: Moment)
 {
     memory_is_shown();
     modules_are_known();
-    let _ = (m, r, moment);
+    let _ = m;
+    let _ = r;
+    let _ = moment;
 }
 
 /// An interrupt of a line is accepted, which isn't pending any more.
@@ -238,7 +240,9 @@ fn has_a_row(m: &FlatMem, r: &Regs, moment: Moment)
 {
     steps_are_safe();
     rowless_is_not_confined();
-    let _ = (m, r, moment);
+    let _ = m;
+    let _ = r;
+    let _ = moment;
 }
 
 /// No module runs at a routine.
@@ -248,7 +252,10 @@ fn no_module_runs(m: &FlatMem, r: &Regs, line: u8, moment: Moment)
     ensures { running_module (kernel_of m.now) ≡ none }
 {
     steps_are_safe();
-    let _ = (m, r, line, moment);
+    let _ = m;
+    let _ = r;
+    let _ = line;
+    let _ = moment;
 }
 
 /// The turn of a line's routine.

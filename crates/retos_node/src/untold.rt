@@ -46,7 +46,8 @@ fn run_plain(m: &mut FlatMem, r: &mut Regs, instr: &Instr, words: u8, moment: Mo
     ensures { Gives m.old m.new r.old r.new moment (plain_record m.old r.old instr.now words moment.step) }
 {
     instruction_law();
-    let _ = (moment, exec(m, r, instr, words));
+    let _ = moment;
+    let _ = exec(m, r, instr, words);
 }
 
 impl Node {
@@ -83,7 +84,8 @@ impl Node {
         memory_is_shown();
         raised_is_shown();
         nodes_are_sound();
-        let _ = (objects, raised);
+        let _ = objects;
+        let _ = raised;
         let step = self.steps + 1;
         let moment = Moment { step, pick };
         run_plain(&mut self.mem, &mut self.regs, instr, words, moment);
