@@ -1,4 +1,4 @@
--- A step that runs an instruction of an application, and of which no line tells.
+-- A step of which no line tells: an instruction of an application, or a turn of the idle machine.
 use Rattle.std.specs.Prelude.{◌≡◌, ℕ, ◌+◌, length, false, List, Some}
 use Rattle.msp_encode.specs.declared.instr.Instr.{Instr}
 use Rattle.msp_encode.specs.Spelling.{Legal, words_after}
@@ -9,7 +9,7 @@ use Rattle.kernel_model.specs.Layout.{kernel_of}
 use Rattle.trace_model.specs.declared.records.Record.{Record}
 use Rattle.trace_model.specs.declared.records.Record.TheVariants as told
 use Rattle.node_model.specs.Entries.{module_runs, who_runs}
-use Rattle.node_model.specs.Steps.{Runs, case_of, fetched}
+use Rattle.node_model.specs.Steps.{IsIdle, Runs, case_of, fetched}
 use Rattle.retos_node.specs.declared.node.Node.{Node}
 
 -- the next step runs this instruction, of so many words, and no module runs
@@ -25,9 +25,14 @@ pub record IsPlain (m registers : List ℕ) (i : Instr) (words : ℕ) : Type 0 w
 abbrev pub plain_record : (m registers : List ℕ) → Instr → (words step : ℕ) → Record
 plain_record m r i words step = told.Instr step (who_runs (kernel_of m)) (reg r 0) (word_at m (reg r 0)) (does m r i words).written
 
--- no line is raised, and nothing is printed or kept of the instruction
+-- no line is raised, and nothing is printed of the instruction
 pub record IsUntold (n : Node) (raised : ℕ) (i : Instr) (words : ℕ) : Type 0 where
   pub none : raised ≡ 0
   pub all : n.show.all ≡ false
-  pub tail : n.show.tail ≡ false
   pub plain : IsPlain n.mem n.regs i words
+
+-- the same of a turn of the idle machine
+pub record IdlesUntold (n : Node) (raised : ℕ) : Type 0 where
+  pub none : raised ≡ 0
+  pub all : n.show.all ≡ false
+  pub case : case_of (kernel_of n.mem) n.regs ≡ IsIdle

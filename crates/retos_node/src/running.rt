@@ -127,7 +127,7 @@ pub(crate) fn run_steps<S: Sink>(
     Ok(Ended { quiet, counts })
 }
 
-/// One step, with its line if it is shown. A record that nobody is told of is not made.
+/// One step, with its line if it is shown. Most steps have no line, and the record of such a one isn't made.
 #[inline(always)]
 fn turn<S: Sink>(
     node: &mut Node,
@@ -156,6 +156,10 @@ fn turn<S: Sink>(
     let stimulus = schedule.next(script, node.steps);
     if let Some((instr, words)) = node.untold_instruction(stimulus.raised) {
         node.run_untold(&instr, words, stimulus.raised, stimulus.pick, objects);
+        return Ok(());
+    }
+    if node.idles_untold(stimulus.raised) {
+        node.idle_untold(stimulus.raised, stimulus.pick, objects);
         return Ok(());
     }
     let record = node.step(stimulus.raised, stimulus.pick, objects);

@@ -67,7 +67,7 @@ pub(crate) const FIRST_ENTRY: u16 = 0xF000;
 const LAST_ENTRY: u16 = 0xF026;
 
 /// Where the machine idles.
-const IDLE: u16 = 0xF07E;
+pub(crate) const IDLE: u16 = 0xF07E;
 
 /// The routines of the first and of the last line.
 pub(crate) const FIRST_ROUTINE: u16 = 0xF080;
@@ -376,7 +376,7 @@ fn instruction(m: &mut FlatMem, r: &mut Regs, who: Who, moment: Moment) -> Recor
 
 /// Runs the instruction at PC, of so many words.
 #[inline(always)]
-fn execute(
+pub(crate) fn execute(
     m: &mut FlatMem,
     r: &mut Regs,
     instr: &Instr,
