@@ -2,7 +2,7 @@
 //! program in another language that draws the blocks, adds up the words and units that each block gets, and follows the registers
 //! for as many steps.
 
-use crate::test_support::{Case, Failing, folder, try_case, writable};
+use crate::test_support::{Case, Failing, add, folder, try_case, writable};
 use edge_io::mem_folder::MemFolder;
 use edge_io::name::Name;
 use std::alloc::Global;
@@ -62,7 +62,7 @@ fn check_again(rt: &impl Abort, alloc: Global, files: &MemFolder, out: &str) -> 
     let name = Name::from_slice(b"g.o").ok_or("a name")?;
     let held = files.held(&name).ok_or("it is held")?;
     let mut again = folder(alloc, &[])?;
-    again.put(&name, held)?;
+    add(&mut again, b"g.o", held)?;
     let case = Case {
         line: "check g.o",
         out,
