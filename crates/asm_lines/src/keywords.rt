@@ -289,6 +289,8 @@ fn directive(w: &[u8]) -> Option<Directive>
         Some(Directive::App)
     } else if is_word(w, b".MODULE") {
         Some(Directive::Module)
+    } else if is_word(w, b".VERSION") {
+        Some(Directive::Version)
     } else if is_word(w, b".EQU") {
         Some(Directive::Equ)
     } else if is_word(w, b".ENTRY") {

@@ -7,18 +7,28 @@ use Rattle.code_model.specs.Fields.{Fields, Meets}
 use Rattle.asm_model.specs.declared.fault.AsmKind.TheVariants as kind
 use Rattle.asm_model.specs.declared.progress.Header.{Header}
 use Rattle.asm_model.specs.declared.progress.Header.TheVariants as header
+use Rattle.asm_model.specs.declared.progress.Version.{Version}
+use Rattle.asm_model.specs.declared.progress.Version.TheVariants as version
 use Rattle.asm_model.specs.declared.progress.Progress.{Progress}
 use Rattle.asm_model.specs.Lines.{lines_of}
 use Rattle.asm_model.specs.Drafts.{Draft, empty_draft}
 use Rattle.asm_model.specs.FirstPass.{Fault, fault, first_pass}
 use Rattle.asm_model.specs.SecondPass.{Output, known_by, empty_output, second_pass}
-use Rattle.asm_model.specs.Assembled.{has_starts, is_whole, fields_for, with_output, with_draft, assembled}
+use Rattle.asm_model.specs.Assembled.{has_starts, is_whole, version_number, fields_for, with_output, with_draft, assembled}
 use Rattle.asm_model.specs.Sound.{entry_total, export_total, StartsSuit, IsHeader, IsSound}
 use Rattle.asm_model.specs.Laws.{ResultsMeetTheForm}
 use Rattle.asm_model.proofs.Choices.{if_true, both_of}
 use Rattle.asm_model.proofs.Rising.{rising_count, AllFit, data_fit, code_fit, fit_at, fit_rises, Leads, ExportsRise, exports_count, export_leads, exports_rise}
 use Rattle.asm_model.proofs.SecondSound.{Passed, OkPassed, pass_is, empty_is}
 use Rattle.asm_model.proofs.LinesSound.{OkAll, pass_sound, empty_sound}
+
+version_least : (v : Version) → 1 ≤ version_number v
+version_least version.One = omega arith
+version_least version.Two = omega arith
+
+version_most : (v : Version) → version_number v ≤ 2
+version_most version.One = omega arith
+version_most version.Two = omega arith
 
 -- the facts that do not ask for the header
 record Common (d : Draft) (o : Output) : Type 0 where
@@ -83,7 +93,8 @@ form_of d o (Some (header.App stack threads)) e s c starts least small =
     let head : IsHeader (Some (header.App stack threads)) = subst (λ (q : Option Header). IsHeader q) e s.header in
     let suits : StartsSuit (Some (header.App stack threads)) (entry_total d.pieces) (export_total d.pieces) = subst (λ (q : Option Header). StartsSuit q (entry_total d.pieces) (export_total d.pieces)) e s.starts in
     record {
-      version_is = refl;
+      version_least = version_least d.progress.version;
+      version_most = version_most d.progress.version;
       code_least = omega (arith, c.code_is, least);
       code_most = omega (arith, c.code_is, s.code_most);
       static_most = omega (arith, c.initialised_is, s.static_most);
@@ -102,7 +113,8 @@ form_of d o (Some header.Module) e s c starts least small =
     let suits : StartsSuit (Some header.Module) (entry_total d.pieces) (export_total d.pieces) = subst (λ (q : Option Header). StartsSuit q (entry_total d.pieces) (export_total d.pieces)) e s.starts in
     let count : 0 + length o.exports ≤ 64 = exports_count d.progress.code o.exports 0 d.progress.least_export (omega arith) c.exports_rise in
     record {
-      version_is = refl;
+      version_least = version_least d.progress.version;
+      version_most = version_most d.progress.version;
       code_least = omega (arith, c.code_is, least);
       code_most = omega (arith, c.code_is, s.code_most);
       static_most = omega (arith, c.initialised_is, s.static_most);

@@ -22,6 +22,8 @@ use Rattle.asm_model.specs.declared.progress.Section.{Section}
 use Rattle.asm_model.specs.declared.progress.Section.TheVariants as section
 use Rattle.asm_model.specs.declared.progress.Header.{Header}
 use Rattle.asm_model.specs.declared.progress.Header.TheVariants as header
+use Rattle.asm_model.specs.declared.progress.Version.{Version}
+use Rattle.asm_model.specs.declared.progress.Version.TheVariants as version
 use Rattle.asm_model.specs.declared.progress.Progress.{Progress}
 use Rattle.asm_model.specs.Lines.{lines_of, is_text_byte, is_nil}
 use Rattle.asm_model.specs.Words.{body_of, has_colon, before_colon, behind_colon, first_word, behind_word, operands_of}
@@ -30,7 +32,7 @@ use Rattle.asm_model.specs.Names.{has_name_form, name_of, is_taken}
 use Rattle.asm_model.specs.Mnemonics.{keyword_of}
 use Rattle.asm_model.specs.Instructions.{instruction_of, label_of}
 use Rattle.asm_model.specs.Drafts.{Draft, empty_draft, first_progress, with_progress, with_name, with_pieces, placed, code_words, by_progress, grown, grown_draft}
-use Rattle.asm_model.specs.Directives.{application, application_of, module_of, only_header, equate, is_application, is_module, entry_by, entry_of, export_by, export_of, told, section_from, is_code, is_data, is_zero, is_aligned, are_data, data_fit, data_pieces, data_room, unit_size, space_by, space_of}
+use Rattle.asm_model.specs.Directives.{application, application_of, module_of, only_header, with_version, is_two, version_of, equate, is_application, is_module, entry_by, entry_of, export_by, export_of, told, section_from, is_code, is_data, is_zero, is_aligned, are_data, data_fit, data_pieces, data_room, unit_size, space_by, space_of}
 use Rattle.asm_model.specs.FirstPass.{put_code, take_instruction, go_on, define, tell, take_data, take_directive, take_keyword, take_statement, with_label, take_labelled, take_body, take_line, Fault, behind_line, first_pass}
 use Rattle.asm_model.specs.Sound.{entry_total, export_total, least_total, StartsSuit, IsHeader, IsSound}
 use Rattle.asm_model.specs.Laws.{DraftsAreSound}
@@ -110,9 +112,20 @@ headed_sound d None (Ok new) e h k =
 named_sound : (d : Draft) (name : Name) (v : Value) → IsSound d → IsSound (with_name d name v)
 named_sound d name v h = record { pieces = h.pieces; code_is = h.code_is; initialised_is = h.initialised_is; least_is = h.least_is; header = h.header; starts = h.starts; code_most = h.code_most; static_most = h.static_most }
 
+versioned_sound : (d : Draft) (v : Version) → IsSound d → IsSound (with_progress d (with_version d.progress v))
+versioned_sound d v h = record { pieces = h.pieces; code_is = h.code_is; initialised_is = h.initialised_is; least_is = h.least_is; header = h.header; starts = h.starts; code_most = h.code_most; static_most = h.static_most }
+
+version_sound : (d : Draft) (rest : List ℕ) → IsSound d → OkSound (go_on d (version_of d.progress rest))
+unfolding version_of
+version_sound d rest h =
+    let p = d.progress in
+    if_true (λ (r : Result Progress AsmKind). OkSound (go_on d r)) ((is_some p.header && not p.named) && (not p.begun && is_two (numeral_of rest))) (Ok (with_version p version.Two)) (Err kind.BadDirective)
+    (λ k. versioned_sound d version.Two h)
+    (λ k. tt)
+
 define_sound : (d : Draft) (r : Result (Name × Value) AsmKind) → IsSound d → OkSound (define d r)
 define_sound d (Err k) h = tt
-define_sound d (Ok entry) h = named_sound d entry.0 entry.1 h
+define_sound d (Ok entry) h = named_sound (with_progress d (with_version d.progress d.progress.version)) entry.0 entry.1 (versioned_sound d d.progress.version h)
 
 section_sound : (d : Draft) (s : Section) (rest : List ℕ) → IsSound d → OkSound (go_on d (section_from d.progress s rest))
 unfolding section_from
@@ -244,6 +257,7 @@ directive_sound : (line : ℕ) (d : Draft) (w : Directive) (rest : List ℕ) →
 unfolding take_directive
 directive_sound line d directive.App rest h = headed_sound d d.progress.header (application_of rest) refl h (application_of_header rest)
 directive_sound line d directive.Module rest h = headed_sound d d.progress.header (module_of rest) refl h (module_of_header rest)
+directive_sound line d directive.Version rest h = version_sound d rest h
 directive_sound line d directive.Equ rest h = define_sound d (equate d.names (is_some d.progress.header && not d.progress.begun) rest) h
 directive_sound line d directive.Entry rest h = tell_sound line d (entry_of d.names d.progress rest) h (entry_start d.names d.progress rest)
 directive_sound line d directive.Export rest h = tell_sound line d (export_of d.names d.progress rest) h (export_start d.names d.progress rest)

@@ -8,6 +8,8 @@ use Rattle.asm_model.specs.declared.fault.AsmFault.{AsmFault}
 use Rattle.asm_model.specs.declared.fault.AsmFault.TheVariants.{At, Memory}
 use Rattle.asm_model.specs.declared.progress.Header.{Header}
 use Rattle.asm_model.specs.declared.progress.Header.TheVariants as header
+use Rattle.asm_model.specs.declared.progress.Version.{Version}
+use Rattle.asm_model.specs.declared.progress.Version.TheVariants as version
 use Rattle.asm_model.specs.declared.progress.Progress.{Progress}
 use Rattle.asm_model.specs.Lines.{lines_of}
 use Rattle.asm_model.specs.Drafts.{Draft, empty_draft}
@@ -24,11 +26,15 @@ has_starts p (Some header.Module) = not (p.least_export == 0)
 unfoldable pub is_whole : Progress → Bool
 is_whole p = has_starts p p.header && not (p.code == 0)
 
+abbrev pub version_number : Version → ℕ
+version_number version.One = 1
+version_number version.Two = 2
+
 -- the object's fields
 abbrev pub fields_for : Progress → Output → Option Header → Fields
-fields_for p o None = fields_by kinds.Module 1 o.code o.initialised p.zeroed 0 0 o.entry (o.code_relocs ++ o.data_relocs) o.exports
-fields_for p o (Some (header.App stack threads)) = fields_by kinds.App 1 o.code o.initialised p.zeroed stack threads o.entry (o.code_relocs ++ o.data_relocs) o.exports
-fields_for p o (Some header.Module) = fields_by kinds.Module 1 o.code o.initialised p.zeroed 0 0 o.entry (o.code_relocs ++ o.data_relocs) o.exports
+fields_for p o None = fields_by kinds.Module (version_number p.version) o.code o.initialised p.zeroed 0 0 o.entry (o.code_relocs ++ o.data_relocs) o.exports
+fields_for p o (Some (header.App stack threads)) = fields_by kinds.App (version_number p.version) o.code o.initialised p.zeroed stack threads o.entry (o.code_relocs ++ o.data_relocs) o.exports
+fields_for p o (Some header.Module) = fields_by kinds.Module (version_number p.version) o.code o.initialised p.zeroed 0 0 o.entry (o.code_relocs ++ o.data_relocs) o.exports
 
 abbrev pub with_output : Progress → Result Output Fault → Result Fields Fault
 with_output p (Err f) = Err f

@@ -18,6 +18,8 @@ use Rattle.asm_model.specs.declared.progress.Section.{Section}
 use Rattle.asm_model.specs.declared.progress.Section.TheVariants as section
 use Rattle.asm_model.specs.declared.progress.Header.{Header}
 use Rattle.asm_model.specs.declared.progress.Header.TheVariants as header
+use Rattle.asm_model.specs.declared.progress.Version.{Version}
+use Rattle.asm_model.specs.declared.progress.Version.TheVariants as version
 use Rattle.asm_model.specs.declared.progress.Progress.{Progress}
 use Rattle.asm_model.specs.Lines.{is_nil}
 use Rattle.asm_model.specs.Words.{first_word, behind_word}
@@ -30,7 +32,7 @@ use Rattle.asm_model.specs.Drafts.{by_progress, grown}
 -- ---- the header, before all other statements and once
 
 abbrev pub with_header : Progress → Header → Progress
-with_header p h = record { header = Some h; begun = p.begun; section = p.section; entered = p.entered; least_export = p.least_export; code = p.code; initialised = p.initialised; zeroed = p.zeroed }
+with_header p h = record { header = Some h; version = p.version; named = p.named; begun = p.begun; section = p.section; entered = p.entered; least_export = p.least_export; code = p.code; initialised = p.initialised; zeroed = p.zeroed }
 
 -- an application's stack is even and 16 to 1024, its threads are 1 to 4
 abbrev pub application : Option Numeral → Option Numeral → Result Header AsmKind
@@ -57,7 +59,21 @@ abbrev pub only_header : Progress → Option Header → Result Header AsmKind �
 only_header p None h = headed p h
 only_header p (Some other) h = Err BadDirective
 
--- ---- names of numbers
+-- ---- the version and names of numbers, between the header and all other statements
+
+abbrev pub with_version : Progress → Version → Progress
+with_version p v = record { header = p.header; version = v; named = true; begun = p.begun; section = p.section; entered = p.entered; least_export = p.least_export; code = p.code; initialised = p.initialised; zeroed = p.zeroed }
+
+-- the operand is the number 2
+abbrev pub is_two : Option Numeral → Bool
+is_two None = false
+is_two (Some n) = is_between 2 2 n
+
+-- version 2, directly behind the header
+unfoldable pub version_of : Progress → List ℕ → Result Progress AsmKind
+version_of p rest =
+    if (is_some p.header && not p.named) && (not p.begun && is_two (numeral_of rest)) then Ok (with_version p version.Two)
+    else Err BadDirective
 
 abbrev pub number_named : Option Numeral → Result Value AsmKind
 number_named None = Err BadDirective

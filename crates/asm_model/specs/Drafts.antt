@@ -11,6 +11,7 @@ use Rattle.asm_model.specs.declared.piece.Piece.TheVariants as piece
 use Rattle.asm_model.specs.declared.piece.Placed.{Placed}
 use Rattle.asm_model.specs.declared.progress.Section.{Section}
 use Rattle.asm_model.specs.declared.progress.Section.TheVariants as section
+use Rattle.asm_model.specs.declared.progress.Version.TheVariants as version
 use Rattle.asm_model.specs.declared.progress.Progress.{Progress}
 
 -- the names that are defined and the pieces, both in their order, and the rest
@@ -24,7 +25,7 @@ draft_by progress names pieces = record { progress = progress; names = names; pi
 
 -- before the first line
 unfoldable pub first_progress : Progress
-first_progress = record { header = None; begun = false; section = section.Code; entered = false; least_export = 0; code = 0; initialised = 0; zeroed = 0 }
+first_progress = record { header = None; version = version.One; named = false; begun = false; section = section.Code; entered = false; least_export = 0; code = 0; initialised = 0; zeroed = 0 }
 
 abbrev pub empty_draft : Draft
 empty_draft = draft_by first_progress [] []
@@ -66,7 +67,7 @@ initialised_bytes (piece.Entry label) = 0
 initialised_bytes (piece.Export number label) = 0
 
 abbrev pub by_progress : Progress → Bool → Section → Bool → ℕ → ℕ → ℕ → ℕ → Progress
-by_progress p begun section entered least_export code initialised zeroed = record { header = p.header; begun = begun; section = section; entered = entered; least_export = least_export; code = code; initialised = initialised; zeroed = zeroed }
+by_progress p begun section entered least_export code initialised zeroed = record { header = p.header; version = p.version; named = p.named; begun = begun; section = section; entered = entered; least_export = least_export; code = code; initialised = initialised; zeroed = zeroed }
 
 -- with so many more code words, initialised bytes and zeroed bytes, unless that passes the limits
 unfoldable pub grown : Progress → ℕ → ℕ → ℕ → Result Progress AsmKind

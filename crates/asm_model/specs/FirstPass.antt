@@ -22,7 +22,7 @@ use Rattle.asm_model.specs.Names.{has_name_form, name_of, is_taken}
 use Rattle.asm_model.specs.Mnemonics.{keyword_of}
 use Rattle.asm_model.specs.Instructions.{instruction_of}
 use Rattle.asm_model.specs.Drafts.{Draft, with_progress, with_name, with_pieces, place_in, code_words, grown, grown_draft}
-use Rattle.asm_model.specs.Directives.{only_header, application_of, module_of, equate, entry_of, export_of, told, section_from, is_code, data_room, data_pieces, space_of}
+use Rattle.asm_model.specs.Directives.{only_header, application_of, module_of, with_version, version_of, equate, entry_of, export_of, told, section_from, is_code, data_room, data_pieces, space_of}
 
 -- ---- what a statement does to a draft
 
@@ -42,7 +42,7 @@ go_on d (Ok p) = Ok (with_progress d p)
 
 abbrev pub define : Draft → Result (Name × Value) AsmKind → Result Draft AsmKind
 define d (Err kind) = Err kind
-define d (Ok entry) = Ok (with_name d entry.0 entry.1)
+define d (Ok entry) = Ok (with_name (with_progress d (with_version d.progress d.progress.version)) entry.0 entry.1)
 
 abbrev pub tell : ℕ → Draft → Result Piece AsmKind → Result Draft AsmKind
 tell line d (Err kind) = Err kind
@@ -54,6 +54,7 @@ take_data line d u operands = grown_draft d line (data_pieces u d.names operands
 unfoldable pub take_directive : ℕ → Draft → Directive → List ℕ → Result Draft AsmKind
 take_directive line d directive.App rest = go_on d (only_header d.progress d.progress.header (application_of rest))
 take_directive line d directive.Module rest = go_on d (only_header d.progress d.progress.header (module_of rest))
+take_directive line d directive.Version rest = go_on d (version_of d.progress rest)
 take_directive line d directive.Equ rest = define d (equate d.names (is_some d.progress.header && not d.progress.begun) rest)
 take_directive line d directive.Entry rest = tell line d (entry_of d.names d.progress rest)
 take_directive line d directive.Export rest = tell line d (export_of d.names d.progress rest)

@@ -178,6 +178,7 @@ unfoldable pub directive_of : List ℕ → Option Directive
 directive_of w =
     if word_is w (codes ".APP") then Some directive.App
     else if word_is w (codes ".MODULE") then Some directive.Module
+    else if word_is w (codes ".VERSION") then Some directive.Version
     else if word_is w (codes ".EQU") then Some directive.Equ
     else if word_is w (codes ".ENTRY") then Some directive.Entry
     else if word_is w (codes ".EXPORT") then Some directive.Export

@@ -28,6 +28,7 @@ pub enum Form {
 pub enum Directive {
     App,
     Module,
+    Version,
     Equ,
     Entry,
     Export,

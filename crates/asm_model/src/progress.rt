@@ -17,11 +17,23 @@ pub enum Header {
     Module,
 }
 
+/// The version of the object's form.
+#[derive(Clone, Copy, Drop)]
+pub enum Version {
+    /// 1, where the source names none.
+    One,
+    /// 2, by `.version 2`.
+    Two,
+}
+
 /// What the lines so far have said beside names and pieces.
 #[derive(Clone, Copy, Drop)]
 pub struct Progress {
     pub header: Option<Header>,
-    /// A statement other than the header and `.equ` has come.
+    pub version: Version,
+    /// `.version` or `.equ` has come.
+    pub named: bool,
+    /// A statement other than the header, `.version` and `.equ` has come.
     pub begun: bool,
     pub section: Section,
     /// The entry has come.

@@ -371,7 +371,8 @@ module _ (o : Object) (laid : Laid) (is : IsLaid o laid) (source : IsSource o (l
 
     pub meets : MeetsForm o.kind o.version code init o.zeroed o.stack o.threads entry relocs exports
     meets = record {
-      version_is = o.form.version_is;
+      version_least = o.form.version_least;
+      version_most = o.form.version_most;
       code_least = omega (arith, code_length, words_least);
       code_most = omega (arith, code_length, words_most);
       static_most = omega (arith, bytes_length, o.form.static_most);

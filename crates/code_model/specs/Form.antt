@@ -57,7 +57,8 @@ pub record ModuleForm (stack threads entry : ℕ) (exports : List Export) : Type
   pub exports_most : length exports ≤ 64
 
 pub record MeetsForm (kind : Kind) (version : ℕ) (code init : List ℕ) (zeroed stack threads entry : ℕ) (relocs : List Reloc) (exports : List Export) : Type 0 where
-  pub version_is : version ≡ 1
+  pub version_least : 1 ≤ version
+  pub version_most : version ≤ 2
   pub code_least : 1 ≤ length code
   pub code_most : length code ≤ 8192
   pub static_most : length init + zeroed ≤ 16384

@@ -20,7 +20,7 @@ pub const RELOCS_MAX: usize = 16384;
 #[derive(Drop)]
 pub struct Object {
     pub kind: Kind,
-    /// The version of the form.
+    /// The version of the form, 1 or 2.
     pub version: u8,
     pub code: CodeWords,
     /// The initialised bytes of the static part.

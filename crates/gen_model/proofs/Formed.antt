@@ -74,7 +74,8 @@ formed : (bs : List Block) → 1 ≤ length bs → length bs ≤ 2048 → ((k : 
 formed bs some few small =
     let rising : Rising (2 * 0) (2 * length (code_of bs)) (relocs_from 0 bs) = rises 0 (length (code_of bs)) bs (omega arith) in
     record {
-      version_is = refl;
+      version_least = omega arith;
+      version_most = omega arith;
       code_least = omega (arith, code_least bs);
       code_most = omega (arith, code_most bs);
       static_most = omega arith;

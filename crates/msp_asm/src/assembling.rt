@@ -6,7 +6,7 @@ ghost use Rattle.asm_model.specs.Lines.{lines_of};
 ghost use Rattle.asm_model.specs.Drafts.{first_progress, draft_by};
 ghost use Rattle.asm_model.specs.FirstPass.{first_pass};
 ghost use Rattle.asm_model.specs.SecondPass.{empty_output, known_from, second_pass};
-ghost use Rattle.asm_model.specs.Assembled.{has_starts, is_whole, fields_for, GivesObject};
+ghost use Rattle.asm_model.specs.Assembled.{has_starts, is_whole, version_number, fields_for, GivesObject};
 ghost use Rattle.asm_model.specs.Sound.{IsSound};
 ghost use Rattle.msp_asm.specs.Given.{fault_at, FirstGives, SecondGives, output_of};
 
@@ -18,7 +18,7 @@ use asm_lines::names::Names;
 use asm_lines::text::cut_line;
 use asm_model::fault::{AsmFault, AsmKind};
 use asm_model::laws::{drafts_are_sound, results_meet_the_form};
-use asm_model::progress::{Header, Progress};
+use asm_model::progress::{Header, Progress, Version};
 use code_model::lists::Relocs;
 use code_model::object::Object;
 use code_model::parts::{Kind, Reloc};
@@ -109,6 +109,16 @@ fn bytes_fit(bytes: &[u8])
     ensures { (k : ℕ) → slice_index bytes.now k < 256 }
 {}
 
+/// The number of a version.
+fn version_number(version: Version) -> u8
+    ensures { result ≡ version_number version }
+{
+    match version {
+        Version::One => 1,
+        Version::Two => 2,
+    }
+}
+
 /// The object of these parts.
 fn object(p: Progress, out: Built) -> Result<Object, AllocError>
     requires { ((k : ℕ) → slice_index out.code k < 65536) → ((k : ℕ) → slice_index out.initialised k < 256) → Meets (fields_for p (output_of out) p.header) }
@@ -123,7 +133,7 @@ fn object(p: Progress, out: Built) -> Result<Object, AllocError>
     };
     Ok(Object {
         kind,
-        version: 1,
+        version: version_number(p.version),
         code: out.code,
         init: out.initialised,
         zeroed: p.zeroed,

@@ -3,7 +3,7 @@
 ghost use Rattle.std.specs.Prelude.{◌≡◌, true, IfOk};
 ghost use Rattle.asm_model.specs.Drafts.{by_progress};
 ghost use Rattle.msp_asm.specs.Given.{HasSmallNumber};
-ghost use Rattle.asm_model.specs.Directives.{with_header, headed, only_header, is_application, is_module, entry_by, entry_of, export_by, export_of, told, section_from, is_code, is_data, is_zero, space_by, space_of};
+ghost use Rattle.asm_model.specs.Directives.{with_header, headed, only_header, with_version, is_two, version_of, is_application, is_module, entry_by, entry_of, export_by, export_of, told, section_from, is_code, is_data, is_zero, space_by, space_of};
 
 use crate::drafts::grow;
 use asm_lines::bytes::is_empty;
@@ -15,7 +15,7 @@ use asm_model::expression::Numeral;
 use asm_model::fault::AsmKind;
 use asm_model::name::Name;
 use asm_model::piece::Piece;
-use asm_model::progress::{Header, Progress, Section};
+use asm_model::progress::{Header, Progress, Section, Version};
 
 /// With a header, where there is none yet.
 pub(crate) fn head(p: Progress, header: Result<Header, AsmKind>) -> Result<Progress, AsmKind>
@@ -28,6 +28,8 @@ pub(crate) fn head(p: Progress, header: Result<Header, AsmKind>) -> Result<Progr
         Err(kind) => Err(kind),
         Ok(header) => Ok(Progress {
             header: Some(header),
+            version: p.version,
+            named: p.named,
             begun: p.begun,
             section: p.section,
             entered: p.entered,
@@ -36,6 +38,38 @@ pub(crate) fn head(p: Progress, header: Result<Header, AsmKind>) -> Result<Progr
             initialised: p.initialised,
             zeroed: p.zeroed,
         }),
+    }
+}
+
+/// With a version, by `.version` or in front of a name by `.equ`.
+pub(crate) fn with_version(p: Progress, version: Version) -> Progress
+    ensures { result ≡ with_version p version }
+{
+    Progress {
+        header: p.header,
+        version,
+        named: true,
+        begun: p.begun,
+        section: p.section,
+        entered: p.entered,
+        least_export: p.least_export,
+        code: p.code,
+        initialised: p.initialised,
+        zeroed: p.zeroed,
+    }
+}
+
+/// With version 2, directly behind the header.
+#[tactic(auto, unfolding(asm_model::specs::Directives::version_of))]
+pub(crate) fn version(p: Progress, rest: &[u8]) -> Result<Progress, AsmKind>
+    ensures { result ≡ version_of p rest.now }
+{
+    if p.header.is_none() || p.named || p.begun {
+        return Err(AsmKind::BadDirective);
+    }
+    match numeral(rest) {
+        Some(n) if between(2, 2, n) => Ok(with_version(p, Version::Two)),
+        _ => Err(AsmKind::BadDirective),
     }
 }
 
@@ -108,6 +142,8 @@ fn tell_by(p: Progress, section: Section, entered: bool, least_export: u8) -> Pr
 {
     Progress {
         header: p.header,
+        version: p.version,
+        named: p.named,
         begun: true,
         section,
         entered,

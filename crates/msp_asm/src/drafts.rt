@@ -8,7 +8,7 @@ ghost use Rattle.msp_asm.specs.declared.drafts.Stop.TheVariants.{Memory};
 use asm_model::fault::AsmKind;
 use asm_model::name::Value;
 use asm_model::piece::{Piece, Placed};
-use asm_model::progress::{Progress, Section};
+use asm_model::progress::{Progress, Section, Version};
 use msp_encode::instr::{Dst, Instr, Src};
 use std::alloc::{AllocError, Global};
 use std::marker::Model;
@@ -84,6 +84,8 @@ pub(crate) fn start() -> Progress
 {
     Progress {
         header: None,
+        version: Version::One,
+        named: false,
         begun: false,
         section: Section::Code,
         entered: false,
@@ -172,6 +174,8 @@ pub(crate) fn grow(
     }
     Ok(Progress {
         header: p.header,
+        version: p.version,
+        named: p.named,
         begun: true,
         section: p.section,
         entered: p.entered,

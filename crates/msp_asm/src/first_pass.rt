@@ -12,7 +12,9 @@ ghost use Rattle.asm_model.specs.Lines.{lines_of};
 ghost use Rattle.asm_model.specs.FirstPass.{put_code, take_instruction, go_on, define, tell, take_directive, take_keyword, take_statement, take_labelled, take_body, take_line, first_pass};
 ghost use Rattle.msp_asm.specs.Given.{Gives, HasSmallNumber};
 
-use crate::directives::{enter, entry, export, head, in_code, space, tell};
+use crate::directives::{
+    enter, entry, export, head, in_code, space, tell, version, with_version,
+};
 use crate::drafts::{Pieces, Stop, grow, place, words};
 use crate::static_data::data;
 use asm_lines::bytes::{is_empty, is_text};
@@ -95,7 +97,7 @@ fn equate(
         Err(kind) => Err(Stop::Kind(kind)),
         Ok((name, value)) => {
             names.define(name, value)?;
-            Ok(p)
+            Ok(with_version(p, p.version))
         }
     }
 }
@@ -134,6 +136,7 @@ fn put_directive(
     match directive {
         Directive::App => go(head(p, app_header(rest))),
         Directive::Module => go(head(p, module_header(rest))),
+        Directive::Version => go(version(p, rest)),
         Directive::Equ => {
             let entry = equated(names, p.header.is_some() && !p.begun, rest);
             equate(p, names, entry)

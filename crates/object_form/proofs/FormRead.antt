@@ -67,7 +67,8 @@ meets-read t small none =
     let relocs-are : length (listed (word_at t 18) relocs) ≡ word_at t 18 = length-listed (word_at t 18) relocs in
     let exports-are : length (listed (byte_at t 15) exports) ≡ byte_at t 15 = length-listed (byte_at t 15) exports in
     record {
-      version_is = h.head.version;
+      version_least = h.head.version_least;
+      version_most = h.head.version_most;
       code_least = omega (arith, code-is, h.head.code_least);
       code_most = omega (arith, code-is, h.head.code_most);
       static_most = omega (arith, init-is, h.head.static_most);

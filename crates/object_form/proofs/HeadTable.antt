@@ -35,7 +35,8 @@ pub record HeadNumbers (t : List ℕ) : Type 0 where
   pub byte_1 : byte_at t 1 ≡ 0x45
   pub byte_2 : byte_at t 2 ≡ 0x54
   pub byte_3 : byte_at t 3 ≡ 0x4F
-  pub version : byte_at t 4 ≡ 1
+  pub version_least : 1 ≤ byte_at t 4
+  pub version_most : byte_at t 4 ≤ 2
   pub kind_least : 1 ≤ byte_at t 5
   pub kind_most : byte_at t 5 ≤ 2
   pub code_least : 1 ≤ word_at t 6
@@ -100,7 +101,8 @@ head-given t e =
       byte_1 = eqb-true (byte_at t 1) 0x45 h0.0.1.1.0;
       byte_2 = eqb-true (byte_at t 2) 0x54 h0.0.1.1.1.0;
       byte_3 = eqb-true (byte_at t 3) 0x4F h0.0.1.1.1.1.0;
-      version = eqb-true (byte_at t 4) 1 h1.0.1.0;
+      version_least = leb-true 1 (byte_at t 4) h1.0.1.0;
+      version_most = leb-true (byte_at t 4) 2 h1.0.1.1.0;
       kind_least = leb-true 1 (byte_at t 5) h2.0.1.0;
       kind_most = leb-true (byte_at t 5) 2 h2.0.1.1.0;
       code_least = leb-true 1 (word_at t 6) h3.0.1.0;
@@ -124,7 +126,7 @@ head-holds t h =
     fields-hold t (head_fields t) (
       (there 4 (lit≤ tt), (eq-eqb (byte_at t 0) 0x52 h.byte_0, (eq-eqb (byte_at t 1) 0x45 h.byte_1, (eq-eqb (byte_at t 2) 0x54 h.byte_2, (eq-eqb (byte_at t 3) 0x4F h.byte_3, tt))))),
       (
-        (there 5 (lit≤ tt), (eq-eqb (byte_at t 4) 1 h.version, tt)),
+        (there 5 (lit≤ tt), (le-leb 1 (byte_at t 4) h.version_least, (le-leb (byte_at t 4) 2 h.version_most, tt))),
         (
           (there 6 (lit≤ tt), (le-leb 1 (byte_at t 5) h.kind_least, (le-leb (byte_at t 5) 2 h.kind_most, tt))),
           (

@@ -58,7 +58,7 @@ unfoldable pub magic_field : List ℕ → Field
 magic_field t = field 0 4 (check (byte_at t 0 == 0x52) kinds.Magic 0 ∷ check (byte_at t 1 == 0x45) kinds.Magic 0 ∷ check (byte_at t 2 == 0x54) kinds.Magic 0 ∷ check (byte_at t 3 == 0x4F) kinds.Magic 0 ∷ [])
 
 unfoldable pub version_field : List ℕ → Field
-version_field t = field 4 1 (check (byte_at t 4 == 1) kinds.Version 4 ∷ [])
+version_field t = field 4 1 (check (nat_le 1 (byte_at t 4)) kinds.Version 4 ∷ check (nat_le (byte_at t 4) 2) kinds.Version 4 ∷ [])
 
 unfoldable pub kind_field : List ℕ → Field
 kind_field t = field 5 1 (check (nat_le 1 (byte_at t 5)) kinds.Kind 5 ∷ check (nat_le (byte_at t 5) 2) kinds.Kind 5 ∷ [])

@@ -12,7 +12,7 @@ pub enum FormKind {
     /// The first four bytes are others.
     #[error("magic")]
     Magic,
-    /// The version isn't 1.
+    /// The version is neither 1 nor 2.
     #[error("version")]
     Version,
     /// A number of a kind that isn't there.

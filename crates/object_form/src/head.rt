@@ -69,7 +69,7 @@ fn version(text: &[u8]) -> Result<u8, FormFault>
     ensures { ReadsField text.now (version_field text.now) result (λ v. v ≡ byte_at text.now 4) }
 {
     let version = byte(text, 4)?;
-    if version != 1 {
+    if version != 1 && version != 2 {
         return Err(wrong(FormKind::Version, 4));
     }
     Ok(version)
