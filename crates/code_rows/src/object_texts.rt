@@ -33,6 +33,11 @@ const ADDRESS: [u8; 28] = [
     1, 0, 0,
 ];
 
+/// The same of version 2.
+const SELF_JUMP_2: [u8; 22] = [
+    0x52, 0x45, 0x54, 0x4F, 2, 1, 1, 0, 0, 0, 0, 0, 0x10, 0, 1, 0, 0, 0, 0, 0, 0xFF, 0x3F,
+];
+
 /// Whether a text is read and written again as it was.
 fn comes_back(alloc: Global, text: &[u8]) -> bool {
     match read_object(alloc, text) {
@@ -58,6 +63,7 @@ fn objects_come_back(rt: HostRuntime) {
     assert!(rt; comes_back(rt.alloc(), &GUARDED));
     assert!(rt; comes_back(rt.alloc(), &MODULE));
     assert!(rt; comes_back(rt.alloc(), &ADDRESS));
+    assert!(rt; comes_back(rt.alloc(), &SELF_JUMP_2));
 }
 
 #[test]
@@ -110,6 +116,7 @@ fn a_text_cut_is_short(rt: HostRuntime) {
 /// One byte of the guarded store changed, and the fault that it then has.
 const DAMAGED: [(usize, u8, FormKind, u32); 12] = [
     (0, 0x53, FormKind::Magic, 0),
+    (4, 0, FormKind::Version, 4),
     (4, 3, FormKind::Version, 4),
     (5, 3, FormKind::Kind, 5),
     (12, 0x0F, FormKind::Limit, 12),

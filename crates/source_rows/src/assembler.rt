@@ -198,6 +198,26 @@ fn of_data(kind: RelKind, offset: u16) -> Reloc
     }
 }
 
+/// Sources with the version of their objects.
+const VERSIONS: [(u8, &str); 6] = [
+    (1, ".app 16 1\n.entry s\ns: JMP s\n"),
+    (2, ".app 16 1\n.version 2\n.entry s\ns: JMP s\n"),
+    (2, ".module\n.version 2\n.equ n 1\n.export 1 s\ns: JMP s\n"),
+    (2, ".module\n; the kind stands before\n\n  .Version 0x2\n.export 1 s\ns: JMP s\n"),
+    (2, ".app 16 1\nl: .version 2\n.equ x 1\n.entry l\nJMP l\n"),
+    (1, ".app 16 1\n.equ x 1\n.entry s\ns: JMP s\n"),
+];
+
+#[test]
+fn version_2_is_named_behind_the_kind(rt: HostRuntime) {
+    for (version, source) in VERSIONS {
+        match assemble(rt.alloc(), source.as_bytes()) {
+            Err(_) => assert!(rt; false),
+            Ok(o) => assert_eq!(rt; o.version, version),
+        }
+    }
+}
+
 #[test]
 fn addresses_are_relocated(rt: HostRuntime) -> Result<(), Fail> {
     let o: Object = assemble(rt.alloc(), ADDRESSES.as_bytes())

@@ -75,7 +75,7 @@ const FAULTS: [(AsmKind, u32, &str); 27] = [
     (
         BadDirective,
         1,
-        "NOP\n|.code\n.app 16 1\n|.app 16\n|.app 16 1 1\n|.app x 1\n|.module x\n",
+        "NOP\n|.code\n.app 16 1\n|.app 16\n|.app 16 1 1\n|.app x 1\n|.module x\n|.version 2\n.app 16 1\n",
     ),
     (
         BadDirective,
@@ -83,7 +83,8 @@ const FAULTS: [(AsmKind, u32, &str); 27] = [
         ".app 16 1\n.app 16 1\n|.app 16 1\n.module\n|.app 16 1\n.equ x\n|.app 16 1\n.equ 1x 1\n|\
          .app 16 1\n.word 1\n|.app 16 1\n.byte 1\n|.app 16 1\n.space 1\n|.app 16 1\n.data x\n|\
          .app 16 1\n.entry LO\n|.app 16 1\n.entry R5\n|.app 16 1\n.export 1 s\n|.module\n.entry s\n|\
-         .module\n.export s\n",
+         .module\n.export s\n|.module\n.version\n|.module\n.version 1\n|.module\n.version 3\n|\
+         .module\n.version 65538\n|.module\n.version -65534\n|.module\n.version x\n|.module\n.version 2 2\n",
     ),
     (
         BadDirective,
@@ -91,7 +92,8 @@ const FAULTS: [(AsmKind, u32, &str); 27] = [
         ".app 16 1\n.code\n.equ x 1\n|.app 16 1\n.data\nNOP\n|.app 16 1\n.zero\nNOP\n|.app 16 1\n.data\n.word\n|\
          .app 16 1\n.data\n.word 1,\n|.app 16 1\n.data\n.word LO\n|.app 16 1\n.data\n.byte s\n|\
          .app 16 1\n.equ x 1\n.entry x\n|.app 16 1\n.entry s\n.entry s\n|.app 16 1\n.data\n.byte 1 2\n|\
-         .app 16 1\n.data\n.byte 256,x\n",
+         .app 16 1\n.data\n.byte 256,x\n|.app 16 1\n.version 2\n.version 2\n|.app 16 1\n.equ x 1\n.version 2\n|\
+         .app 16 1\n.code\n.version 2\n|.app 16 1\nNOP\n.version 2\n|.app 16 1\n.entry s\n.version 2\n",
     ),
     (BadDirective, 4, ".app 16 1\n.data\n.byte 1\n.word 1\n"),
     (
