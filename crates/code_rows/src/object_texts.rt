@@ -114,7 +114,7 @@ fn a_text_cut_is_short(rt: HostRuntime) {
 }
 
 /// One byte of the guarded store changed, and the fault that it then has.
-const DAMAGED: [(usize, u8, FormKind, u32); 12] = [
+const DAMAGED: [(usize, u8, FormKind, u32); 13] = [
     (0, 0x53, FormKind::Magic, 0),
     (4, 0, FormKind::Version, 4),
     (4, 3, FormKind::Version, 4),
