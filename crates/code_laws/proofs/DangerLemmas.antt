@@ -14,41 +14,12 @@ use Rattle.code_model.specs.declared.guards.GuardKind.TheVariants as guard
 use Rattle.code_model.specs.declared.rules.Rule.{Rule}
 use Rattle.code_model.specs.declared.rules.Rule.TheVariants as rule
 use Rattle.code_model.specs.Starts.{Begins, Stands}
-use Rattle.code_model.specs.Guards.{Guarded, guard_words, FitAll, CoversBy, Covers, Covered, Own, Interior, UnitStart, Pops}
-use Rattle.code_model.specs.Rules.{Breaks, BreaksAt, WritesReg, ReadsStack}
+use Rattle.code_model.specs.Guards.{Guarded, CoversBy, Covers, Covered, OwnBy, Own, Interior, UnitStart}
+use Rattle.code_model.specs.Rules.{IsGuardedStore, Breaks, BreaksAt, WritesReg, ReadsStack}
 use Rattle.code_model.specs.Verdicts.{IsAccepted}
 use Rattle.code_model.specs.Dangers.{Acts, IsDangerous, DangersGuarded, WritesAbsolute}
-
--- ---- the first word of a guard
-
-begins_first : (ws : List ℕ) (i : Instr) (n : ℕ) → Begins ws i n → First i (slice_index ws 0)
-begins_first ws i zero h = absurd h.1
-begins_first [] i (suc n) h = absurd h.1
-begins_first (w ∷ ws) i (suc n) h = h.1.0
-
--- what stands at a place begins with its word
-pub stands_first : (code : List ℕ) (at : ℕ) (i : Instr) (n : ℕ) → Stands code at i n → First i (slice_index code at)
-stands_first code at i n h =
-    let e : slice_index (drop at code) 0 ≡ slice_index code (at + 0) = get_or-drop at code 0 0 in
-    let f : at + 0 ≡ at = omega arith in
-    subst (λ (w : ℕ). First i w) (e ∙ ap (slice_index code) f) (begins_first (drop at code) i n h)
-
--- each guard begins with `MOV SR,R5`
-pub guard_begins : (o : Object) (first : ℕ) (g : GuardKind) → FitAll o first (guard_words g) → slice_index o.code first ≡ 0x4205
-guard_begins o first guard.Store h = h.0.1.0
-guard_begins o first guard.Growth h = h.0.1.0
-guard_begins o first guard.Pop h = h.0.1.0
-guard_begins o first guard.Sp h = h.0.1.0
-
-pub quiet_src : (s : Src) → SrcRow s 2 0 → Pops s 1 → ⊥
-quiet_src (src.AutoInc n) row p = absurd (omega (arith, row.1))
-quiet_src (src.Reg n) row p = p
-quiet_src (src.Indexed n x) row p = p
-quiet_src (src.Symbolic x) row p = p
-quiet_src (src.Absolute x) row p = p
-quiet_src (src.Indirect n) row p = p
-quiet_src (src.Immediate x) row p = p
-quiet_src (src.Const c) row p = p
+use Rattle.code_laws.proofs.Begins.{stands_first, guard_begins, quiet_src}
+use Rattle.code_laws.proofs.Runs.{base_before, first_before}
 
 -- saving the status isn't dangerous
 pub saves_quietly : (i : Instr) → First i 0x4205 → Acts i → ⊥
@@ -78,13 +49,7 @@ saves_quietly (instr.Jump c k) f a = omega (arith, f.form)
 -- a guarded instruction is interior
 pub guarded_interior : (o : Object) (at : ℕ) (g : GuardKind) → Guarded o at g → Interior o at
 unfolding Covered Covers CoversBy
-guarded_interior o at g h = (h.start, (at, omega arith, (g, (h, omega (arith, h.ends, least g)))))
-  where
-    least : (k : GuardKind) → 1 ≤ length (guard_words k)
-    least guard.Store = omega arith
-    least guard.Growth = omega arith
-    least guard.Pop = omega arith
-    least guard.Sp = omega arith
+guarded_interior o at g h = (h.start, (at, omega arith, (g, (h, first_before o at g h))))
 
 pub record BeginsAt (o : Object) (at : ℕ) : Type 0 where
   pub guarded : ℕ
@@ -94,12 +59,11 @@ pub record BeginsAt (o : Object) (at : ℕ) : Type 0 where
 
 -- a unit start among a guard's own words is the guard's first
 pub own_first : (o : Object) (at : ℕ) → UnitStart o at → Own o at → BeginsAt o at
-unfolding Covered Covers CoversBy
-own_first o at unit (guarded, less, (g, (h, before))) =
-    let most : h.first ≤ at = omega arith in
+unfolding Covered Covers CoversBy Own OwnBy
+own_first o at unit (guarded, (g, (h, (most, before)))) =
     elim (eq-or-lt_of_le most) [
       | inl same ↦ record { guarded = guarded; kind = g; by = h; first = same }
-      | inr earlier ↦ absurd (unit.1 (unit.0, (guarded, omega arith, (g, (h, earlier)))))
+      | inr earlier ↦ absurd (unit.1 (unit.0, (guarded, omega (arith, base_before o guarded g h), (g, (h, earlier)))))
     ]
 
 -- a dangerous instruction that starts a unit is none of a guard's own
@@ -153,6 +117,10 @@ module _ (o : Object) (m : List ℕ) (accepted : IsAccepted o m) (at : ℕ) (n :
   writes_pc instr.Reti st d free a = a
   writes_pc (instr.Jump c k) st d free a = a
 
+  no_store : IsGuardedStore o at → ⊥
+  unfolding IsGuardedStore
+  no_store (g, (keeps, h)) = unguarded g h
+
   no_danger : (i : Instr) → Stands o.code at i n → IsDangerous o at i → ⊥
   no_danger i st d = go d.acts
     where
@@ -160,7 +128,7 @@ module _ (o : Object) (m : List ℕ) (accepted : IsAccepted o m) (at : ℕ) (n :
       free = danger_free o at i n unit st d.acts
 
       go : Acts i → ⊥
-      go (inl x) = accepted.none at rule.Store (free, broken rule.Store i st (x, unguarded guard.Store))
+      go (inl x) = accepted.none at rule.Store (free, broken rule.Store i st (x, no_store))
       go (inr (inl x)) = two_absolute i st d free x
       go (inr (inr (inl x))) = writes_pc i st d free x
       go (inr (inr (inr (inl x)))) = accepted.none at rule.Sp (free, broken rule.Sp i st (x, unguarded guard.Sp))

@@ -15,7 +15,8 @@ use Rattle.code_model.specs.declared.parts.RelKind.TheVariants.{Code, Data, Lo, 
 use Rattle.kernel_model.specs.Bitmap.{Has}
 use Rattle.code_model.specs.Relocs.{HasReloc, Unrelocated}
 use Rattle.code_model.specs.Guards.{UnitStart}
-use Rattle.code_model.specs.Rules.{IsJumpEntry, IsCallEntry, IsUnitOffset, IsBranchTarget, IsCallTarget, IsJumpTarget, InStatic, static_size}
+use Rattle.code_model.specs.Rules.{IsJumpEntry, IsCallEntry, IsUnitOffset, IsBranchTarget, IsCallTarget, IsJumpTarget}
+use Rattle.code_model.specs.Statics.{InStatic, static_size}
 use Rattle.code_model.specs.Verdicts.{IsAccepted}
 
 abbrev pub Decided : Type 0 → Type 0

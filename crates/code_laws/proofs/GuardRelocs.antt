@@ -17,7 +17,7 @@ use Rattle.code_model.specs.declared.parts.Reloc.{Reloc}
 use Rattle.code_model.specs.declared.parts.RelKind.{RelKind}
 use Rattle.code_model.specs.Relocs.{HasReloc, Unrelocated}
 use Rattle.code_model.specs.Starts.{Stands, Start}
-use Rattle.code_model.specs.Guards.{guard_words, Takes, FitAll}
+use Rattle.code_model.specs.Guards.{high_word, region_slots, guard_words, Takes, FitAll}
 use Rattle.code_model.specs.Rules.{IsRightWord, HasWrongReloc}
 use Rattle.code_laws.proofs.Lines.{next_line, save_line, load_line, add_stands, add_line, compare_stands, compare_line, jump_line}
 
@@ -39,7 +39,7 @@ right_after o s at op x k e start stands = record {
 abbrev IsOpen : Slot → Type 0
 IsOpen slot.Free = Unit {0}
 IsOpen slot.Low = Unit {0}
-IsOpen slot.High = Unit {0}
+IsOpen (slot.High v) = Unit {0}
 IsOpen _ = ⊥
 
 abbrev OpenAt : List Slot → (at k : ℕ) → Type 0
@@ -51,7 +51,7 @@ open_slot o at w (slot.Word v) fit wrong = absurd (none_has o.relocs at wrong.ki
 open_slot o at w slot.Load fit wrong = absurd (none_has o.relocs at wrong.kind fit.1 wrong.has)
 open_slot o at w slot.Free fit wrong = tt
 open_slot o at w slot.Low fit wrong = tt
-open_slot o at w slot.High fit wrong = tt
+open_slot o at w (slot.High v) fit wrong = tt
 
 wrong_open : (o : Object) (at : ℕ) (ss : List Slot) → FitAll o at ss → (k : ℕ) → at ≤ k → k < at + length ss → HasWrongReloc o k → OpenAt ss at k
 wrong_open o at [] fit k low high wrong = absurd (omega arith)
@@ -66,21 +66,21 @@ data InStore (at k : ℕ) : Type 0 where
   OnLow : k ≡ at + 5 → InStore at k
   OnHigh : k ≡ at + 8 → InStore at k
 
-store_open : (at k : ℕ) → OpenAt (guard_words guard.Store) at k → InStore at k
-store_open at k (inl x) = absurd x.1
-store_open at k (inr (inl x)) = absurd x.1
-store_open at k (inr (inr (inl x))) = absurd x.1
-store_open at k (inr (inr (inr (inl x)))) = OnFree (omega (arith, x.0))
-store_open at k (inr (inr (inr (inr (inl x))))) = absurd x.1
-store_open at k (inr (inr (inr (inr (inr (inl x)))))) = OnLow (omega (arith, x.0))
-store_open at k (inr (inr (inr (inr (inr (inr (inl x))))))) = absurd x.1
-store_open at k (inr (inr (inr (inr (inr (inr (inr (inl x)))))))) = absurd x.1
-store_open at k (inr (inr (inr (inr (inr (inr (inr (inr (inl x))))))))) = OnHigh (omega (arith, x.0))
-store_open at k (inr (inr (inr (inr (inr (inr (inr (inr (inr (inl x)))))))))) = absurd x.1
-store_open at k (inr (inr (inr (inr (inr (inr (inr (inr (inr (inr (inl x))))))))))) = absurd x.1
-store_open at k (inr (inr (inr (inr (inr (inr (inr (inr (inr (inr (inr (inl x)))))))))))) = absurd x.1
-store_open at k (inr (inr (inr (inr (inr (inr (inr (inr (inr (inr (inr (inr (inl x))))))))))))) = absurd x.1
-store_open at k (inr (inr (inr (inr (inr (inr (inr (inr (inr (inr (inr (inr (inr x))))))))))))) = absurd x
+store_open : (high at k : ℕ) → OpenAt (region_slots high) at k → InStore at k
+store_open high at k (inl x) = absurd x.1
+store_open high at k (inr (inl x)) = absurd x.1
+store_open high at k (inr (inr (inl x))) = absurd x.1
+store_open high at k (inr (inr (inr (inl x)))) = OnFree (omega (arith, x.0))
+store_open high at k (inr (inr (inr (inr (inl x))))) = absurd x.1
+store_open high at k (inr (inr (inr (inr (inr (inl x)))))) = OnLow (omega (arith, x.0))
+store_open high at k (inr (inr (inr (inr (inr (inr (inl x))))))) = absurd x.1
+store_open high at k (inr (inr (inr (inr (inr (inr (inr (inl x)))))))) = absurd x.1
+store_open high at k (inr (inr (inr (inr (inr (inr (inr (inr (inl x))))))))) = OnHigh (omega (arith, x.0))
+store_open high at k (inr (inr (inr (inr (inr (inr (inr (inr (inr (inl x)))))))))) = absurd x.1
+store_open high at k (inr (inr (inr (inr (inr (inr (inr (inr (inr (inr (inl x))))))))))) = absurd x.1
+store_open high at k (inr (inr (inr (inr (inr (inr (inr (inr (inr (inr (inr (inl x)))))))))))) = absurd x.1
+store_open high at k (inr (inr (inr (inr (inr (inr (inr (inr (inr (inr (inr (inr (inl x))))))))))))) = absurd x.1
+store_open high at k (inr (inr (inr (inr (inr (inr (inr (inr (inr (inr (inr (inr (inr x))))))))))))) = absurd x
 
 shut_seven : (at k : ℕ) → OpenAt (guard_words guard.Growth) at k ⊎ OpenAt (guard_words guard.Pop) at k → ⊥
 shut_seven at k (inl (inl x)) = x.1
@@ -113,9 +113,9 @@ shut_ten at k (inr (inr (inr (inr (inr (inr (inr (inr (inl x))))))))) = x.1
 shut_ten at k (inr (inr (inr (inr (inr (inr (inr (inr (inr (inl x)))))))))) = x.1
 shut_ten at k (inr (inr (inr (inr (inr (inr (inr (inr (inr (inr x)))))))))) = x
 
--- the immediates of a store guard may have their relocations
-store_right : (o : Object) (at k : ℕ) (j : RelKind) → FitAll o at (guard_words guard.Store) → Start o.code at → at + 13 < length o.code → InStore at k → IsRightWord o k j
-store_right o at k j (w0, (w1, (w2, (w3, (w4, (w5, (w6, (w7, (w8, rest))))))))) s inside on = go on
+-- the immediates of a guard that keeps an address in the region may have their relocations
+store_right : (o : Object) (high at k : ℕ) (j : RelKind) → FitAll o at (region_slots high) → Start o.code at → at + 13 < length o.code → InStore at k → IsRightWord o k j
+store_right o high at k j (w0, (w1, (w2, (w3, (w4, (w5, (w6, (w7, (w8, rest))))))))) s inside on = go on
   where
     s1 : Start o.code (at + 1)
     s1 = next_line o at 1 s (save_line o at w0.0 w0.1.0) (omega arith)
@@ -149,11 +149,16 @@ store_right o at k j (w0, (w1, (w2, (w3, (w4, (w5, (w6, (w7, (w8, rest))))))))) 
     go (OnLow e) = right_after o (at + 1 + 1 + 1 + 1) k Cmp _ j (omega arith) s4' (compare_stands o _ w5.0 w4.1.0)
     go (OnHigh e) = right_after o (at + 1 + 1 + 1 + 1 + 1 + 1 + 1) k Cmp _ j (omega arith) s7 (compare_stands o _ w8.0 w7.1.0)
 
+region_right : (o : Object) (v at : ℕ) → FitAll o at (region_slots v) → Start o.code at → at + 13 < length o.code → (k : ℕ) → at ≤ k → k < at + 13 → HasWrongReloc o k → ⊥
+region_right o v at fit s inside k low high wrong =
+    wrong.wrong (store_right o v at k wrong.kind fit s inside (store_open v at k (wrong_open o at (region_slots v) fit k low high wrong)))
+
 -- no word of a guard has a relocation that it may not have
 pub right_relocs : (o : Object) (at : ℕ) (g : GuardKind) → FitAll o at (guard_words g) → Start o.code at → at + length (guard_words g) < length o.code
     → (k : ℕ) → at ≤ k → k < at + length (guard_words g) → HasWrongReloc o k → ⊥
-right_relocs o at guard.Store fit s inside k low high wrong =
-    wrong.wrong (store_right o at k wrong.kind fit s inside (store_open at k (wrong_open o at (guard_words guard.Store) fit k low high wrong)))
+right_relocs o at guard.Store fit s inside k low high wrong = region_right o 0 at fit s inside k low high wrong
+right_relocs o at (guard.Wide r) fit s inside k low high wrong = region_right o (high_word r) at fit s inside k low high wrong
+right_relocs o at guard.Load fit s inside k low high wrong = region_right o 0 at fit s inside k low high wrong
 right_relocs o at guard.Growth fit s inside k low high wrong = shut_seven at k (inl (wrong_open o at (guard_words guard.Growth) fit k low high wrong))
 right_relocs o at guard.Pop fit s inside k low high wrong = shut_seven at k (inr (wrong_open o at (guard_words guard.Pop) fit k low high wrong))
 right_relocs o at guard.Sp fit s inside k low high wrong = shut_ten at k (wrong_open o at (guard_words guard.Sp) fit k low high wrong)

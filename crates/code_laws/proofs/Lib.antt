@@ -2,8 +2,10 @@ pub mod Standing
 pub mod Starting
 pub mod Numbers
 pub mod Refusing
-pub mod DangerLemmas
+pub mod Begins
 pub mod Lines
+pub mod Runs
+pub mod DangerLemmas
 pub mod GuardRelocs
 pub mod Inside
 pub mod Deciding

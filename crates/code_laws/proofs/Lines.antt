@@ -18,10 +18,10 @@ use Rattle.code_model.specs.declared.object.Object.{Object}
 use Rattle.code_model.specs.declared.guards.GuardKind.{GuardKind}
 use Rattle.code_model.specs.declared.guards.GuardKind.TheVariants as guard
 use Rattle.code_model.specs.Starts.{Begins, Stands, Start}
-use Rattle.code_model.specs.Guards.{IsLoad, guard_words, FitAll}
+use Rattle.code_model.specs.Guards.{IsLoad, high_word, region_slots, guard_words, FitAll}
 use Rattle.code_model.specs.Rules.{IsReti}
 use Rattle.code_laws.proofs.Starting.{starts_apart, next_start}
-use Rattle.code_laws.proofs.DangerLemmas.{guard_begins}
+use Rattle.code_laws.proofs.Begins.{guard_begins}
 
 -- ---- what stands, by its first word
 
@@ -56,8 +56,13 @@ data Line : Type 0 where
   Short : Line
   Long : Line
 
+region_lines : List Line
+region_lines = Short ∷ Long ∷ Long ∷ Short ∷ Long ∷ Short ∷ Long ∷ Short ∷ []
+
 lines : GuardKind → List Line
-lines guard.Store = Short ∷ Long ∷ Long ∷ Short ∷ Long ∷ Short ∷ Long ∷ Short ∷ []
+lines guard.Store = region_lines
+lines (guard.Wide r) = region_lines
+lines guard.Load = region_lines
 lines guard.Growth = Long ∷ Short ∷ Long ∷ Short ∷ []
 lines guard.Pop = Long ∷ Short ∷ Long ∷ Short ∷ []
 lines guard.Sp = Long ∷ Short ∷ Long ∷ Short ∷ Long ∷ Short ∷ []
@@ -222,9 +227,9 @@ after_save o at n w is more line = record { line = line; other = λ e. omega ari
 load_later : (o : Object) (at : ℕ) → IsLoad (slice_index o.code at) → IsLine o at 1 → IsLaterLine o at 1
 load_later o at load line = record { line = line; other = λ e. omega (arith, load.1, e) }
 
-guard_lines : (o : Object) (at : ℕ) (g : GuardKind) → FitAll o at (guard_words g) → LinesAt o (at + 1) (lines g)
-unfolding LinesAt lines
-guard_lines o at guard.Store (w0, (w1, (w2, (w3, (w4, (w5, (w6, (w7, (w8, (w9, (w10, (w11, (w12, end))))))))))))) = (
+region_guard_lines : (o : Object) (at high : ℕ) → FitAll o at (region_slots high) → LinesAt o (at + 1) region_lines
+unfolding LinesAt region_lines
+region_guard_lines o at high (w0, (w1, (w2, (w3, (w4, (w5, (w6, (w7, (w8, (w9, (w10, (w11, (w12, end))))))))))))) = (
   load_later o _ w1.1.0 (load_line o _ _ w1.0 refl w1.1.0),
   (
     after_save o _ 2 0x5034 w2.1.0 (omega arith) (add_line o _ w3.0 w2.1.0),
@@ -246,6 +251,12 @@ guard_lines o at guard.Store (w0, (w1, (w2, (w3, (w4, (w5, (w6, (w7, (w8, (w9, (
     ),
   ),
 )
+
+guard_lines : (o : Object) (at : ℕ) (g : GuardKind) → FitAll o at (guard_words g) → LinesAt o (at + 1) (lines g)
+unfolding LinesAt lines
+guard_lines o at guard.Store f = region_guard_lines o at 0 f
+guard_lines o at (guard.Wide r) f = region_guard_lines o at (high_word r) f
+guard_lines o at guard.Load f = region_guard_lines o at 0 f
 guard_lines o at guard.Growth (w0, (w1, (w2, (w3, (w4, (w5, (w6, end))))))) = (
   after_save o _ 2 0x9211 w1.1.0 (omega arith) (absolute_line o _ 0x9211 1 w2.0 w1.1.0 refl refl refl refl refl refl),
   (
@@ -284,14 +295,18 @@ guard_lines o at guard.Sp (w0, (w1, (w2, (w3, (w4, (w5, (w6, (w7, (w8, (w9, end)
 )
 
 lines_to_end : (at : ℕ) (g : GuardKind) → lines_end (at + 1) (lines g) ≡ at + length (guard_words g)
-unfolding lines_end lines
+unfolding lines_end lines region_lines
 lines_to_end at guard.Store = omega arith
+lines_to_end at (guard.Wide r) = omega arith
+lines_to_end at guard.Load = omega arith
 lines_to_end at guard.Growth = omega arith
 lines_to_end at guard.Pop = omega arith
 lines_to_end at guard.Sp = omega arith
 
 more_words : (g : GuardKind) → 1 < length (guard_words g)
 more_words guard.Store = omega arith
+more_words (guard.Wide r) = omega arith
+more_words guard.Load = omega arith
 more_words guard.Growth = omega arith
 more_words guard.Pop = omega arith
 more_words guard.Sp = omega arith

@@ -12,7 +12,7 @@ use Rattle.code_model.specs.declared.object.Object.{Object}
 use Rattle.code_model.specs.declared.guards.GuardKind.{GuardKind}
 use Rattle.code_model.specs.declared.verdict.Verdict.{Verdict}
 use Rattle.code_model.specs.Starts.{Stands, Start}
-use Rattle.code_model.specs.Guards.{Guarded, Own, UnitStart}
+use Rattle.code_model.specs.Guards.{Guarded, Own, Interior, UnitStart, most_served}
 use Rattle.code_model.specs.Rules.{IsNamed, IsBranch, IsBranchTarget, IsCall, IsCallTarget, IsJumpTarget}
 use Rattle.code_model.specs.Verdicts.{IsAccepted, IsVerdict, SameVerdict}
 use Rattle.code_model.specs.Dangers.{DangersGuarded}
@@ -45,9 +45,8 @@ BeforeInterior = (o : Object) (at a b : ℕ) (g : GuardKind) (i : Instr) (n : �
 pub record IsOneGuard (o : Object) (a b : ℕ) (g k : GuardKind) (h : Guarded o a g) (j : Guarded o b k) : Type 0 where
   pub kind : g ≡ k
   pub first : h.first ≡ j.first
-  pub guarded : a ≡ b
 
--- two guards, with the instructions that they guard, share a place p only where they are one
+-- two guards, with the instructions that they serve, share a place p only where they are one
 abbrev pub GuardsApart : Type 0
 GuardsApart = (o : Object) (a b p : ℕ) (g k : GuardKind) (h : Guarded o a g) (j : Guarded o b k)
     → h.first ≤ p → p ≤ a → j.first ≤ p → p ≤ b → IsOneGuard o a b g k h j
@@ -57,9 +56,18 @@ abbrev pub GoesOnFirst : Type 0
 GoesOnFirst = (o : Object) (at a : ℕ) (g : GuardKind) (i : Instr) (n : ℕ) (h : Guarded o a g) → UnitStart o at → Stands o.code at i n
     → h.first < at + n → at + n ≤ a → at ≡ h.first
 
--- behind a guarded instruction a unit starts, if the code goes on there
+-- the guard of an instruction serves what stands behind it too
+pub record GoesOn (o : Object) (at : ℕ) (g : GuardKind) (h : Guarded o at g) : Type 0 where
+  pub guarded : Guarded o (at + h.words) g
+  pub first : guarded.first ≡ h.first
+
+-- what stands behind a guarded instruction is served by the same guard, where it is interior
+abbrev pub GuardedGoesOn : Type 0
+GuardedGoesOn = (o : Object) (at : ℕ) (g : GuardKind) (h : Guarded o at g) → Interior o (at + h.words) → GoesOn o at g h
+
+-- behind the instruction of a guard that serves no other a unit starts, if the code goes on there
 abbrev pub GuardedLeaves : Type 0
-GuardedLeaves = (o : Object) (at : ℕ) (g : GuardKind) (h : Guarded o at g) → at + h.words < length o.code → UnitStart o (at + h.words)
+GuardedLeaves = (o : Object) (at : ℕ) (g : GuardKind) (h : Guarded o at g) → most_served g ≡ 1 → at + h.words < length o.code → UnitStart o (at + h.words)
 
 -- a guarded instruction is none of a guard's own
 abbrev pub GuardedFree : Type 0

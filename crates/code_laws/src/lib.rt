@@ -5,7 +5,7 @@
 //! checker's body.
 #![tactic(auto)]
 
-ghost use Rattle.code_laws.specs.Laws.{OneStands, NextStart, StartsApart, BeforeInterior, GuardsApart, GoesOnFirst, GuardedLeaves, GuardedFree, JumpLands, BranchLands, CallLands, NamedUnits, AcceptedGuarded, OneVerdict};
+ghost use Rattle.code_laws.specs.Laws.{OneStands, NextStart, StartsApart, BeforeInterior, GuardsApart, GoesOnFirst, GuardedGoesOn, GuardedLeaves, GuardedFree, JumpLands, BranchLands, CallLands, NamedUnits, AcceptedGuarded, OneVerdict};
 
 /// One instruction of one length stands at a place.
 pub fn one_stands()
@@ -37,7 +37,12 @@ pub fn goes_on_first()
     ensures { GoesOnFirst }
 {}
 
-/// Behind a guarded instruction a unit starts.
+/// Behind a guarded instruction its guard serves the next one, where that is interior.
+pub fn guarded_goes_on()
+    ensures { GuardedGoesOn }
+{}
+
+/// Behind the instruction of a guard that serves one alone a unit starts.
 pub fn guarded_leaves()
     ensures { GuardedLeaves }
 {}

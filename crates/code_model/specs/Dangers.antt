@@ -10,7 +10,8 @@ use Rattle.msp_encode.specs.Spelling.{src_words}
 use Rattle.code_model.specs.declared.object.Object.{Object}
 use Rattle.code_model.specs.Starts.{Stands, Start}
 use Rattle.code_model.specs.Guards.{Writes, Changes, Pops, Interior}
-use Rattle.code_model.specs.Rules.{IsReti, WritesReg, IsBranch, ChangesFlags, WritesMemory, InStatic, ReadsStack, IsPushOrCall, IsBranchTarget}
+use Rattle.code_model.specs.Rules.{IsReti, WritesReg, IsBranch, ChangesFlags, WritesMemory, ReadsStack, IsPushOrCall, IsBranchTarget}
+use Rattle.code_model.specs.Statics.{InStatic}
 
 abbrev pub IsAbsoluteDst : Dst → Type 0
 IsAbsoluteDst (dst.Absolute x) = Unit {0}

@@ -3,6 +3,7 @@ pub mod Fields
 pub mod Marks
 pub mod Starts
 pub mod Relocs
+pub mod Statics
 pub mod Guards
 pub mod Rules
 pub mod Verdicts

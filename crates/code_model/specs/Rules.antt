@@ -22,11 +22,13 @@ use Rattle.kernel_model.specs.declared.kinds.Kind.{Kind}
 use Rattle.kernel_model.specs.declared.kinds.Kind.TheVariants.{App, Module}
 use Rattle.code_model.specs.declared.parts.RelKind.{RelKind}
 use Rattle.code_model.specs.declared.parts.RelKind.TheVariants.{Code, Data}
+use Rattle.code_model.specs.declared.guards.GuardKind.{GuardKind}
 use Rattle.code_model.specs.declared.guards.GuardKind.TheVariants as guard
 use Rattle.code_model.specs.declared.rules.Rule.{Rule}
 use Rattle.code_model.specs.declared.rules.Rule.TheVariants as rule
 use Rattle.code_model.specs.Starts.{Stands, Start, Bad}
 use Rattle.code_model.specs.Relocs.{HasReloc, Unrelocated}
+use Rattle.code_model.specs.Statics.{InStatic}
 use Rattle.code_model.specs.Guards.{Writes, Changes, Stacks, IsMov, IsWide, DstIs, SrcIs, Pops, Guarded, Own, UnitStart}
 
 abbrev pub number : Rule → ℕ
@@ -110,14 +112,6 @@ abbrev pub WritesMemory : Instr → Type 0
 WritesMemory (instr.Two op w s d) = Writes op × IsMemoryDst d
 WritesMemory (instr.One op w s) = Changes op × IsMemorySrc s
 WritesMemory _ = ⊥
-
--- the bytes of the static part, initialised and zeroed, rounded up to even
-abbrev pub static_size : Object → ℕ
-static_size o = (length o.init + o.zeroed + 1) / 2 * 2
-
--- the word x at a place is an address in the static part
-abbrev pub InStatic : Object → ℕ → ℕ → Type 0
-InStatic o at x = HasReloc o.relocs at Data × (x < static_size o)
 
 -- an absolute operand that isn't in the static part, whose word is at this place
 abbrev pub IsWildDst : Object → ℕ → Dst → Type 0
@@ -232,13 +226,23 @@ pub record IsRightWord (o : Object) (at : ℕ) (k : RelKind) : Type 0 where
 
 -- ---- the rules
 
+-- the guards that keep stores in the region
+abbrev pub KeepsStores : GuardKind → Type 0
+KeepsStores guard.Store = Unit {0}
+KeepsStores (guard.Wide r) = Unit {0}
+KeepsStores _ = ⊥
+
+-- an instruction that such a guard serves
+unfoldable pub IsGuardedStore : Object → ℕ → Type 0
+IsGuardedStore o at = (g : GuardKind) × (KeepsStores g × Guarded o at g)
+
 -- an instruction of n words at a place breaks the rule
 abbrev pub Breaks : Rule → Object → ℕ → Instr → ℕ → Type 0
 Breaks rule.Reti o at i n = IsReti i
 Breaks rule.Pc o at i n = WritesReg i 0 × (IsBranch i → ⊥)
 Breaks rule.Sp o at i n = WritesReg i 1 × (Guarded o at guard.Sp → ⊥)
 Breaks rule.Sr o at i n = WritesReg i 2 × (ChangesFlags o at i → ⊥)
-Breaks rule.Store o at i n = WritesMemory i × (Guarded o at guard.Store → ⊥)
+Breaks rule.Store o at i n = WritesMemory i × (IsGuardedStore o at → ⊥)
 Breaks rule.Static o at i n = WritesWild o at i
 Breaks rule.Pop o at i n = ReadsStack i × (Guarded o at guard.Pop → ⊥)
 Breaks rule.Push o at i n = IsPushOrCall i × (Guarded o at guard.Growth → ⊥)

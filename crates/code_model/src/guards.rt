@@ -1,10 +1,22 @@
 //! The kinds of guards, and the slots of their words.
 
-/// A guard: a fixed group of words just before the instruction that it guards.
+/// How many bytes beyond the address that a wide guard tests its stores may go.
+#[derive(Clone, Copy, PartialEq, Eq, Debug, Drop)]
+pub enum Reach {
+    Two,
+    Four,
+    Six,
+}
+
+/// A guard: a fixed group of words just before the instruction that it guards, or before up to four of them.
 #[derive(Clone, Copy, PartialEq, Eq, Debug, Drop)]
 pub enum GuardKind {
     /// Keeps a store in the region.
     Store,
+    /// Keeps up to four stores in the region, each so many bytes beyond one address at most. Of version 2.
+    Wide(Reach),
+    /// Keeps a load in the region. Of version 2.
+    Load,
     /// Keeps a push in the stack.
     Growth,
     /// Keeps a pop in the stack.
@@ -24,6 +36,6 @@ pub enum Slot {
     Free,
     /// 0, with the relocation to the region's start.
     Low,
-    /// 0, with the relocation to the region's end.
-    High,
+    /// This word, with the relocation to the region's end.
+    High(u16),
 }

@@ -21,7 +21,8 @@ use Rattle.code_model.specs.declared.rules.Rule.TheVariants as rule
 use Rattle.code_model.specs.Starts.{Stands}
 use Rattle.code_model.specs.Relocs.{Unrelocated}
 use Rattle.code_model.specs.Guards.{UnitStart, Writes, IsMov, IsWide}
-use Rattle.code_model.specs.Rules.{IsBranch, IsImmediate, IsBisOrBic, NamesFlags, ChangesFlags, const_value, InStatic}
+use Rattle.code_model.specs.Rules.{IsBranch, IsImmediate, IsBisOrBic, NamesFlags, ChangesFlags, const_value}
+use Rattle.code_model.specs.Statics.{InStatic}
 use Rattle.machine_model.specs.Operands.{constant}
 use Rattle.code_laws.proofs.Standing.{same_instr}
 use Rattle.machine_model.specs.Alu.{writes}

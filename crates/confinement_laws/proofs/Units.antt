@@ -22,7 +22,8 @@ use Rattle.code_model.specs.declared.rules.Rule.{Rule}
 use Rattle.code_model.specs.declared.rules.Rule.TheVariants as rule
 use Rattle.code_model.specs.Starts.{Stands}
 use Rattle.code_model.specs.Guards.{Guarded, Own, UnitStart, Changes}
-use Rattle.code_model.specs.Rules.{IsBranchTarget, IsJumpTarget, InStatic, Breaks, BreaksAt}
+use Rattle.code_model.specs.Rules.{IsBranchTarget, IsJumpTarget, Breaks, BreaksAt}
+use Rattle.code_model.specs.Statics.{InStatic}
 use Rattle.machine_model.specs.Memory.{word_at}
 use Rattle.machine_laws.specs.Plain.{Plain, ChangesReg, ChangesData}
 use Rattle.load_model.specs.Domains.{Domain}

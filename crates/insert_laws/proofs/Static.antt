@@ -16,7 +16,8 @@ use Rattle.code_model.specs.declared.parts.RelKind.{RelKind}
 use Rattle.code_model.specs.declared.parts.RelKind.TheVariants.{Code, Data, Lo, Hi}
 use Rattle.code_model.specs.Fields.{Fields, fields}
 use Rattle.code_model.specs.Relocs.{HasReloc}
-use Rattle.code_model.specs.Rules.{static_size, InStatic, WritesWild}
+use Rattle.code_model.specs.Rules.{WritesWild}
+use Rattle.code_model.specs.Statics.{static_size, InStatic}
 use Rattle.insert_model.specs.declared.piece.Piece.{Piece}
 use Rattle.insert_model.specs.declared.piece.Word.{Word}
 use Rattle.insert_model.specs.Words.{operand_words, piece_words, unit_words}

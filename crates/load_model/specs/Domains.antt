@@ -3,7 +3,7 @@ use Rattle.std.specs.Prelude.{ℕ, ◌+◌, ◌*◌, List, length}
 use Rattle.code_model.specs.declared.object.Object.{Object}
 use Rattle.code_model.specs.declared.parts.RelKind.{RelKind}
 use Rattle.code_model.specs.declared.parts.RelKind.TheVariants.{Code, Data, Lo, Hi}
-use Rattle.code_model.specs.Rules.{static_size}
+use Rattle.code_model.specs.Statics.{static_size}
 
 -- an object, the marks of its unit starts, the address of its code, and its region [lo, hi)
 pub record Domain : Type 0 where

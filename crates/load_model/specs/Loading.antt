@@ -4,7 +4,7 @@ use Rattle.std.specs.List.{fold, find}
 use Rattle.flat_mem.specs.Bytes.{patch}
 use Rattle.code_model.specs.declared.object.Object.{Object}
 use Rattle.code_model.specs.declared.parts.Export.{Export}
-use Rattle.code_model.specs.Rules.{static_size}
+use Rattle.code_model.specs.Statics.{static_size}
 use Rattle.kernel_model.specs.declared.kinds.Kind.{Kind}
 use Rattle.kernel_model.specs.declared.kinds.Kind.TheVariants.{App, Module}
 use Rattle.kernel_model.specs.Bitmap.{Has}

@@ -13,7 +13,7 @@ use Rattle.kernel_model.specs.declared.rows.FnRow.{FnRow}
 use Rattle.kernel_model.specs.declared.rows.ThreadRow.{ThreadRow}
 use Rattle.code_model.specs.declared.object.Object.{Object}
 use Rattle.code_model.specs.declared.parts.Export.{Export}
-use Rattle.code_model.specs.Rules.{static_size}
+use Rattle.code_model.specs.Statics.{static_size}
 use Rattle.place_model.specs.declared.places.DomainRow.{DomainRow}
 use Rattle.place_model.specs.declared.places.Regions.{Regions}
 use Rattle.place_model.specs.Placing.{app_domain, module_domain, domain_at, pool_range, range_in, with_places, placed_app, placed_module}

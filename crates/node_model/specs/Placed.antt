@@ -5,7 +5,7 @@ use Rattle.kernel_model.specs.declared.kinds.Kind.{Kind}
 use Rattle.kernel_model.specs.declared.kinds.Kind.TheVariants.{App, Module}
 use Rattle.code_model.specs.declared.parts.RelKind.{RelKind}
 use Rattle.code_model.specs.Relocs.{HasReloc, Unrelocated}
-use Rattle.code_model.specs.Rules.{static_size}
+use Rattle.code_model.specs.Statics.{static_size}
 use Rattle.code_model.specs.Verdicts.{IsAccepted}
 use Rattle.machine_model.specs.Memory.{word_at, IsMemory}
 

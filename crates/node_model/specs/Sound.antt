@@ -2,7 +2,7 @@
 use Rattle.std.specs.Prelude.{◌≡◌, ◌≢◌, ℕ, ◌+◌, ◌*◌, ◌%◌, ◌^◌, ◌<◌, ◌≤◌, true, List, length, slice_index_or, Option, Some}
 use Rattle.kernel_model.specs.declared.kinds.Kind.{Kind}
 use Rattle.kernel_model.specs.declared.kinds.Kind.TheVariants.{App, Module}
-use Rattle.code_model.specs.Rules.{static_size}
+use Rattle.code_model.specs.Statics.{static_size}
 use Rattle.code_model.specs.Verdicts.{IsAccepted}
 use Rattle.machine_model.specs.Memory.{word_at, IsMemory}
 use Rattle.machine_model.specs.Context.{reg, IsContext}

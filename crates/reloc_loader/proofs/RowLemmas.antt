@@ -10,7 +10,7 @@ use Rattle.kernel_model.specs.Layout.{kernel_of}
 use Rattle.kernel_model.specs.Queues.{Leaves}
 use Rattle.kernel_model.specs.declared.rows.AppRow.{AppRow}
 use Rattle.code_model.specs.declared.object.Object.{Object}
-use Rattle.code_model.specs.Rules.{static_size}
+use Rattle.code_model.specs.Statics.{static_size}
 use Rattle.place_model.specs.declared.places.Regions.{Regions}
 use Rattle.place_model.specs.Placing.{first_number, number_count, placed_app, with_places}
 use Rattle.load_model.specs.Loading.{loaded_app, placed_row, ArePlaces}

@@ -2,7 +2,8 @@
 
 ghost use Rattle.std.specs.Prelude.{◌≡◌, ◌<◌, ◌≤◌, ◌↔◌, IsTrue};
 ghost use Rattle.code_model.specs.declared.guards.GuardKind.TheVariants as kind;
-ghost use Rattle.code_model.specs.Rules.{IsMemoryDst, IsMemorySrc, WritesMemory, InStatic, IsWildDst, IsWildSrc, WritesWild};
+ghost use Rattle.code_model.specs.Rules.{IsMemoryDst, IsMemorySrc, WritesMemory, IsWildDst, IsWildSrc, WritesWild};
+ghost use Rattle.code_model.specs.Statics.{InStatic};
 ghost use Rattle.static_checker.specs.Cursors.{IsCursor};
 
 use crate::cursor::{Cursor, has_reloc};
