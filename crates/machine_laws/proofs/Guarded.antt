@@ -5,7 +5,7 @@ use Rattle.machine_model.specs.Memory.{word_at}
 use Rattle.machine_model.specs.Context.{reg, set_reg}
 use Rattle.machine_model.specs.Operands.{sum_of, source_value, after_source, place_to, place_of, value_in, put_context, put_pairs, stored}
 use Rattle.machine_model.specs.Alu.{alu, writes, changes}
-use Rattle.machine_model.specs.Does.{does, two, one, change, push, call, passed, lowered}
+use Rattle.machine_model.specs.Does.{does, two, one, change, push, call, passed, lowered, Effect}
 use Rattle.msp_encode.specs.declared.instr.Width.{Width}
 use Rattle.msp_encode.specs.declared.instr.Width.TheVariants.{Wide, Byte}
 use Rattle.msp_encode.specs.declared.instr.Op2.{Op2}
@@ -15,21 +15,21 @@ use Rattle.msp_encode.specs.declared.instr.Src.TheVariants as src
 use Rattle.msp_encode.specs.declared.instr.Dst.TheVariants as dst
 use Rattle.msp_encode.specs.declared.instr.Instr.TheVariants as instr
 use Rattle.machine_laws.specs.Steady.{IsSteady, Bounds, AreBounds}
-use Rattle.machine_laws.specs.Guarded.{IsQuiet, Passes, StoreLaw, PushLaw, CallLaw, PopLaw, SpLaw}
+use Rattle.machine_laws.specs.Guarded.{IsQuiet, Passes, StoreLaw, StoreLeavesLaw, PushLaw, CallLaw, PopLaw, SpLaw}
 use Rattle.machine_laws.proofs.Values.{alu-status, one-status, word-small}
 use Rattle.machine_laws.proofs.Registers.{reg_other, pc_same, sp_same, steady-sr, steady-reg, steady-sp, source-read, source-r4, calm-quiet}
 use Rattle.machine_laws.proofs.Operations.{behind, two-writes, one-changes, stored-inside}
 
 -- ---- stores
 
-store-two : (b : Bounds) (kb : ℕ) (m r : List ℕ) (op : Op2) (w : Width) (s : Src) (n : ℕ) → AreBounds b → IsSteady kb b.low b.top r → reg r 0 + 2 * n < 65536
-    → writes op ≡ true → IsQuiet s → b.lo ≤ reg r 4 → reg r 4 < b.hi → Passes b.lo b.hi b kb (reg r 0 + 2 * n) (does m r (instr.Two op w s (dst.Indexed 4 0)) n)
+store-two : (b : Bounds) (kb x : ℕ) (m r : List ℕ) (op : Op2) (w : Width) (s : Src) (n : ℕ) → AreBounds b → IsSteady kb b.low b.top r → reg r 0 + 2 * n < 65536
+    → writes op ≡ true → IsQuiet s → b.lo ≤ reg r 4 → reg r 4 + x < b.hi → Passes b.lo b.hi b kb (reg r 0 + 2 * n) (does m r (instr.Two op w s (dst.Indexed 4 x)) n)
 unfolding place_to put_context put_pairs
-store-two b kb m r op w s n a st p h q l u =
+store-two b kb x m r op w s n a st p h q l u =
     let d = source-read kb b.low b.top w s r n st p (calm-quiet s q) in
     let four = source-r4 w s r n q in
-    let ok = alu-status op w (source_value w s (sum_of (reg r 0) 2) m (passed r n)) (value_in w (place_to (dst.Indexed 4 0) (sum_of (reg r 0) (2 * n - 2)) (behind w s n r)) m (behind w s n r)) (reg (behind w s n r) 2) kb d.steady.status (d.steady.context.small 2) in
-    subst (Passes b.lo b.hi b kb (reg r 0 + 2 * n)) (sym (two-writes op w s (dst.Indexed 4 0) n m r h)) record {
+    let ok = alu-status op w (source_value w s (sum_of (reg r 0) 2) m (passed r n)) (value_in w (place_to (dst.Indexed 4 x) (sum_of (reg r 0) (2 * n - 2)) (behind w s n r)) m (behind w s n r)) (reg (behind w s n r) 2) kb d.steady.status (d.steady.context.small 2) in
+    subst (Passes b.lo b.hi b kb (reg r 0 + 2 * n)) (sym (two-writes op w s (dst.Indexed 4 x) n m r h)) record {
       steady = steady-sr kb b.low b.top _ _ d.steady ok.0 ok.1;
       pc = reg_other _ 2 _ 0 (omega arith) ∙ d.pc;
       inside = stored-inside w b.lo b.hi _ _ a.lo_even a.hi_even (omega (arith, a.hi_word)) (omega (arith, a.hi_word));
@@ -49,23 +49,50 @@ store-one b kb m r op w n a st p h l u =
     }
 
 pub store-stays : StoreLaw
-store-stays b kb m r (instr.Two op w s (dst.Indexed k x)) n a st p h l u =
-    subst (λ (y : ℕ). Passes b.lo b.hi b kb (reg r 0 + 2 * n) (does m r (instr.Two op w s (dst.Indexed k y)) n)) (sym h.2)
-    (subst (λ (y : ℕ). Passes b.lo b.hi b kb (reg r 0 + 2 * n) (does m r (instr.Two op w s (dst.Indexed y 0)) n)) (sym h.1) (store-two b kb m r op w s n a st p h.0 h.3 l u))
-store-stays b kb m r (instr.Two op w s (dst.Reg k)) n a st p h l u = absurd h
-store-stays b kb m r (instr.Two op w s (dst.Symbolic x)) n a st p h l u = absurd h
-store-stays b kb m r (instr.Two op w s (dst.Absolute x)) n a st p h l u = absurd h
-store-stays b kb m r (instr.One op w (src.Indirect k)) n a st p h l u =
-    subst (λ (y : ℕ). Passes b.lo b.hi b kb (reg r 0 + 2 * n) (does m r (instr.One op w (src.Indirect y)) n)) (sym h.1) (store-one b kb m r op w n a st p h.0 l u)
-store-stays b kb m r (instr.One op w (src.Reg k)) n a st p h l u = absurd h
-store-stays b kb m r (instr.One op w (src.Indexed k x)) n a st p h l u = absurd h
-store-stays b kb m r (instr.One op w (src.Symbolic x)) n a st p h l u = absurd h
-store-stays b kb m r (instr.One op w (src.Absolute x)) n a st p h l u = absurd h
-store-stays b kb m r (instr.One op w (src.AutoInc k)) n a st p h l u = absurd h
-store-stays b kb m r (instr.One op w (src.Immediate x)) n a st p h l u = absurd h
-store-stays b kb m r (instr.One op w (src.Const k)) n a st p h l u = absurd h
-store-stays b kb m r instr.Reti n a st p h l u = absurd h
-store-stays b kb m r (instr.Jump c k) n a st p h l u = absurd h
+store-stays b kb most m r (instr.Two op w s (dst.Indexed k x)) n a st p h l u =
+    subst (λ (y : ℕ). Passes b.lo b.hi b kb (reg r 0 + 2 * n) (does m r (instr.Two op w s (dst.Indexed y x)) n)) (sym h.1) (store-two b kb x m r op w s n a st p h.0 h.3 l (omega (arith, h.2, u)))
+store-stays b kb most m r (instr.Two op w s (dst.Reg k)) n a st p h l u = absurd h
+store-stays b kb most m r (instr.Two op w s (dst.Symbolic x)) n a st p h l u = absurd h
+store-stays b kb most m r (instr.Two op w s (dst.Absolute x)) n a st p h l u = absurd h
+store-stays b kb most m r (instr.One op w (src.Indirect k)) n a st p h l u =
+    subst (λ (y : ℕ). Passes b.lo b.hi b kb (reg r 0 + 2 * n) (does m r (instr.One op w (src.Indirect y)) n)) (sym h.1) (store-one b kb m r op w n a st p h.0 l (omega (arith, u)))
+store-stays b kb most m r (instr.One op w (src.Reg k)) n a st p h l u = absurd h
+store-stays b kb most m r (instr.One op w (src.Indexed k x)) n a st p h l u = absurd h
+store-stays b kb most m r (instr.One op w (src.Symbolic x)) n a st p h l u = absurd h
+store-stays b kb most m r (instr.One op w (src.Absolute x)) n a st p h l u = absurd h
+store-stays b kb most m r (instr.One op w (src.AutoInc k)) n a st p h l u = absurd h
+store-stays b kb most m r (instr.One op w (src.Immediate x)) n a st p h l u = absurd h
+store-stays b kb most m r (instr.One op w (src.Const k)) n a st p h l u = absurd h
+store-stays b kb most m r instr.Reti n a st p h l u = absurd h
+store-stays b kb most m r (instr.Jump c k) n a st p h l u = absurd h
+
+two-leaves : (m r : List ℕ) (op : Op2) (w : Width) (s : Src) (k x n : ℕ) → writes op ≡ true → IsQuiet s → reg (does m r (instr.Two op w s (dst.Indexed k x)) n).context 4 ≡ reg r 4
+unfolding place_to put_context
+two-leaves m r op w s k x n h q =
+    subst (λ (e : Effect). reg e.context 4 ≡ reg r 4) (sym (two-writes op w s (dst.Indexed k x) n m r h))
+    (reg_other (behind w s n r) 2 _ 4 (omega arith) ∙ source-r4 w s r n q)
+
+one-leaves : (m r : List ℕ) (op : Op1) (w : Width) (k n : ℕ) → changes op ≡ true → reg (does m r (instr.One op w (src.Indirect k)) n).context 4 ≡ reg r 4
+unfolding change place_of put_context
+one-leaves m r op w k n h =
+    subst (λ (e : Effect). reg e.context 4 ≡ reg r 4) (sym (one-changes op w (src.Indirect k) n m r h))
+    (reg_other (behind w (src.Indirect k) n r) 2 _ 4 (omega arith) ∙ source-r4 w (src.Indirect k) r n tt)
+
+pub store-leaves : StoreLeavesLaw
+store-leaves most m r (instr.Two op w s (dst.Indexed k x)) n h = two-leaves m r op w s k x n h.0 h.3
+store-leaves most m r (instr.Two op w s (dst.Reg k)) n h = absurd h
+store-leaves most m r (instr.Two op w s (dst.Symbolic x)) n h = absurd h
+store-leaves most m r (instr.Two op w s (dst.Absolute x)) n h = absurd h
+store-leaves most m r (instr.One op w (src.Indirect k)) n h = one-leaves m r op w k n h.0
+store-leaves most m r (instr.One op w (src.Reg k)) n h = absurd h
+store-leaves most m r (instr.One op w (src.Indexed k x)) n h = absurd h
+store-leaves most m r (instr.One op w (src.Symbolic x)) n h = absurd h
+store-leaves most m r (instr.One op w (src.Absolute x)) n h = absurd h
+store-leaves most m r (instr.One op w (src.AutoInc k)) n h = absurd h
+store-leaves most m r (instr.One op w (src.Immediate x)) n h = absurd h
+store-leaves most m r (instr.One op w (src.Const k)) n h = absurd h
+store-leaves most m r instr.Reti n h = absurd h
+store-leaves most m r (instr.Jump c k) n h = absurd h
 
 -- ---- pushes and calls
 

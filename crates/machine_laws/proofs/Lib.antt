@@ -9,6 +9,7 @@ pub mod Masks
 pub mod Registers
 pub mod Operations
 pub mod Guarded
+pub mod Same
 pub mod Plain
 pub mod Branches
 pub mod Memory

@@ -21,11 +21,11 @@ abbrev pub IsQuiet : Src → Type 0
 IsQuiet (src.AutoInc n) = (4 < n) × (n < 16)
 IsQuiet _ = Unit {0}
 
--- what a store guard guards: a write to 0(R4) or to @R4
-abbrev pub IsStore : Instr → Type 0
-IsStore (instr.Two op w s (dst.Indexed n x)) = (writes op ≡ true) × (n ≡ 4) × (x ≡ 0) × IsQuiet s
-IsStore (instr.One op w (src.Indirect n)) = (changes op ≡ true) × (n ≡ 4)
-IsStore _ = ⊥
+-- what a guard of stores guards: a write to @R4, or to x(R4) where x is at most so many bytes
+abbrev pub IsStore : ℕ → Instr → Type 0
+IsStore most (instr.Two op w s (dst.Indexed n x)) = (writes op ≡ true) × (n ≡ 4) × (x ≤ most) × IsQuiet s
+IsStore most (instr.One op w (src.Indirect n)) = (changes op ≡ true) × (n ≡ 4)
+IsStore most _ = ⊥
 
 -- PC is at an address, and what was written lies in [from, to)
 pub record Passes (from to : ℕ) (b : Bounds) (kb next : ℕ) (e : Effect) : Type 0 where
@@ -35,8 +35,12 @@ pub record Passes (from to : ℕ) (b : Bounds) (kb next : ℕ) (e : Effect) : Ty
 
 -- a store whose address was tested writes in the region
 abbrev pub StoreLaw : Type 0
-StoreLaw = (b : Bounds) (kb : ℕ) (m r : List ℕ) (i : Instr) (n : ℕ) → AreBounds b → IsSteady kb b.low b.top r → reg r 0 + 2 * n < 65536
-    → IsStore i → b.lo ≤ reg r 4 → reg r 4 < b.hi → Passes b.lo b.hi b kb (reg r 0 + 2 * n) (does m r i n)
+StoreLaw = (b : Bounds) (kb most : ℕ) (m r : List ℕ) (i : Instr) (n : ℕ) → AreBounds b → IsSteady kb b.low b.top r → reg r 0 + 2 * n < 65536
+    → IsStore most i → b.lo ≤ reg r 4 → reg r 4 + most < b.hi → Passes b.lo b.hi b kb (reg r 0 + 2 * n) (does m r i n)
+
+-- and leaves the address that was tested
+abbrev pub StoreLeavesLaw : Type 0
+StoreLeavesLaw = (most : ℕ) (m r : List ℕ) (i : Instr) (n : ℕ) → IsStore most i → reg (does m r i n).context 4 ≡ reg r 4
 
 -- a push where there is room for six bytes writes in the stack
 abbrev pub PushLaw : Type 0

@@ -1,6 +1,6 @@
 -- One step at a guard's own instructions.
-use Rattle.std.specs.Prelude.{◌≡◌, ℕ, ◌+◌, ◌*◌, ◌%◌, ◌<◌, ◌⊎◌, List, [], true, pos}
-use Rattle.machine_model.specs.Context.{reg}
+use Rattle.std.specs.Prelude.{◌≡◌, ℕ, ◌+◌, ◌*◌, ◌%◌, ◌<◌, ◌≤◌, ◌⊎◌, List, [], true, pos}
+use Rattle.machine_model.specs.Context.{reg, IsContext}
 use Rattle.machine_model.specs.Does.{does, Effect}
 use Rattle.msp_encode.specs.declared.instr.Width.TheVariants.{Wide}
 use Rattle.msp_encode.specs.declared.instr.Op2.TheVariants.{Mov, Add, Cmp}
@@ -99,6 +99,22 @@ Next JumpsIfNewHigh g b kb e = GoesTo SpFails g b kb e ⊎ GoesTo SpRestores g b
 Next SpFails g b kb e = Faults 0xF002 b kb e
 Next SpRestores g b kb e = GoesTo SetsSp g b kb e
 Next _ g b kb e = Unit {0}
+
+-- the address was taken from a register and is still that register's value, or is about to be
+abbrev pub TakesFrom : GuardPlace → GuardAt → ℕ → List ℕ → Type 0
+TakesFrom TakesAddress g k r = g.from ≡ src.Reg k
+TakesFrom AddsIndex g k r = (g.x ≡ 0) × (reg r 4 ≡ reg r k)
+TakesFrom ComparesLow g k r = reg r 4 ≡ reg r k
+TakesFrom JumpsIfLow g k r = reg r 4 ≡ reg r k
+TakesFrom ComparesHigh g k r = reg r 4 ≡ reg r k
+TakesFrom JumpsIfHigh g k r = reg r 4 ≡ reg r k
+TakesFrom StoreRestores g k r = reg r 4 ≡ reg r k
+TakesFrom _ g k r = ⊥
+
+-- a step of the guard keeps it so
+abbrev pub SameLaw : Type 0
+SameLaw = (p : GuardPlace) (g : GuardAt) (b : Bounds) (m r : List ℕ) (i : Instr) (n k : ℕ) → IsContext r → IsOwn p g b i n → 6 ≤ k → k < 16
+    → TakesFrom p g k r → reg (does m r i n).context 4 ≡ reg (does m r i n).context k
 
 -- one step from a place at which what is to be known is so
 abbrev pub OwnLaw : Type 0

@@ -6,8 +6,8 @@
 //! others, `specs/Writes.antt` what written bytes leave.
 #![tactic(auto)]
 
-ghost use Rattle.machine_laws.specs.Guarded.{CallLaw, PopLaw, PushLaw, SpLaw, StoreLaw};
-ghost use Rattle.machine_laws.specs.Own.{OwnLaw};
+ghost use Rattle.machine_laws.specs.Guarded.{CallLaw, PopLaw, PushLaw, SpLaw, StoreLaw, StoreLeavesLaw};
+ghost use Rattle.machine_laws.specs.Own.{OwnLaw, SameLaw};
 ghost use Rattle.machine_laws.specs.Plain.{BranchLaw, JumpLaw, PlainLaw, SaveLaw};
 ghost use Rattle.machine_laws.specs.Writes.{MemoryLaw, PartLaw, WordLaw, WrittenLaw};
 
@@ -19,6 +19,16 @@ pub fn own_leads()
 /// A guarded store writes in the region.
 pub fn store_stays()
     ensures { StoreLaw }
+{}
+
+/// A guarded store leaves the address that was tested.
+pub fn store_leaves()
+    ensures { StoreLeavesLaw }
+{}
+
+/// A guard's own instructions keep the address that it tests equal to the register that it was taken from.
+pub fn same_stays()
+    ensures { SameLaw }
 {}
 
 /// A guarded PUSH writes in the stack.
