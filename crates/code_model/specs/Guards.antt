@@ -33,11 +33,6 @@ reach_bytes reach.Two = 2
 reach_bytes reach.Four = 4
 reach_bytes reach.Six = 6
 
--- the bytes between the region's end and the least address that the guard refuses
-abbrev pub margin : GuardKind → ℕ
-margin (guard.Wide r) = reach_bytes r
-margin _ = 0
-
 -- the word that the region's end is added to, which takes so many bytes away
 abbrev pub high_word : Reach → ℕ
 high_word reach.Two = 0xFFFE

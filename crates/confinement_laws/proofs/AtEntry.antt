@@ -13,6 +13,6 @@ at-entry d low top m c s good h = from good.somewhere
         → IsJumpEntry d.object.kind (reg c 0) ⊎ (IsCallEntry d.object.kind (reg c 0) × (reg c 1 + 2 ≤ top))
     from (AtUnit at u here) = absurd (omega (arith, here, u.0.below, s.placed.code_high))
     from (Within p at) =
-        absurd (omega (arith, at.pc, (place-start d.object at.guarded p at.by).below, s.placed.code_high))
+        absurd (omega (arith, at.pc, (place-start d.object at.guarded p at.kind at.of at.by).below, s.placed.code_high))
     from (Jumped e) = inl e
     from (Called e room) = inr (e, room)

@@ -22,14 +22,15 @@ use Rattle.code_model.specs.Rules.{SrcCarries, DstCarries, Carries, IsRightWord,
 use Rattle.code_model.specs.Verdicts.{IsAccepted}
 use Rattle.code_laws.proofs.Standing.{size_most, same_instr, same_size}
 use Rattle.code_laws.proofs.Starting.{starts_apart, next_start}
+use Rattle.code_laws.proofs.Runs.{base_before}
 use Rattle.machine_model.specs.Memory.{word_at}
 use Rattle.machine_model.specs.Operands.{sum_of}
 use Rattle.machine_model.specs.Fetching.{words_from, IsFetched}
 use Rattle.machine_laws.specs.Places.{GuardPlace, place_offset}
 use Rattle.load_model.specs.Domains.{Domain, addend}
 use Rattle.node_model.specs.Placed.{IsWellPlaced, CodeStands, StandsIn, address}
-use Rattle.node_model.specs.Good.{guard_of}
-use Rattle.confinement_laws.proofs.Lines.{line, line_words, IsLine, SlotWord, Worded, begins-line}
+use Rattle.node_model.specs.Good.{guard_of, IsOf}
+use Rattle.confinement_laws.proofs.Lines.{line, line_words, IsLine, SlotWord, Worded, worded-as, words-as, begins-line}
 use Rattle.confinement_laws.proofs.Runs.{fit-at, line-least, line-few, line-ends}
 use Rattle.confinement_laws.proofs.Guarding.{stands-first}
 use Rattle.confinement_laws.proofs.Placing.{placed, placed-begins, size-is}
@@ -45,7 +46,7 @@ slot-in d m at (slot.Word v) c f = c.plain at f.0 f.1.1 ∙ f.1.0
 slot-in d m at slot.Load c f = subst IsLoad (sym (c.plain at f.0 f.1.1)) f.1.0
 slot-in d m at slot.Free c f = tt
 slot-in d m at slot.Low c f = tt
-slot-in d m at slot.High c f = tt
+slot-in d m at (slot.High v) c f = tt
 
 -- word k of a guard in memory
 abbrev pub words_in : Domain → List ℕ → ℕ → ℕ → ℕ
@@ -66,12 +67,12 @@ next-word d m at k w l h =
     ap (word_at m) e
 
 -- what is fetched at a place of one of a guard's own instructions
-pub line-fetched : (d : Domain) (m : List ℕ) (guarded : ℕ) (p : GuardPlace) (h : Guarded d.object guarded (guard_of p)) (pc : ℕ) → StandsIn d m → IsLine p
+pub line-fetched : (d : Domain) (m : List ℕ) (guarded : ℕ) (p : GuardPlace) (k : GuardKind) (of : IsOf k (guard_of p)) (h : Guarded d.object guarded k) (pc : ℕ) → StandsIn d m → IsLine p
     → pc ≡ address d (h.first + place_offset p) → IsFetched m pc (line p (words_in d m h.first)) (line_words p)
-line-fetched d m guarded p h pc s t e =
-    let l : h.first + place_offset p < length d.object.code = omega (arith, line-ends p t, line-least p t, h.ends, h.start.below) in
+line-fetched d m guarded p k of h pc s t e =
+    let l : h.first + place_offset p < length d.object.code = omega (arith, line-ends p t, line-least p t, words-as k (guard_of p) of, h.ends, base_before d.object guarded k h, h.start.below) in
     let a : address d (h.first + place_offset p + 1) ≡ address d (h.first + (place_offset p + 1)) = omega arith in
-    begins-line p (words_in d m h.first) (words_from m pc) t (worded-in d m guarded (guard_of p) h s.code) (line-few p t) (ap (word_at m) e)
+    begins-line p (words_in d m h.first) (words_from m pc) t (worded-as k (guard_of p) (words_in d m h.first) of (worded-in d m guarded k h s.code)) (line-few p t) (ap (word_at m) e)
     (λ _. ap (λ (x : ℕ). word_at m (sum_of x 2)) e ∙ (next-word d m (h.first + place_offset p) 1 s.placed l (omega arith) ∙ ap (word_at m) a))
 
 -- ---- the object's instruction in memory

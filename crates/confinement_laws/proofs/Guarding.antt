@@ -7,11 +7,12 @@ use Rattle.msp_encode.specs.Spelling.{First}
 use Rattle.code_model.specs.declared.object.Object.{Object}
 use Rattle.code_model.specs.declared.guards.GuardKind.{GuardKind}
 use Rattle.code_model.specs.Starts.{Begins, Stands, Start}
-use Rattle.code_model.specs.Guards.{Guarded, CoversBy, Covers, Covered, Own, Interior, UnitStart}
+use Rattle.code_model.specs.Guards.{Guarded, CoversBy, Covers, Covered, OwnBy, Own, Interior, UnitStart}
 use Rattle.code_laws.specs.Laws.{GoesOnFirst}
 use Rattle.code_laws.proofs.Standing.{same_instr, same_size}
+use Rattle.code_laws.proofs.Runs.{base_before, first_before}
 use Rattle.confinement_laws.proofs.Lines.{save}
-use Rattle.confinement_laws.proofs.Runs.{first-word, save-stands, some-words}
+use Rattle.confinement_laws.proofs.Runs.{first-word, save-stands}
 
 -- a list that begins with an instruction has its first word
 pub begins-first : (l : List ℕ) (i : Instr) (n : ℕ) → Begins l i n → First i (get_or l 0 0)
@@ -28,7 +29,7 @@ stands-first code at i n h =
 -- a guarded instruction is interior
 pub guarded-interior : (o : Object) (at : ℕ) (g : GuardKind) → Guarded o at g → Interior o at
 unfolding Covered Covers CoversBy
-guarded-interior o at g h = (h.start, (at, omega arith, (g, (h, omega (arith, h.ends, some-words g)))))
+guarded-interior o at g h = (h.start, (at, omega arith, (g, (h, first_before o at g h))))
 
 -- the guard of a unit start that is a guard's own word begins there
 pub record Begun (o : Object) (at : ℕ) : Type 0 where
@@ -38,12 +39,12 @@ pub record Begun (o : Object) (at : ℕ) : Type 0 where
   pub first : by.first ≡ at
 
 own-begun : (o : Object) (at : ℕ) → UnitStart o at → Own o at → Begun o at
-unfolding Covered Covers CoversBy
-own-begun o at u (top, l, (k, (j, f))) = elim (cases_order j.first at) [
+unfolding Covered Covers CoversBy Own OwnBy
+own-begun o at u (top, (k, (j, (low, high)))) = elim (cases_order j.first at) [
   | inl same ↦ record { guarded = top; kind = k; by = j; first = same }
   | inr other ↦ elim other [
-    | inl less ↦ absurd (u.1 (u.0, (top, omega arith, (k, (j, less)))))
-    | inr more ↦ absurd (omega arith)
+    | inl less ↦ absurd (u.1 (u.0, (top, omega (arith, high, base_before o top k j), (k, (j, less)))))
+    | inr more ↦ absurd (omega (arith, low, more))
   ]
 ]
 

@@ -11,7 +11,9 @@ use Rattle.msp_encode.specs.declared.instr.Instr.{Instr}
 use Rattle.msp_encode.specs.declared.instr.Instr.TheVariants as instr
 use Rattle.code_model.specs.Guards.{Guarded, UnitStart, Pops as PopsOf, IsGrowthForm}
 use Rattle.code_model.specs.Guards as guards
-use Rattle.code_model.specs.Rules.{IsPushOrCall, ReadsStack}
+use Rattle.code_model.specs.declared.guards.GuardKind.{GuardKind}
+use Rattle.code_model.specs.declared.guards.GuardKind.TheVariants as guard
+use Rattle.code_model.specs.Rules.{IsPushOrCall, ReadsStack, KeepsStores}
 use Rattle.machine_model.specs.Context.{reg}
 use Rattle.machine_model.specs.Alu.{changes}
 use Rattle.machine_model.specs.Does.{does, Effect}
@@ -30,8 +32,10 @@ use Rattle.confinement_laws.proofs.Placing.{placed, placed_src}
 use Rattle.confinement_laws.proofs.Fetching.{words_in, fetched-is, fetched-same, line-fetched}
 use Rattle.confinement_laws.proofs.Units.{Sort, IsPlain, Branches, Jumps}
 use Rattle.confinement_laws.proofs.UnitSorts.{sort-of}
-use Rattle.confinement_laws.proofs.Storing.{is-store}
-use Rattle.confinement_laws.proofs.Stacking.{pop-form, sp-form, grows}
+use Rattle.confinement_laws.proofs.Leading.{line-pc}
+use Rattle.confinement_laws.proofs.Storing.{reach_of, is-store}
+use Rattle.confinement_laws.proofs.Loading.{stores-or-loads, loaded-sort}
+use Rattle.confinement_laws.proofs.Stacking.{pop-form, sp-form, serves-as, grows}
 use Rattle.confinement_laws.proofs.Steps.{jump-entry-high, call-entry-high}
 
 -- an instruction that neither pushes nor pops
@@ -86,21 +90,21 @@ sort-still d m at i (IsPlain j p) = plain-still d.lo d.hi (placed j (words_in d 
 sort-still d m at i (Branches x t) = record { no_push = λ p. p; no_pop = λ p. p }
 sort-still d m at i (Jumps c k t) = record { no_push = λ p. p; no_pop = λ p. p }
 
-store-still : (i : Instr) → IsStore i → IsStill i
-store-still (instr.Two op w s (dst.Indexed n x)) h = record { no_push = λ p. p; no_pop = quiet-no_pop s h.3 }
-store-still (instr.Two op w s (dst.Reg n)) h = absurd h
-store-still (instr.Two op w s (dst.Symbolic x)) h = absurd h
-store-still (instr.Two op w s (dst.Absolute x)) h = absurd h
-store-still (instr.One op w (src.Indirect n)) h = record { no_push = changes-no_push op w (src.Indirect n) h.0; no_pop = λ p. p }
-store-still (instr.One op w (src.Reg n)) h = absurd h
-store-still (instr.One op w (src.Indexed n x)) h = absurd h
-store-still (instr.One op w (src.Symbolic x)) h = absurd h
-store-still (instr.One op w (src.Absolute x)) h = absurd h
-store-still (instr.One op w (src.AutoInc n)) h = absurd h
-store-still (instr.One op w (src.Immediate x)) h = absurd h
-store-still (instr.One op w (src.Const k)) h = absurd h
-store-still instr.Reti h = absurd h
-store-still (instr.Jump c k) h = absurd h
+store-still : (most : ℕ) (i : Instr) → IsStore most i → IsStill i
+store-still most (instr.Two op w s (dst.Indexed n x)) h = record { no_push = λ p. p; no_pop = quiet-no_pop s h.3 }
+store-still most (instr.Two op w s (dst.Reg n)) h = absurd h
+store-still most (instr.Two op w s (dst.Symbolic x)) h = absurd h
+store-still most (instr.Two op w s (dst.Absolute x)) h = absurd h
+store-still most (instr.One op w (src.Indirect n)) h = record { no_push = changes-no_push op w (src.Indirect n) h.0; no_pop = λ p. p }
+store-still most (instr.One op w (src.Reg n)) h = absurd h
+store-still most (instr.One op w (src.Indexed n x)) h = absurd h
+store-still most (instr.One op w (src.Symbolic x)) h = absurd h
+store-still most (instr.One op w (src.Absolute x)) h = absurd h
+store-still most (instr.One op w (src.AutoInc n)) h = absurd h
+store-still most (instr.One op w (src.Immediate x)) h = absurd h
+store-still most (instr.One op w (src.Const k)) h = absurd h
+store-still most instr.Reti h = absurd h
+store-still most (instr.Jump c k) h = absurd h
 
 load-no_pop : (b : Bool) (n : ℕ) → PopsOf (load_of b n) 1 → ⊥
 load-no_pop true n p = p
@@ -138,20 +142,31 @@ line-still SetsSp w t = absurd t
 
 line-stays : (d : Domain) (low top : ℕ) (m c : List ℕ) (p : GuardPlace) (i : Instr) (n : ℕ) → IsLine p → StandsIn d m → IsAtPlace d (bounds d low top) c p → IsFetched m (reg c 0) i n → StaysInStack low top c i (does m c i n)
 line-stays d low top m c p i n t s at f =
-    let same = fetched-same m (reg c 0) i (line p (words_in d m at.by.first)) n (line_words p) f (line-fetched d m at.guarded p at.by (reg c 0) s t at.pc) in
+    let same = fetched-same m (reg c 0) i (line p (words_in d m at.by.first)) n (line_words p) f (line-fetched d m at.guarded p at.kind at.of at.by (reg c 0) s t (line-pc d (bounds d low top) c p at t)) in
     still-stays low top c i (does m c i n) (subst IsStill (sym same.0) (line-still p (words_in d m at.by.first) t))
 
-stores-stay : (d : Domain) (low top : ℕ) (m c : List ℕ) (i : Instr) (n : ℕ) → StandsIn d m → IsAtPlace d (bounds d low top) c Stores → IsFetched m (reg c 0) i n → StaysInStack low top c i (does m c i n)
-stores-stay d low top m c i n s at f =
-    let here : reg c 0 ≡ address d at.guarded = at.pc ∙ omega (arith, at.by.ends) in
-    let same = fetched-is d m at.guarded at.by.instr i at.by.words n (reg c 0) s at.by.start at.by.stands here f in
-    still-stays low top c i (does m c i n) (subst IsStill (sym same.0) (store-still (placed at.by.instr (words_in d m at.guarded)) (is-store d m at.guarded at.by.instr at.by.words s.code at.by.start at.by.stands at.by.serves)))
+stores-stay : (d : Domain) (low top : ℕ) (m c : List ℕ) (i : Instr) (n : ℕ) → StandsIn d m → (at : IsAtPlace d (bounds d low top) c Stores) → KeepsStores at.kind → IsFetched m (reg c 0) i n → StaysInStack low top c i (does m c i n)
+stores-stay d low top m c i n s at keeps f =
+    let same = fetched-is d m at.guarded at.by.instr i at.by.words n (reg c 0) s at.by.start at.by.stands at.pc f in
+    still-stays low top c i (does m c i n) (subst IsStill (sym same.0)
+    (store-still (reach_of at.kind) (placed at.by.instr (words_in d m at.guarded)) (is-store d m at.guarded at.by.first at.kind at.by.instr at.by.words keeps s.code at.by.start at.by.stands at.by.serves)))
+
+loaded-stays : CheckerLaws → (d : Domain) (low top : ℕ) (m c : List ℕ) (i : Instr) (n guarded : ℕ) (h : Guarded d.object guarded guard.Load) → StandsIn d m → reg c 0 ≡ address d guarded → IsFetched m (reg c 0) i n → StaysInStack low top c i (does m c i n)
+loaded-stays laws d low top m c i n guarded h s here f =
+    let same = fetched-is d m guarded h.instr i h.words n (reg c 0) s h.start h.stands here f in
+    still-stays low top c i (does m c i n) (subst IsStill (sym same.0) (plain-still d.lo d.hi (placed h.instr (words_in d m guarded)) (loaded-sort laws d m guarded h s)))
+
+served-stays : CheckerLaws → (d : Domain) (low top : ℕ) (m c : List ℕ) (i : Instr) (n : ℕ) → StandsIn d m → (at : IsAtPlace d (bounds d low top) c Stores) → IsFetched m (reg c 0) i n → StaysInStack low top c i (does m c i n)
+served-stays laws d low top m c i n s at f = elim (stores-or-loads at.kind at.of) [
+  | inl keeps ↦ stores-stay d low top m c i n s at keeps f
+  | inr load ↦ loaded-stays laws d low top m c i n at.guarded (subst (λ (k : GuardKind). Guarded d.object at.guarded k) load at.by) s at.pc f
+]
 
 pops-stay : (d : Domain) (low top : ℕ) (m c : List ℕ) (i : Instr) (n : ℕ) → StandsIn d m → Limits m low top → IsSteady (bits d) low top c → IsAtPlace d (bounds d low top) c Pops → IsFetched m (reg c 0) i n → StaysInStack low top c i (does m c i n)
 pops-stay d low top m c i n s li st at f =
-    let here : reg c 0 ≡ address d at.guarded = at.pc ∙ omega (arith, at.by.ends) in
+    let here : reg c 0 ≡ address d at.guarded = at.pc in
     let same = fetched-is d m at.guarded at.by.instr i at.by.words n (reg c 0) s at.by.start at.by.stands here f in
-    let form = pop-form at.by.instr at.by.serves in
+    let form = pop-form at.by.instr (serves-as guard.Pop d.object at.by.first at.guarded at.by.instr at.kind at.of at.by.serves) in
     let is = same.0 ∙ ap (λ (x : Instr). placed x (words_in d m at.guarded)) form.is in
     let no_push : IsPushOrCall i → ⊥ = λ p. subst IsPushOrCall is p in
     record {
@@ -161,9 +176,9 @@ pops-stay d low top m c i n s li st at f =
 
 sp-stays : (d : Domain) (low top : ℕ) (m c : List ℕ) (i : Instr) (n : ℕ) → StandsIn d m → IsAtPlace d (bounds d low top) c SetsSp → IsFetched m (reg c 0) i n → StaysInStack low top c i (does m c i n)
 sp-stays d low top m c i n s at f =
-    let here : reg c 0 ≡ address d at.guarded = at.pc ∙ omega (arith, at.by.ends) in
+    let here : reg c 0 ≡ address d at.guarded = at.pc in
     let same = fetched-is d m at.guarded at.by.instr i at.by.words n (reg c 0) s at.by.start at.by.stands here f in
-    let is = same.0 ∙ ap (λ (x : Instr). placed x (words_in d m at.guarded)) (sp-form at.by.instr at.by.serves) in
+    let is = same.0 ∙ ap (λ (x : Instr). placed x (words_in d m at.guarded)) (sp-form at.by.instr (serves-as guard.Sp d.object at.by.first at.guarded at.by.instr at.kind at.of at.by.serves)) in
     still-stays low top c i (does m c i n) (subst IsStill (sym is) record { no_push = λ p. p; no_pop = λ p. p })
 
 grow-no_pop : (j : Instr) (f : ℕ → ℕ) → IsGrowthForm j → ReadsStack (placed j f) → ⊥
@@ -184,11 +199,11 @@ grow-no_pop (instr.Jump c k) f g p = absurd g
 
 grows-stay : CheckerLaws → PushLaw → CallLaw → (d : Domain) (low top : ℕ) (m c : List ℕ) (i : Instr) (n : ℕ) → StandsIn d m → IsSteady (bits d) low top c → IsAtPlace d (bounds d low top) c Grows → IsFetched m (reg c 0) i n → StaysInStack low top c i (does m c i n)
 grows-stay laws push-stays call-stays d low top m c i n s st at f =
-    let here : reg c 0 ≡ address d at.guarded = at.pc ∙ omega (arith, at.by.ends) in
+    let here : reg c 0 ≡ address d at.guarded = at.pc in
     let same = fetched-is d m at.guarded at.by.instr i at.by.words n (reg c 0) s at.by.start at.by.stands here f in
     record {
       pushed = λ p. (grows laws push-stays call-stays d low top m c i n s st at f).inside;
-      popped = λ p. absurd (grow-no_pop at.by.instr (words_in d m at.guarded) at.by.serves (subst ReadsStack same.0 p));
+      popped = λ p. absurd (grow-no_pop at.by.instr (words_in d m at.guarded) (serves-as guard.Growth d.object at.by.first at.guarded at.by.instr at.kind at.of at.by.serves) (subst ReadsStack same.0 p));
     }
 
 place-stays : CheckerLaws → PushLaw → CallLaw → (d : Domain) (low top : ℕ) (m c : List ℕ) (p : GuardPlace) (i : Instr) (n : ℕ) → StandsIn d m → Limits m low top → IsSteady (bits d) low top c → IsAtPlace d (bounds d low top) c p → IsFetched m (reg c 0) i n
@@ -215,7 +230,7 @@ place-stays laws push-stays call-stays d low top m c ComparesNewHigh i n s li st
 place-stays laws push-stays call-stays d low top m c JumpsIfNewHigh i n s li st at f = line-stays d low top m c JumpsIfNewHigh i n tt s at f
 place-stays laws push-stays call-stays d low top m c SpFails i n s li st at f = line-stays d low top m c SpFails i n tt s at f
 place-stays laws push-stays call-stays d low top m c SpRestores i n s li st at f = line-stays d low top m c SpRestores i n tt s at f
-place-stays laws push-stays call-stays d low top m c Stores i n s li st at f = stores-stay d low top m c i n s at f
+place-stays laws push-stays call-stays d low top m c Stores i n s li st at f = served-stays laws d low top m c i n s at f
 place-stays laws push-stays call-stays d low top m c Grows i n s li st at f = grows-stay laws push-stays call-stays d low top m c i n s st at f
 place-stays laws push-stays call-stays d low top m c Pops i n s li st at f = pops-stay d low top m c i n s li st at f
 place-stays laws push-stays call-stays d low top m c SetsSp i n s li st at f = sp-stays d low top m c i n s at f

@@ -9,6 +9,7 @@ pub mod Storing
 pub mod Stacking
 pub mod Units
 pub mod UnitSorts
+pub mod Loading
 pub mod UnitLeading
 pub mod Steps
 pub mod Keeping

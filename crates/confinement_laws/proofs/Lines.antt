@@ -1,5 +1,5 @@
 -- The guards' own instructions, read from their words.
-use Rattle.std.proofs.Common.{◌≡◌, ℕ, ◌+◌, ◌/◌, ◌%◌, ◌<◌, ◌≤◌, Bool, true, false, List, [], ◌∷◌, ◌++◌, length, get_or, refl, sym, ap, ◌∙◌, subst, arith}
+use Rattle.std.proofs.Common.{◌≡◌, ℕ, zero, suc, ◌+◌, ◌/◌, ◌%◌, ◌<◌, ◌≤◌, Bool, true, false, List, [], ◌∷◌, ◌++◌, length, get_or, refl, sym, ap, ◌∙◌, subst, arith}
 use Rattle.std.specs.Prelude.{pos, ◌==◌}
 use Rattle.std.proofs.lemmas.Bool.Decides.{nat_tests}
 use Rattle.msp_encode.specs.declared.instr.Width.TheVariants.{Wide}
@@ -13,13 +13,14 @@ use Rattle.msp_encode.specs.declared.instr.Instr.{Instr}
 use Rattle.msp_encode.specs.declared.instr.Instr.TheVariants as instr
 use Rattle.msp_encode.specs.Spelling.{First, SrcRow, words_after, src_words, dst_words}
 use Rattle.code_model.specs.declared.guards.GuardKind.{GuardKind}
+use Rattle.code_model.specs.declared.guards.GuardKind.TheVariants as guard
 use Rattle.code_model.specs.declared.guards.Slot.{Slot}
 use Rattle.code_model.specs.declared.guards.Slot.TheVariants as slot
 use Rattle.code_model.specs.Starts.{Begins}
-use Rattle.code_model.specs.Guards.{IsLoad, guard_words}
+use Rattle.code_model.specs.Guards.{IsLoad, high_word, region_slots, guard_words}
 use Rattle.machine_laws.specs.Places.{GuardPlace, TakesAddress, AddsIndex, ComparesLow, JumpsIfLow, ComparesHigh, JumpsIfHigh, StoreFails, StoreRestores, ComparesLimit, JumpsIfRoom, GrowthFails, GrowthRestores, ComparesTop, JumpsIfFilled, PopFails, PopRestores, ComparesNewLow, JumpsIfNewLow, ComparesNewHigh, JumpsIfNewHigh, SpFails, SpRestores, Stores, Grows, Pops, SetsSp, place_offset}
 use Rattle.machine_laws.specs.Own as own
-use Rattle.node_model.specs.Good.{guard_of}
+use Rattle.node_model.specs.Good.{guard_of, IsOf}
 
 -- the source of a move into R4
 abbrev pub load_of : Bool → ℕ → Src
@@ -99,10 +100,54 @@ SlotWord (slot.Word v) x = x ≡ v
 SlotWord slot.Load x = IsLoad x
 SlotWord slot.Free x = Unit {0}
 SlotWord slot.Low x = Unit {0}
-SlotWord slot.High x = Unit {0}
+SlotWord (slot.High v) x = Unit {0}
 
 abbrev pub Worded : GuardKind → (ℕ → ℕ) → Type 0
 Worded g w = (k : ℕ) → k < length (guard_words g) → SlotWord (get_or (guard_words g) k slot.Free) (w k)
+
+-- the words of a guard that keeps an address in the region are those of the store guard, but the one that HI is added to
+region-worded : (high : ℕ) (w : ℕ → ℕ) → ((k : ℕ) → k < 13 → SlotWord (get_or (region_slots high) k slot.Free) (w k)) → Worded guard.Store w
+region-worded high w h zero l = h 0 (omega arith)
+region-worded high w h (suc zero) l = h 1 (omega arith)
+region-worded high w h (suc (suc zero)) l = h 2 (omega arith)
+region-worded high w h (suc (suc (suc zero))) l = h 3 (omega arith)
+region-worded high w h (suc (suc (suc (suc zero)))) l = h 4 (omega arith)
+region-worded high w h (suc (suc (suc (suc (suc zero))))) l = h 5 (omega arith)
+region-worded high w h (suc (suc (suc (suc (suc (suc zero)))))) l = h 6 (omega arith)
+region-worded high w h (suc (suc (suc (suc (suc (suc (suc zero))))))) l = h 7 (omega arith)
+region-worded high w h (suc (suc (suc (suc (suc (suc (suc (suc zero)))))))) l = h 8 (omega arith)
+region-worded high w h (suc (suc (suc (suc (suc (suc (suc (suc (suc zero))))))))) l = h 9 (omega arith)
+region-worded high w h (suc (suc (suc (suc (suc (suc (suc (suc (suc (suc zero)))))))))) l = h 10 (omega arith)
+region-worded high w h (suc (suc (suc (suc (suc (suc (suc (suc (suc (suc (suc zero))))))))))) l = h 11 (omega arith)
+region-worded high w h (suc (suc (suc (suc (suc (suc (suc (suc (suc (suc (suc (suc zero)))))))))))) l = h 12 (omega arith)
+region-worded high w h (suc (suc (suc (suc (suc (suc (suc (suc (suc (suc (suc (suc (suc k))))))))))))) l = absurd (omega (arith, l))
+
+-- the words of each kind are those of the guard that stands for it
+pub worded-as : (k g : GuardKind) (w : ℕ → ℕ) → IsOf k g → Worded k w → Worded g w
+worded-as guard.Store guard.Store w of h = h
+worded-as (guard.Wide r) guard.Store w of h = region-worded (high_word r) w h
+worded-as guard.Load guard.Store w of h = region-worded 0 w h
+worded-as guard.Growth guard.Store w of h = absurd of
+worded-as guard.Pop guard.Store w of h = absurd of
+worded-as guard.Sp guard.Store w of h = absurd of
+worded-as k guard.Growth w of h = subst (λ (x : GuardKind). Worded x w) of h
+worded-as k guard.Pop w of h = subst (λ (x : GuardKind). Worded x w) of h
+worded-as k guard.Sp w of h = subst (λ (x : GuardKind). Worded x w) of h
+worded-as k (guard.Wide r) w of h = absurd of
+worded-as k guard.Load w of h = absurd of
+
+pub words-as : (k g : GuardKind) → IsOf k g → length (guard_words k) ≡ length (guard_words g)
+words-as guard.Store guard.Store of = refl
+words-as (guard.Wide r) guard.Store of = refl
+words-as guard.Load guard.Store of = refl
+words-as guard.Growth guard.Store of = absurd of
+words-as guard.Pop guard.Store of = absurd of
+words-as guard.Sp guard.Store of = absurd of
+words-as k guard.Growth of = ap (λ (x : GuardKind). length (guard_words x)) of
+words-as k guard.Pop of = ap (λ (x : GuardKind). length (guard_words x)) of
+words-as k guard.Sp of = ap (λ (x : GuardKind). length (guard_words x)) of
+words-as k (guard.Wide r) of = absurd of
+words-as k guard.Load of = absurd of
 
 -- ---- the load
 

@@ -20,7 +20,7 @@ use Rattle.node_model.specs.Good.{AtUnit, bounds}
 use Rattle.node_model.specs.Instructions.{Inside, Leads}
 use Rattle.confinement_laws.proofs.Placing.{placed_src}
 
-in-region : (d : Domain) (low top : ℕ) (ws : List (ℕ × ℕ)) → AllByRecursion (λ (w : ℕ × ℕ). (d.lo ≤ w.0) × (w.0 < d.hi)) ws → AllByRecursion (Inside d low top) ws
+pub in-region : (d : Domain) (low top : ℕ) (ws : List (ℕ × ℕ)) → AllByRecursion (λ (w : ℕ × ℕ). (d.lo ≤ w.0) × (w.0 < d.hi)) ws → AllByRecursion (Inside d low top) ws
 in-region d low top [] h = tt
 in-region d low top (w ∷ ws) h = (inl h.0, in-region d low top ws h.1)
 

@@ -9,9 +9,10 @@ use Rattle.code_model.specs.declared.guards.Slot.TheVariants as slot
 use Rattle.code_model.specs.Starts.{Stands, Start}
 use Rattle.code_model.specs.Guards.{guard_words, Takes, Fits, FitAll, Guarded}
 use Rattle.code_laws.proofs.Starting.{next_start}
+use Rattle.code_laws.proofs.Runs.{base_before}
 use Rattle.machine_laws.specs.Places.{GuardPlace, TakesAddress, AddsIndex, ComparesLow, JumpsIfLow, ComparesHigh, JumpsIfHigh, StoreFails, StoreRestores, ComparesLimit, JumpsIfRoom, GrowthFails, GrowthRestores, ComparesTop, JumpsIfFilled, PopFails, PopRestores, ComparesNewLow, JumpsIfNewLow, ComparesNewHigh, JumpsIfNewHigh, SpFails, SpRestores, Stores, Grows, Pops, SetsSp, place_offset}
-use Rattle.node_model.specs.Good.{guard_of}
-use Rattle.confinement_laws.proofs.Lines.{line, line_words, IsLine, save, save-first, SlotWord, Worded, begins-one, begins-line}
+use Rattle.node_model.specs.Good.{guard_of, IsOf, place_at}
+use Rattle.confinement_laws.proofs.Lines.{line, line_words, IsLine, save, save-first, SlotWord, Worded, worded-as, words-as, begins-one, begins-line}
 
 -- the words from a place on
 abbrev pub words_at : Object → ℕ → ℕ → ℕ
@@ -29,7 +30,7 @@ slot-word o at w (slot.Word v) h = h.0
 slot-word o at w slot.Load h = h.0
 slot-word o at w slot.Free h = tt
 slot-word o at w slot.Low h = tt
-slot-word o at w slot.High h = tt
+slot-word o at w (slot.High v) h = tt
 
 pub worded : (o : Object) (guarded : ℕ) (g : GuardKind) (h : Guarded o guarded g) → Worded g (words_at o h.first)
 worded o guarded g h k l = slot-word o (h.first + k) _ (get_or (guard_words g) k slot.Free) (fit-at o (guard_words g) h.first k h.fit l).1
@@ -118,14 +119,14 @@ line-least Grows t = absurd t
 line-least Pops t = absurd t
 line-least SetsSp t = absurd t
 
-pub line-stands : (o : Object) (guarded : ℕ) (p : GuardPlace) (h : Guarded o guarded (guard_of p)) → IsLine p
+pub line-stands : (o : Object) (guarded : ℕ) (p : GuardPlace) (k : GuardKind) (of : IsOf k (guard_of p)) (h : Guarded o guarded k) → IsLine p
     → Stands o.code (h.first + place_offset p) (line p (words_at o h.first)) (line_words p)
-line-stands o guarded p h t =
+line-stands o guarded p k of h t =
     let len = length-drop (h.first + place_offset p) o.code in
     let e0 : h.first + place_offset p + 0 ≡ h.first + place_offset p = omega arith in
     let e1 : h.first + place_offset p + 1 ≡ h.first + (place_offset p + 1) = omega arith in
-    begins-line p (words_at o h.first) (drop (h.first + place_offset p) o.code) t (worded o guarded (guard_of p) h)
-    (omega (arith, len, line-ends p t, h.ends, h.start.below))
+    begins-line p (words_at o h.first) (drop (h.first + place_offset p) o.code) t (worded-as k (guard_of p) (words_at o h.first) of (worded o guarded k h))
+    (omega (arith, len, line-ends p t, words-as k (guard_of p) of, h.ends, base_before o guarded k h, h.start.below))
     (get_or-drop (h.first + place_offset p) o.code 0 0 ∙ ap (λ (x : ℕ). get_or o.code x 0) e0)
     (λ _. get_or-drop (h.first + place_offset p) o.code 1 0 ∙ ap (λ (x : ℕ). get_or o.code x 0) e1)
 
@@ -137,6 +138,8 @@ save-stands o guarded g h e =
 
 first-slot : (g : GuardKind) (w : ℕ → ℕ) → Worded g w → w 0 ≡ 16901
 first-slot guard.Store w h = h 0 (omega arith)
+first-slot (guard.Wide r) w h = h 0 (omega arith)
+first-slot guard.Load w h = h 0 (omega arith)
 first-slot guard.Growth w h = h 0 (omega arith)
 first-slot guard.Pop w h = h 0 (omega arith)
 first-slot guard.Sp w h = h 0 (omega arith)
@@ -148,6 +151,8 @@ first-word o guarded g h =
 
 pub some-words : (g : GuardKind) → 7 ≤ length (guard_words g)
 some-words guard.Store = omega arith
+some-words (guard.Wide r) = omega arith
+some-words guard.Load = omega arith
 some-words guard.Growth = omega arith
 some-words guard.Pop = omega arith
 some-words guard.Sp = omega arith
@@ -156,107 +161,104 @@ some-words guard.Sp = omega arith
 
 pub second-start : (o : Object) (guarded : ℕ) (g : GuardKind) (h : Guarded o guarded g) → Start o.code (h.first + 1)
 second-start o guarded g h =
-    next_start o.code h.first save 1 h.begins (save-stands o guarded g h (first-word o guarded g h)) (omega (arith, h.ends, h.start.below, some-words g))
+    next_start o.code h.first save 1 h.begins (save-stands o guarded g h (first-word o guarded g h)) (omega (arith, h.ends, base_before o guarded g h, h.start.below, some-words g))
 
-next-line : (o : Object) (guarded : ℕ) (p : GuardPlace) (h : Guarded o guarded (guard_of p)) → IsLine p → Start o.code (h.first + place_offset p) → Start o.code (h.first + (place_offset p + line_words p))
-next-line o guarded p h t s =
+next-line : (o : Object) (guarded : ℕ) (p : GuardPlace) (k : GuardKind) (of : IsOf k (guard_of p)) (h : Guarded o guarded k) → IsLine p → Start o.code (h.first + place_offset p) → Start o.code (h.first + (place_offset p + line_words p))
+next-line o guarded p k of h t s =
     let e : h.first + place_offset p + line_words p ≡ h.first + (place_offset p + line_words p) = omega arith in
-    subst (Start o.code) e (next_start o.code (h.first + place_offset p) (line p (words_at o h.first)) (line_words p) s (line-stands o guarded p h t)
-    (subst (λ (x : ℕ). x < length o.code) (sym e) (omega (arith, line-ends p t, h.ends, h.start.below))))
+    subst (Start o.code) e (next_start o.code (h.first + place_offset p) (line p (words_at o h.first)) (line_words p) s (line-stands o guarded p k of h t)
+    (subst (λ (x : ℕ). x < length o.code) (sym e) (omega (arith, line-ends p t, words-as k (guard_of p) of, h.ends, base_before o guarded k h, h.start.below))))
 
-guarded-start : (o : Object) (guarded : ℕ) (g : GuardKind) (h : Guarded o guarded g) → Start o.code (h.first + length (guard_words g))
-guarded-start o guarded g h = subst (Start o.code) (sym h.ends) h.start
+store-1 : (o : Object) (guarded : ℕ) (k : GuardKind) (of : IsOf k guard.Store) (h : Guarded o guarded k) → Start o.code (h.first + 1)
+store-1 o guarded k of h = second-start o guarded k h
 
-store-1 : (o : Object) (guarded : ℕ) (h : Guarded o guarded guard.Store) → Start o.code (h.first + 1)
-store-1 o guarded h = second-start o guarded guard.Store h
+store-2 : (o : Object) (guarded : ℕ) (k : GuardKind) (of : IsOf k guard.Store) (h : Guarded o guarded k) → Start o.code (h.first + 2)
+store-2 o guarded k of h = next-line o guarded TakesAddress k of h tt (store-1 o guarded k of h)
 
-store-2 : (o : Object) (guarded : ℕ) (h : Guarded o guarded guard.Store) → Start o.code (h.first + 2)
-store-2 o guarded h = next-line o guarded TakesAddress h tt (store-1 o guarded h)
+store-4 : (o : Object) (guarded : ℕ) (k : GuardKind) (of : IsOf k guard.Store) (h : Guarded o guarded k) → Start o.code (h.first + 4)
+store-4 o guarded k of h = next-line o guarded AddsIndex k of h tt (store-2 o guarded k of h)
 
-store-4 : (o : Object) (guarded : ℕ) (h : Guarded o guarded guard.Store) → Start o.code (h.first + 4)
-store-4 o guarded h = next-line o guarded AddsIndex h tt (store-2 o guarded h)
+store-6 : (o : Object) (guarded : ℕ) (k : GuardKind) (of : IsOf k guard.Store) (h : Guarded o guarded k) → Start o.code (h.first + 6)
+store-6 o guarded k of h = next-line o guarded ComparesLow k of h tt (store-4 o guarded k of h)
 
-store-6 : (o : Object) (guarded : ℕ) (h : Guarded o guarded guard.Store) → Start o.code (h.first + 6)
-store-6 o guarded h = next-line o guarded ComparesLow h tt (store-4 o guarded h)
+store-7 : (o : Object) (guarded : ℕ) (k : GuardKind) (of : IsOf k guard.Store) (h : Guarded o guarded k) → Start o.code (h.first + 7)
+store-7 o guarded k of h = next-line o guarded JumpsIfLow k of h tt (store-6 o guarded k of h)
 
-store-7 : (o : Object) (guarded : ℕ) (h : Guarded o guarded guard.Store) → Start o.code (h.first + 7)
-store-7 o guarded h = next-line o guarded JumpsIfLow h tt (store-6 o guarded h)
+store-9 : (o : Object) (guarded : ℕ) (k : GuardKind) (of : IsOf k guard.Store) (h : Guarded o guarded k) → Start o.code (h.first + 9)
+store-9 o guarded k of h = next-line o guarded ComparesHigh k of h tt (store-7 o guarded k of h)
 
-store-9 : (o : Object) (guarded : ℕ) (h : Guarded o guarded guard.Store) → Start o.code (h.first + 9)
-store-9 o guarded h = next-line o guarded ComparesHigh h tt (store-7 o guarded h)
+store-10 : (o : Object) (guarded : ℕ) (k : GuardKind) (of : IsOf k guard.Store) (h : Guarded o guarded k) → Start o.code (h.first + 10)
+store-10 o guarded k of h = next-line o guarded JumpsIfHigh k of h tt (store-9 o guarded k of h)
 
-store-10 : (o : Object) (guarded : ℕ) (h : Guarded o guarded guard.Store) → Start o.code (h.first + 10)
-store-10 o guarded h = next-line o guarded JumpsIfHigh h tt (store-9 o guarded h)
+store-12 : (o : Object) (guarded : ℕ) (k : GuardKind) (of : IsOf k guard.Store) (h : Guarded o guarded k) → Start o.code (h.first + 12)
+store-12 o guarded k of h = next-line o guarded StoreFails k of h tt (store-10 o guarded k of h)
 
-store-12 : (o : Object) (guarded : ℕ) (h : Guarded o guarded guard.Store) → Start o.code (h.first + 12)
-store-12 o guarded h = next-line o guarded StoreFails h tt (store-10 o guarded h)
+growth-1 : (o : Object) (guarded : ℕ) (k : GuardKind) (of : IsOf k guard.Growth) (h : Guarded o guarded k) → Start o.code (h.first + 1)
+growth-1 o guarded k of h = second-start o guarded k h
 
-growth-1 : (o : Object) (guarded : ℕ) (h : Guarded o guarded guard.Growth) → Start o.code (h.first + 1)
-growth-1 o guarded h = second-start o guarded guard.Growth h
+growth-3 : (o : Object) (guarded : ℕ) (k : GuardKind) (of : IsOf k guard.Growth) (h : Guarded o guarded k) → Start o.code (h.first + 3)
+growth-3 o guarded k of h = next-line o guarded ComparesLimit k of h tt (growth-1 o guarded k of h)
 
-growth-3 : (o : Object) (guarded : ℕ) (h : Guarded o guarded guard.Growth) → Start o.code (h.first + 3)
-growth-3 o guarded h = next-line o guarded ComparesLimit h tt (growth-1 o guarded h)
+growth-4 : (o : Object) (guarded : ℕ) (k : GuardKind) (of : IsOf k guard.Growth) (h : Guarded o guarded k) → Start o.code (h.first + 4)
+growth-4 o guarded k of h = next-line o guarded JumpsIfRoom k of h tt (growth-3 o guarded k of h)
 
-growth-4 : (o : Object) (guarded : ℕ) (h : Guarded o guarded guard.Growth) → Start o.code (h.first + 4)
-growth-4 o guarded h = next-line o guarded JumpsIfRoom h tt (growth-3 o guarded h)
+growth-6 : (o : Object) (guarded : ℕ) (k : GuardKind) (of : IsOf k guard.Growth) (h : Guarded o guarded k) → Start o.code (h.first + 6)
+growth-6 o guarded k of h = next-line o guarded GrowthFails k of h tt (growth-4 o guarded k of h)
 
-growth-6 : (o : Object) (guarded : ℕ) (h : Guarded o guarded guard.Growth) → Start o.code (h.first + 6)
-growth-6 o guarded h = next-line o guarded GrowthFails h tt (growth-4 o guarded h)
+pop-1 : (o : Object) (guarded : ℕ) (k : GuardKind) (of : IsOf k guard.Pop) (h : Guarded o guarded k) → Start o.code (h.first + 1)
+pop-1 o guarded k of h = second-start o guarded k h
 
-pop-1 : (o : Object) (guarded : ℕ) (h : Guarded o guarded guard.Pop) → Start o.code (h.first + 1)
-pop-1 o guarded h = second-start o guarded guard.Pop h
+pop-3 : (o : Object) (guarded : ℕ) (k : GuardKind) (of : IsOf k guard.Pop) (h : Guarded o guarded k) → Start o.code (h.first + 3)
+pop-3 o guarded k of h = next-line o guarded ComparesTop k of h tt (pop-1 o guarded k of h)
 
-pop-3 : (o : Object) (guarded : ℕ) (h : Guarded o guarded guard.Pop) → Start o.code (h.first + 3)
-pop-3 o guarded h = next-line o guarded ComparesTop h tt (pop-1 o guarded h)
+pop-4 : (o : Object) (guarded : ℕ) (k : GuardKind) (of : IsOf k guard.Pop) (h : Guarded o guarded k) → Start o.code (h.first + 4)
+pop-4 o guarded k of h = next-line o guarded JumpsIfFilled k of h tt (pop-3 o guarded k of h)
 
-pop-4 : (o : Object) (guarded : ℕ) (h : Guarded o guarded guard.Pop) → Start o.code (h.first + 4)
-pop-4 o guarded h = next-line o guarded JumpsIfFilled h tt (pop-3 o guarded h)
+pop-6 : (o : Object) (guarded : ℕ) (k : GuardKind) (of : IsOf k guard.Pop) (h : Guarded o guarded k) → Start o.code (h.first + 6)
+pop-6 o guarded k of h = next-line o guarded PopFails k of h tt (pop-4 o guarded k of h)
 
-pop-6 : (o : Object) (guarded : ℕ) (h : Guarded o guarded guard.Pop) → Start o.code (h.first + 6)
-pop-6 o guarded h = next-line o guarded PopFails h tt (pop-4 o guarded h)
+sp-1 : (o : Object) (guarded : ℕ) (k : GuardKind) (of : IsOf k guard.Sp) (h : Guarded o guarded k) → Start o.code (h.first + 1)
+sp-1 o guarded k of h = second-start o guarded k h
 
-sp-1 : (o : Object) (guarded : ℕ) (h : Guarded o guarded guard.Sp) → Start o.code (h.first + 1)
-sp-1 o guarded h = second-start o guarded guard.Sp h
+sp-3 : (o : Object) (guarded : ℕ) (k : GuardKind) (of : IsOf k guard.Sp) (h : Guarded o guarded k) → Start o.code (h.first + 3)
+sp-3 o guarded k of h = next-line o guarded ComparesNewLow k of h tt (sp-1 o guarded k of h)
 
-sp-3 : (o : Object) (guarded : ℕ) (h : Guarded o guarded guard.Sp) → Start o.code (h.first + 3)
-sp-3 o guarded h = next-line o guarded ComparesNewLow h tt (sp-1 o guarded h)
+sp-4 : (o : Object) (guarded : ℕ) (k : GuardKind) (of : IsOf k guard.Sp) (h : Guarded o guarded k) → Start o.code (h.first + 4)
+sp-4 o guarded k of h = next-line o guarded JumpsIfNewLow k of h tt (sp-3 o guarded k of h)
 
-sp-4 : (o : Object) (guarded : ℕ) (h : Guarded o guarded guard.Sp) → Start o.code (h.first + 4)
-sp-4 o guarded h = next-line o guarded JumpsIfNewLow h tt (sp-3 o guarded h)
+sp-6 : (o : Object) (guarded : ℕ) (k : GuardKind) (of : IsOf k guard.Sp) (h : Guarded o guarded k) → Start o.code (h.first + 6)
+sp-6 o guarded k of h = next-line o guarded ComparesNewHigh k of h tt (sp-4 o guarded k of h)
 
-sp-6 : (o : Object) (guarded : ℕ) (h : Guarded o guarded guard.Sp) → Start o.code (h.first + 6)
-sp-6 o guarded h = next-line o guarded ComparesNewHigh h tt (sp-4 o guarded h)
+sp-7 : (o : Object) (guarded : ℕ) (k : GuardKind) (of : IsOf k guard.Sp) (h : Guarded o guarded k) → Start o.code (h.first + 7)
+sp-7 o guarded k of h = next-line o guarded JumpsIfNewHigh k of h tt (sp-6 o guarded k of h)
 
-sp-7 : (o : Object) (guarded : ℕ) (h : Guarded o guarded guard.Sp) → Start o.code (h.first + 7)
-sp-7 o guarded h = next-line o guarded JumpsIfNewHigh h tt (sp-6 o guarded h)
+sp-9 : (o : Object) (guarded : ℕ) (k : GuardKind) (of : IsOf k guard.Sp) (h : Guarded o guarded k) → Start o.code (h.first + 9)
+sp-9 o guarded k of h = next-line o guarded SpFails k of h tt (sp-7 o guarded k of h)
 
-sp-9 : (o : Object) (guarded : ℕ) (h : Guarded o guarded guard.Sp) → Start o.code (h.first + 9)
-sp-9 o guarded h = next-line o guarded SpFails h tt (sp-7 o guarded h)
-
-pub place-start : (o : Object) (guarded : ℕ) (p : GuardPlace) (h : Guarded o guarded (guard_of p)) → Start o.code (h.first + place_offset p)
-place-start o guarded TakesAddress h = store-1 o guarded h
-place-start o guarded AddsIndex h = store-2 o guarded h
-place-start o guarded ComparesLow h = store-4 o guarded h
-place-start o guarded JumpsIfLow h = store-6 o guarded h
-place-start o guarded ComparesHigh h = store-7 o guarded h
-place-start o guarded JumpsIfHigh h = store-9 o guarded h
-place-start o guarded StoreFails h = store-10 o guarded h
-place-start o guarded StoreRestores h = store-12 o guarded h
-place-start o guarded Stores h = guarded-start o guarded guard.Store h
-place-start o guarded ComparesLimit h = growth-1 o guarded h
-place-start o guarded JumpsIfRoom h = growth-3 o guarded h
-place-start o guarded GrowthFails h = growth-4 o guarded h
-place-start o guarded GrowthRestores h = growth-6 o guarded h
-place-start o guarded Grows h = guarded-start o guarded guard.Growth h
-place-start o guarded ComparesTop h = pop-1 o guarded h
-place-start o guarded JumpsIfFilled h = pop-3 o guarded h
-place-start o guarded PopFails h = pop-4 o guarded h
-place-start o guarded PopRestores h = pop-6 o guarded h
-place-start o guarded Pops h = guarded-start o guarded guard.Pop h
-place-start o guarded ComparesNewLow h = sp-1 o guarded h
-place-start o guarded JumpsIfNewLow h = sp-3 o guarded h
-place-start o guarded ComparesNewHigh h = sp-4 o guarded h
-place-start o guarded JumpsIfNewHigh h = sp-6 o guarded h
-place-start o guarded SpFails h = sp-7 o guarded h
-place-start o guarded SpRestores h = sp-9 o guarded h
-place-start o guarded SetsSp h = guarded-start o guarded guard.Sp h
+pub place-start : (o : Object) (guarded : ℕ) (p : GuardPlace) (k : GuardKind) (of : IsOf k (guard_of p)) (h : Guarded o guarded k) → Start o.code (place_at p h.first guarded)
+place-start o guarded TakesAddress k of h = store-1 o guarded k of h
+place-start o guarded AddsIndex k of h = store-2 o guarded k of h
+place-start o guarded ComparesLow k of h = store-4 o guarded k of h
+place-start o guarded JumpsIfLow k of h = store-6 o guarded k of h
+place-start o guarded ComparesHigh k of h = store-7 o guarded k of h
+place-start o guarded JumpsIfHigh k of h = store-9 o guarded k of h
+place-start o guarded StoreFails k of h = store-10 o guarded k of h
+place-start o guarded StoreRestores k of h = store-12 o guarded k of h
+place-start o guarded Stores k of h = h.start
+place-start o guarded ComparesLimit k of h = growth-1 o guarded k of h
+place-start o guarded JumpsIfRoom k of h = growth-3 o guarded k of h
+place-start o guarded GrowthFails k of h = growth-4 o guarded k of h
+place-start o guarded GrowthRestores k of h = growth-6 o guarded k of h
+place-start o guarded Grows k of h = h.start
+place-start o guarded ComparesTop k of h = pop-1 o guarded k of h
+place-start o guarded JumpsIfFilled k of h = pop-3 o guarded k of h
+place-start o guarded PopFails k of h = pop-4 o guarded k of h
+place-start o guarded PopRestores k of h = pop-6 o guarded k of h
+place-start o guarded Pops k of h = h.start
+place-start o guarded ComparesNewLow k of h = sp-1 o guarded k of h
+place-start o guarded JumpsIfNewLow k of h = sp-3 o guarded k of h
+place-start o guarded ComparesNewHigh k of h = sp-4 o guarded k of h
+place-start o guarded JumpsIfNewHigh k of h = sp-6 o guarded k of h
+place-start o guarded SpFails k of h = sp-7 o guarded k of h
+place-start o guarded SpRestores k of h = sp-9 o guarded k of h
+place-start o guarded SetsSp k of h = h.start

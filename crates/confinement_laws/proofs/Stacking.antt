@@ -17,9 +17,11 @@ use Rattle.msp_encode.specs.declared.instr.Instr.TheVariants as instr
 use Rattle.kernel_model.specs.declared.kinds.Kind.{Kind}
 use Rattle.kernel_model.specs.declared.kinds.Kind.TheVariants.{App, Module}
 use Rattle.code_model.specs.declared.parts.RelKind.TheVariants.{Code}
+use Rattle.code_model.specs.declared.object.Object.{Object}
+use Rattle.code_model.specs.declared.guards.GuardKind.{GuardKind}
 use Rattle.code_model.specs.declared.guards.GuardKind.TheVariants as guard
 use Rattle.code_model.specs.Starts.{Stands, Start}
-use Rattle.code_model.specs.Guards.{IsMov, IsWide, Pops, SrcIs, DstIs, IsGrowthForm, IsPopForm, IsSpForm, Guarded, UnitStart}
+use Rattle.code_model.specs.Guards.{IsMov, IsWide, Pops, SrcIs, DstIs, IsGrowthForm, IsPopForm, IsSpForm, Serves, most_served, Guarded, UnitStart}
 use Rattle.code_model.specs.Rules.{IsCallTarget, IsCallEntry, IsUnitOffset}
 use Rattle.machine_model.specs.Context.{reg}
 use Rattle.machine_model.specs.Does.{does, Effect}
@@ -110,16 +112,20 @@ sp-form (instr.One op w s) h = absurd h
 sp-form instr.Reti h = absurd h
 sp-form (instr.Jump c k) h = absurd h
 
+-- what a guard of this kind serves
+pub serves-as : (g : GuardKind) (o : Object) (first at : ℕ) (i : Instr) (k : GuardKind) → k ≡ g → Serves k o first at i → Serves g o first at i
+serves-as g o first at i k e h = subst (λ (x : GuardKind). Serves x o first at i) e h
+
 -- ---- pops and new stack pointers
 
 pub pops-lead : CheckerLaws → PopLaw → (d : Domain) (low top : ℕ) (m c : List ℕ) (i : Instr) (n : ℕ) → StandsIn d m → Limits m low top
     → IsSteady (bits d) low top c → IsAtPlace d (bounds d low top) c pops_place → IsFetched m (reg c 0) i n → Leads d low top (does m c i n)
 pops-lead laws pop-stays d low top m c i n s li st at f =
-    let here : reg c 0 ≡ address d at.guarded = at.pc ∙ omega (arith, at.by.ends) in
+    let here : reg c 0 ≡ address d at.guarded = at.pc in
     let same = fetched-is d m at.guarded at.by.instr i at.by.words n (reg c 0) s at.by.start at.by.stands here f in
-    let form = pop-form at.by.instr at.by.serves in
+    let form = pop-form at.by.instr (serves-as guard.Pop d.object at.by.first at.guarded at.by.instr at.kind at.of at.by.serves) in
     let is : i ≡ instr.Two Mov Wide (src.AutoInc 1) (dst.Reg form.number) = same.0 ∙ ap (λ (x : Instr). placed x (words_in d m at.guarded)) form.is in
-    let next = guarded-next laws d m at.guarded guard.Pop at.by s in
+    let next = guarded-next laws d m at.guarded at.kind at.by (ap most_served at.of) s in
     let fits : reg c 0 + 2 * n < 65536 = omega (arith, here, same.1, s.placed.code_high, next.0.below) in
     stack-leads d low top (reg c 0 + 2 * n) (at.guarded + at.by.words) (does m c i n)
     (subst (λ (x : Instr). Passes low top (bounds d low top) (bits d) (reg c 0 + 2 * n) (does m c x n)) (sym is)
@@ -129,10 +135,10 @@ pops-lead laws pop-stays d low top m c i n s li st at f =
 pub sp-leads : CheckerLaws → SpLaw → (d : Domain) (low top : ℕ) (m c : List ℕ) (i : Instr) (n : ℕ) → StandsIn d m → Limits m low top
     → IsSteady (bits d) low top c → IsAtPlace d (bounds d low top) c SetsSp → IsFetched m (reg c 0) i n → Leads d low top (does m c i n)
 sp-leads laws sp-stays d low top m c i n s li st at f =
-    let here : reg c 0 ≡ address d at.guarded = at.pc ∙ omega (arith, at.by.ends) in
+    let here : reg c 0 ≡ address d at.guarded = at.pc in
     let same = fetched-is d m at.guarded at.by.instr i at.by.words n (reg c 0) s at.by.start at.by.stands here f in
-    let is : i ≡ instr.Two Mov Wide (src.Reg 4) (dst.Reg 1) = same.0 ∙ ap (λ (x : Instr). placed x (words_in d m at.guarded)) (sp-form at.by.instr at.by.serves) in
-    let next = guarded-next laws d m at.guarded guard.Sp at.by s in
+    let is : i ≡ instr.Two Mov Wide (src.Reg 4) (dst.Reg 1) = same.0 ∙ ap (λ (x : Instr). placed x (words_in d m at.guarded)) (sp-form at.by.instr (serves-as guard.Sp d.object at.by.first at.guarded at.by.instr at.kind at.of at.by.serves)) in
+    let next = guarded-next laws d m at.guarded at.kind at.by (ap most_served at.of) s in
     let fits : reg c 0 + 2 * n < 65536 = omega (arith, here, same.1, s.placed.code_high, next.0.below) in
     stack-leads d low top (reg c 0 + 2 * n) (at.guarded + at.by.words) (does m c i n)
     (subst (λ (x : Instr). Passes low top (bounds d low top) (bits d) (reg c 0 + 2 * n) (does m c x n)) (sym is)
@@ -214,10 +220,11 @@ growth-leads laws push-stays call-stays d low top m c (instr.Jump e z) n k at s 
 pub grows : CheckerLaws → PushLaw → CallLaw → (d : Domain) (low top : ℕ) (m c : List ℕ) (i : Instr) (n : ℕ) → StandsIn d m
     → IsSteady (bits d) low top c → IsAtPlace d (bounds d low top) c Grows → IsFetched m (reg c 0) i n → Grown d low top (does m c i n)
 grows laws push-stays call-stays d low top m c i n s st at f =
-    let here : reg c 0 ≡ address d at.guarded = at.pc ∙ omega (arith, at.by.ends) in
+    let here : reg c 0 ≡ address d at.guarded = at.pc in
     let same = fetched-is d m at.guarded at.by.instr i at.by.words n (reg c 0) s at.by.start at.by.stands here f in
     subst (λ (x : Instr). Grown d low top (does m c x n)) (sym same.0)
-    (growth-leads laws push-stays call-stays d low top m c at.by.instr n at.by.words at.guarded s st at.by at.by.stands at.by.serves here (guarded-next laws d m at.guarded guard.Growth at.by s) same.1 at.known)
+    (growth-leads laws push-stays call-stays d low top m c at.by.instr n at.by.words at.guarded s st (subst (λ (x : GuardKind). Guarded d.object at.guarded x) at.of at.by) at.by.stands
+    (serves-as guard.Growth d.object at.by.first at.guarded at.by.instr at.kind at.of at.by.serves) here (guarded-next laws d m at.guarded at.kind at.by (ap most_served at.of) s) same.1 at.known)
 
 pub grows-lead : CheckerLaws → PushLaw → CallLaw → (d : Domain) (low top : ℕ) (m c : List ℕ) (i : Instr) (n : ℕ) → StandsIn d m → Limits m low top
     → IsSteady (bits d) low top c → IsAtPlace d (bounds d low top) c Grows → IsFetched m (reg c 0) i n → Leads d low top (does m c i n)

@@ -101,10 +101,18 @@ silent-all d low top ws e = subst (AllByRecursion (Inside d low top)) (sym e) tt
 
 into-place : (d : Domain) (low top at next : ℕ) (e : Effect) (guarded : ℕ) (k : GuardKind) (by : Guarded d.object guarded k) → by.first ≡ at → reg e.context 0 ≡ address d (at + 1) → IsStatus (bits d) (reg e.context 5)
     → IsSomewhere d (bounds d low top) e.context
-into-place d low top at next e guarded guard.Store by first pc t = Within TakesAddress record { guarded = guarded; by = by; pc = omega (arith, pc, first); saved = λ _. t; known = tt }
-into-place d low top at next e guarded guard.Growth by first pc t = Within ComparesLimit record { guarded = guarded; by = by; pc = omega (arith, pc, first); saved = λ _. t; known = tt }
-into-place d low top at next e guarded guard.Pop by first pc t = Within ComparesTop record { guarded = guarded; by = by; pc = omega (arith, pc, first); saved = λ _. t; known = tt }
-into-place d low top at next e guarded guard.Sp by first pc t = Within ComparesNewLow record { guarded = guarded; by = by; pc = omega (arith, pc, first); saved = λ _. t; known = tt }
+into-place d low top at next e guarded guard.Store by first pc t =
+    Within TakesAddress record { guarded = guarded; kind = guard.Store; of = tt; by = by; pc = omega (arith, pc, first); saved = λ _. t; known = tt; same = λ r load has s. absurd has }
+into-place d low top at next e guarded (guard.Wide r) by first pc t =
+    Within TakesAddress record { guarded = guarded; kind = (guard.Wide r); of = tt; by = by; pc = omega (arith, pc, first); saved = λ _. t; known = tt; same = λ r load has s. absurd has }
+into-place d low top at next e guarded guard.Load by first pc t =
+    Within TakesAddress record { guarded = guarded; kind = guard.Load; of = tt; by = by; pc = omega (arith, pc, first); saved = λ _. t; known = tt; same = λ r load has s. absurd has }
+into-place d low top at next e guarded guard.Growth by first pc t =
+    Within ComparesLimit record { guarded = guarded; kind = guard.Growth; of = refl; by = by; pc = omega (arith, pc, first); saved = λ _. t; known = tt; same = λ r load has s. absurd has }
+into-place d low top at next e guarded guard.Pop by first pc t =
+    Within ComparesTop record { guarded = guarded; kind = guard.Pop; of = refl; by = by; pc = omega (arith, pc, first); saved = λ _. t; known = tt; same = λ r load has s. absurd has }
+into-place d low top at next e guarded guard.Sp by first pc t =
+    Within ComparesNewLow record { guarded = guarded; kind = guard.Sp; of = refl; by = by; pc = omega (arith, pc, first); saved = λ _. t; known = tt; same = λ r load has s. absurd has }
 
 save-leads : (d : Domain) (low top : ℕ) (m c : List ℕ) (at next : ℕ) (e : Effect) → Begun d.object at → IsSteady (bits d) low top c → Saves (bounds d low top) (bits d) next c e → next ≡ address d (at + 1) → Leads d low top e
 save-leads d low top m c at next e b st s a = record {

@@ -39,7 +39,7 @@ use Rattle.confinement_laws.proofs.Fetching.{words_in}
 use Rattle.confinement_laws.proofs.Passing.{writes-true, writes-or-not, calm-src}
 use Rattle.confinement_laws.proofs.Lines.{begins-one, save-first}
 use Rattle.confinement_laws.proofs.Stacking.{mov-is, wide-is, mov-form}
-use Rattle.confinement_laws.proofs.Units.{Sort, IsPlain, Branches, Jumps, FreeUnit, breaks-at, not-guarded, data-word, dst-below, dst-is_word, one-sort}
+use Rattle.confinement_laws.proofs.Units.{Sort, IsPlain, Branches, Jumps, FreeUnit, breaks-at, not-guarded, no-store, unit-free, data-word, dst-below, dst-is_word, one-sort}
 
 -- ---- branches
 
@@ -65,7 +65,7 @@ branches-or-not op w s = from (all-three (mov-or-not op) (wide-or-not w) (immedi
 branch-sort : CheckerLaws → (d : Domain) (m : List ℕ) (at : ℕ) (op : Op2) (w : Width) (s : Src) (n : ℕ) → FreeUnit d m at (instr.Two op w s (dst.Reg 0)) n → IsBranch (instr.Two op w s (dst.Reg 0)) → Sort d m at (instr.Two op w s (dst.Reg 0))
 branch-sort laws d m at op w (src.Immediate x) n u b =
     let e = mov-form op w (src.Immediate x) (src.Immediate x) (dst.Reg 0) (dst.Reg 0) (mov-is op b.0) (wide-is w b.1) refl refl in
-    let target = laws.branches d.object d.units at n op w (src.Immediate x) (dst.Reg 0) u.all.accepted u.unit.0 u.stands u.free b in
+    let target = laws.branches d.object d.units at n op w (src.Immediate x) (dst.Reg 0) u.all.accepted u.start u.stands u.free b in
     subst (Sort d m at) (sym e) (Branches x target)
 branch-sort laws d m at op w (src.Reg k) n u b = absurd b.2
 branch-sort laws d m at op w (src.Indexed k x) n u b = absurd b.2
@@ -128,7 +128,7 @@ immediate-code code at op w x e n h = operand-word code at (instr.Two op w (src.
 immediate-mask : (d : Domain) (m : List ℕ) (at : ℕ) (op : Op2) (w : Width) (x n : ℕ) → FreeUnit d m at (instr.Two op w (src.Immediate x) (dst.Reg 2)) n → NamesFlags d.object at (src.Immediate x) → IsMask (words_in d m at 1)
 immediate-mask d m at op w x n u f =
     let small = d.object.form.words_small (at + 1) in
-    subst IsMask (sym (immediate-same d m at op w x (dst.Reg 2) n u.all.code u.unit.0.below u.stands f.0))
+    subst IsMask (sym (immediate-same d m at op w x (dst.Reg 2) n u.all.code u.start.below u.stands f.0))
     (mask-by_and x (omega (arith, small, immediate-code d.object.code at op w x (dst.Reg 2) n u.stands)) f.1)
 
 flags-plain : (d : Domain) (m : List ℕ) (at : ℕ) (op : Op2) (w : Width) (s : Src) (n : ℕ) → FreeUnit d m at (instr.Two op w s (dst.Reg 2)) n → IsBisOrBic op → IsWide w → NamesFlags d.object at s
@@ -171,11 +171,11 @@ to_sr-sort d m at op w s n u h =
 two-calm : (d : Domain) (m : List ℕ) (at : ℕ) (op : Op2) (w : Width) (s : Src) (e : Dst) (n : ℕ) → FreeUnit d m at (instr.Two op w s e) n → IsCalm (placed_src s (words_in d m at 1))
 two-calm d m at op w s e n u =
     calm-src s (words_in d m at 1) _ _ (stands-first d.object.code at (instr.Two op w s e) n u.stands).source (omega arith)
-    (λ p. u.all.accepted.none at rule.Pop (u.free, breaks-at d m at (instr.Two op w s e) n u rule.Pop (p, not-guarded d m at (instr.Two op w s e) n u guard.Pop)))
+    (λ p. u.all.accepted.none at rule.Pop (u.free, breaks-at d m at (instr.Two op w s e) n u rule.Pop (p, not-guarded d m at (instr.Two op w s e) n u guard.Pop tt)))
 
 writes-sort : CheckerLaws → (d : Domain) (m : List ℕ) (at : ℕ) (op : Op2) (w : Width) (s : Src) (e : Dst) (n : ℕ) → FreeUnit d m at (instr.Two op w s e) n → Writes op → Sort d m at (instr.Two op w s e)
 writes-sort laws d m at op w s (dst.Reg zero) n u h = to_pc-sort laws d m at op w s n u h
-writes-sort laws d m at op w s (dst.Reg (suc zero)) n u h = absurd (u.all.accepted.none at rule.Sp (u.free, breaks-at d m at _ n u rule.Sp ((h, refl), not-guarded d m at _ n u guard.Sp)))
+writes-sort laws d m at op w s (dst.Reg (suc zero)) n u h = absurd (u.all.accepted.none at rule.Sp (u.free, breaks-at d m at _ n u rule.Sp ((h, refl), not-guarded d m at _ n u guard.Sp tt)))
 writes-sort laws d m at op w s (dst.Reg (suc (suc zero))) n u h = to_sr-sort d m at op w s n u h
 writes-sort laws d m at op w s (dst.Reg (suc (suc (suc k)))) n u h =
     let f = stands-first d.object.code at (instr.Two op w s (dst.Reg (suc (suc (suc k))))) n u.stands in
@@ -183,21 +183,21 @@ writes-sort laws d m at op w s (dst.Reg (suc (suc (suc k)))) n u h =
 writes-sort laws d m at op w s (dst.Absolute x) n u h =
     let a : at + 1 + length (src_words s) ≡ at + (1 + length (src_words s)) = omega arith in
     let in_static = stable (static-or-not d.object (at + 1 + length (src_words s)) x) (λ wild. u.all.accepted.none at rule.Static (u.free, breaks-at d m at (instr.Two op w s (dst.Absolute x)) n u rule.Static (h, wild))) in
-    let b = data-word d m (at + (1 + length (src_words s))) x u.all (dst-below d.object.code at op w s x n u.unit.0.below u.stands) (dst-is_word d.object.code at op w s x n u.stands)
+    let b = data-word d m (at + (1 + length (src_words s))) x u.all (dst-below d.object.code at op w s x n u.start.below u.stands) (dst-is_word d.object.code at op w s x n u.stands)
     (subst (λ (k : ℕ). InStatic d.object k x) a in_static) in
     IsPlain _ (ToData op w (placed_src s (words_in d m at 1)) (words_in d m at (1 + length (src_words s))) (writes-true op h) (two-calm d m at op w s _ n u) b.0 b.1)
-writes-sort laws d m at op w s (dst.Indexed k x) n u h = absurd (u.all.accepted.none at rule.Store (u.free, breaks-at d m at _ n u rule.Store ((h, tt), not-guarded d m at _ n u guard.Store)))
-writes-sort laws d m at op w s (dst.Symbolic x) n u h = absurd (u.all.accepted.none at rule.Store (u.free, breaks-at d m at _ n u rule.Store ((h, tt), not-guarded d m at _ n u guard.Store)))
+writes-sort laws d m at op w s (dst.Indexed k x) n u h = absurd (u.all.accepted.none at rule.Store (u.free, breaks-at d m at _ n u rule.Store ((h, tt), no-store d m at _ n u)))
+writes-sort laws d m at op w s (dst.Symbolic x) n u h = absurd (u.all.accepted.none at rule.Store (u.free, breaks-at d m at _ n u rule.Store ((h, tt), no-store d m at _ n u)))
 
 two-sort : CheckerLaws → (d : Domain) (m : List ℕ) (at : ℕ) (op : Op2) (w : Width) (s : Src) (e : Dst) (n : ℕ) → FreeUnit d m at (instr.Two op w s e) n → Writes op ⊎ (writes op ≡ false) → Sort d m at (instr.Two op w s e)
 two-sort laws d m at op w s e n u (inl h) = writes-sort laws d m at op w s e n u h
 two-sort laws d m at op w s e n u (inr h) = IsPlain _ (Tests op w _ _ h (two-calm d m at op w s e n u))
 
-free-sort : CheckerLaws → (d : Domain) (m : List ℕ) (at : ℕ) (i : Instr) (n : ℕ) → FreeUnit d m at i n → Sort d m at i
+pub free-sort : CheckerLaws → (d : Domain) (m : List ℕ) (at : ℕ) (i : Instr) (n : ℕ) → FreeUnit d m at i n → Sort d m at i
 free-sort laws d m at (instr.Two op w s e) n u = two-sort laws d m at op w s e n u (writes-or-not op)
 free-sort laws d m at (instr.One op w s) n u = one-sort d m at op w s n u
 free-sort laws d m at instr.Reti n u = absurd (u.all.accepted.none at rule.Reti (breaks-at d m at instr.Reti n u rule.Reti tt))
-free-sort laws d m at (instr.Jump c k) n u = Jumps c k (laws.jumps d.object d.units at n c k u.all.accepted u.unit.0 u.stands u.free)
+free-sort laws d m at (instr.Jump c k) n u = Jumps c k (laws.jumps d.object d.units at n c k u.all.accepted u.start u.stands u.free)
 
 save-sort : (d : Domain) (m : List ℕ) (at : ℕ) → Sort d m at save
 save-sort d m at = IsPlain save (ToReg Mov Wide (src.Reg 2) 5 refl tt (omega arith) (omega arith))
@@ -210,4 +210,4 @@ sort-of laws d m at i n s u h = from (cases_eq (get_or d.object.code at 0) 16901
         let a : at + 0 ≡ at = omega arith in
         let sv = begins-one (drop at d.object.code) save 16901 (omega (arith, length-drop at d.object.code, u.0.below)) (get_or-drop at d.object.code 0 0 ∙ (ap (λ (x : ℕ). get_or d.object.code x 0) a ∙ e)) save-first refl in
         subst (Sort d m at) (sym (same_instr i save (drop at d.object.code) n 1 h sv)) (save-sort d m at)
-    from (inr other) = free-sort laws d m at i n record { all = s; unit = u; stands = h; free = λ w. other (own-first d.object at u w) }
+    from (inr other) = free-sort laws d m at i n (unit-free d m at i n s u h (λ w. other (own-first d.object at u w)))

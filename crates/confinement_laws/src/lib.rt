@@ -27,18 +27,21 @@ ghost use Rattle.node_model.specs.Instructions.{
 ghost use Rattle.code_model.specs.declared.guards.GuardKind.TheVariants as guard;
 
 use code_laws::{
-    branch_lands, call_lands, goes_on_first, guarded_free, guarded_leaves, jump_lands,
+    branch_lands, call_lands, goes_on_first, guarded_free, guarded_goes_on, guarded_leaves,
+    guards_apart, jump_lands,
 };
 use machine_laws::{
     branch_goes, call_stays, jump_goes, memory_stays, own_leads, part_stays, plain_passes,
-    pop_stays, push_stays, save_saves, sp_stays, store_stays, word_stays,
+    pop_stays, push_stays, same_stays, save_saves, sp_stays, store_leaves, store_stays, word_stays,
 };
 
 /// What the checker's definitions say of guards and targets.
 fn code_laws()
     ensures { CheckerLaws }
 {
+    guards_apart();
     goes_on_first();
+    guarded_goes_on();
     guarded_leaves();
     guarded_free();
     jump_lands();
@@ -46,13 +49,16 @@ fn code_laws()
     call_lands();
 }
 
-/// A step at a place of a store guard leads to a safe context, and writes in the region alone.
+/// A step at a place of a guard that keeps an address in the region leads to a safe context, and writes in the region alone.
 pub fn store_guard_leads()
     ensures { GuardLaw guard.Store }
 {
     code_laws();
     own_leads();
+    same_stays();
     store_stays();
+    store_leaves();
+    plain_passes();
 }
 
 /// A step at a place of a growth guard.
@@ -61,6 +67,7 @@ pub fn growth_guard_leads()
 {
     code_laws();
     own_leads();
+    same_stays();
     push_stays();
     call_stays();
 }
@@ -71,6 +78,7 @@ pub fn pop_guard_leads()
 {
     code_laws();
     own_leads();
+    same_stays();
     pop_stays();
 }
 
@@ -80,6 +88,7 @@ pub fn sp_guard_leads()
 {
     code_laws();
     own_leads();
+    same_stays();
     sp_stays();
 }
 

@@ -24,7 +24,7 @@ pub record Leads (d : Domain) (low top : ℕ) (e : Effect) : Type 0 where
   pub good : IsGood d low top e.context
   pub inside : AllByRecursion (Inside d low top) e.written
 
--- the step at a place of this guard
+-- the step at a place of this guard, and for the store guard of each that keeps an address in the region
 abbrev pub GuardLaw : GuardKind → Type 0
 GuardLaw g = (d : Domain) (low top : ℕ) (m c : List ℕ) (p : GuardPlace) (i : Instr) (n : ℕ) → guard_of p ≡ g → StandsIn d m → Limits m low top
     → IsSteady (bits d) low top c → IsAtPlace d (bounds d low top) c p → IsFetched m (reg c 0) i n → Leads d low top (does m c i n)
