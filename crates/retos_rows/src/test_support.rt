@@ -391,9 +391,20 @@ pub fn with_files(mut files: MemFolder, stored: &[Stored]) -> Result<MemFolder, 
 /// A relocation in code: its kind's number, and its offset.
 pub type CodeReloc = (u8, u16);
 
-/// The text of an application of one thread with a stack of 16 bytes, entry 0 and no static part.
+/// The text of an application of version 1 with one thread, a stack of 16 bytes, entry 0 and no static part.
 pub fn application(alloc: Global, code: &[u16], relocs: &[CodeReloc]) -> Result<Bytes, Fail> {
-    let mut text = Bytes::from_slice(alloc, b"RETO\x01\x01")?;
+    application_of(alloc, 1, code, relocs)
+}
+
+/// The same of this version.
+pub fn application_of(
+    alloc: Global,
+    version: u8,
+    code: &[u16],
+    relocs: &[CodeReloc],
+) -> Result<Bytes, Fail> {
+    let mut text = Bytes::from_slice(alloc, b"RETO")?;
+    text.extend_from_slice(&[version, 1])?;
     push_word(&mut text, count(code.len())?)?;
     text.extend_from_slice(&[0, 0, 0, 0, 0x10, 0, 1, 0, 0, 0])?;
     push_word(&mut text, count(relocs.len())?)?;
