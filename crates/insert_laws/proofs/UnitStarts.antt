@@ -341,6 +341,11 @@ module _ (one : OneInstruction) (decides : FirstWordDecides) (F : Piece → Type
     ))),
   )
 
+  -- the piece where a guard begins saves the status
+  pub saves_at : (at : ℕ) (g : GuardKind) (h : Guarded q at g) (p : PieceAt (fields o) h.first) → standing (place_map (fields o)) p.piece ≡ saving
+  saves_at at g h p =
+      stands_saving one decides q.code h.first (standing (place_map (fields o)) p.piece) (count (standing (place_map (fields o)) p.piece)) h.begins.below (stand.stands h.first p) (first_saves q h.first g h.fit)
+
   -- where shaped pieces end no guard lies over the place: those that begin before it serve what stands before it
   not_covered : GuardedLeaves → (a c : List Piece) → pieces (fields o) ≡ a ++ c → Shaped F a → Covered q (span a) → ⊥
   unfolding Covered Covers CoversBy served_guarded
@@ -349,9 +354,7 @@ module _ (one : OneInstruction) (decides : FirstWordDecides) (F : Piece → Type
       let pa : PieceAt (fields o) h.first = stand.starts h.first h.begins in
       let place : h.first ≡ span pa.before = pa.place ∙ size_span (place_map (fields o)) pa.before in
       let w : Within a pa.before pa.piece = within a c pa.before pa.piece pa.after (sym e ∙ pa.are) (omega (arith, place, early)) in
-      let saves : standing (place_map (fields o)) pa.piece ≡ saving =
-      stands_saving one decides q.code h.first (standing (place_map (fields o)) pa.piece) (count (standing (place_map (fields o)) pa.piece)) h.begins.below (stand.stands h.first pa) (first_saves q h.first g h.fit) in
-      let f : Found a pa.before = save_found (place_map (fields o)) F free_not a pa.before pa.piece w.more shape w.are saves in
+      let f : Found a pa.before = save_found (place_map (fields o)) F free_not a pa.before pa.piece w.more shape w.are (saves_at guarded g h pa) in
       let whole : pieces (fields o) ≡ pa.before ++ (f.guards ++ (f.piece ∷ (f.rest ++ c))) =
       e ∙ ap (λ (ys : List Piece). ys ++ c) f.are ∙ append_assoc pa.before (f.guards ++ f.piece ∷ f.rest) c ∙ ap (λ (ys : List Piece). pa.before ++ ys) (append_assoc f.guards (f.piece ∷ f.rest) c) in
       let served : Guarded q (span (pa.before ++ f.guards)) f.kind = served_guarded pa.before f.kind f.guards f.piece (f.rest ++ c) f.is f.serves whole in

@@ -1,11 +1,11 @@
 //! Laws of objects with guards, for the layers above: each is used by calling it.
 #![tactic(auto)]
 
-ghost use Rattle.insert_laws.specs.Laws.{StartsArePieces, RelocsArePieces, FormRulesPass, StartsAreUnits, EntryRulePasses, TargetRulePasses, EndRulePasses, JumpRulePasses, NothingRefused, VerdictAccepts, InsertedIsAccepted};
+ghost use Rattle.insert_laws.specs.Laws.{StartsArePieces, RelocsArePieces, FormRulesPass, StartsAreUnits, EntryRulePasses, TargetRulePasses, EndRulePasses, JumpRulePasses, NothingRefused, VerdictAccepts, InsertedIsAccepted, GuardsOfVersionOne};
 ghost use Rattle.insert_laws.specs.Source.{SpellingLaw, StartsDecided};
 ghost use Rattle.insert_laws.specs.Lines.{CodeIsPieces, LinesAreClean, LinesAreSpelled, LinesHaveUnits, PlacesWithin};
 
-use code_laws::{guarded_leaves, next_start, one_stands, starts_apart};
+use code_laws::{guarded_leaves, guards_apart, guards_before, next_start, one_stands, starts_apart};
 use insert_model::laws::{instruction_size, line_stands};
 use msp_decode::laws::{first_word_decides, one_instruction, reading_law};
 use msp_encode::laws::legal_by_cases;
@@ -125,6 +125,19 @@ pub fn inserted_is_accepted()
     next_start();
     starts_apart();
     nothing_refused();
+}
+
+/// An object with guards has no wide and no load guard, whatever its version: each guard in it is one that version 1 knows.
+pub fn guards_of_version_one()
+    ensures { GuardsOfVersionOne }
+{
+    one_stands();
+    reading_law();
+    legal_by_cases();
+    one_instruction();
+    first_word_decides();
+    guards_apart();
+    guards_before();
 }
 
 /// The words of a legal instruction spell it.
