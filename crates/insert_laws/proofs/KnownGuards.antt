@@ -1,16 +1,13 @@
 -- The guards of an object with guards are those of its units, so they are of the kinds that version 1 knows.
-use Rattle.std.proofs.Common.{◌≡◌, ℕ, List, ◌++◌, sym, subst, ◌∙◌, arith}
+use Rattle.std.proofs.Common.{◌≡◌, ℕ, ◌++◌, sym, subst, ◌∙◌, arith}
 use Rattle.msp_encode.specs.Laws.{LegalByCases}
 use Rattle.msp_decode.specs.Function.{ReadingLaw}
 use Rattle.msp_decode.specs.Laws.{OneInstruction, FirstWordDecides}
-use Rattle.code_model.specs.declared.object.Object.{Object}
 use Rattle.code_model.specs.declared.guards.GuardKind.{GuardKind}
 use Rattle.code_model.specs.Fields.{fields}
 use Rattle.code_model.specs.Guards.{least_version, Guarded}
 use Rattle.code_laws.specs.Laws.{OneStands, IsOneGuard, GuardsApart, GuardsBefore}
-use Rattle.insert_model.specs.declared.piece.Piece.{Piece}
 use Rattle.insert_model.specs.Inserted.{place_map}
-use Rattle.insert_model.specs.Faults.{IsInserted}
 use Rattle.insert_laws.specs.Pieces.{pieces, PieceAt}
 use Rattle.insert_laws.specs.Laws.{PiecesStand, GuardsOfVersionOne}
 use Rattle.insert_laws.specs.Shapes.{IsFreeForm}

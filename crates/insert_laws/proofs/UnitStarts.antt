@@ -335,10 +335,16 @@ module _ (one : OneInstruction) (decides : FirstWordDecides) (F : Piece → Type
   unfolding Own OwnBy served_guarded
   own_covered a g x m y p b is serves e = (
     span (a ++ (x ++ m ∷ y)),
-    (g, (served_guarded a g (x ++ m ∷ y) p b is serves e, (
-      omega (arith, span_append a x),
-      omega (arith, span_append a (x ++ m ∷ y), span_append x (m ∷ y), span_cons m y, piece_least m, span_append a x),
-    ))),
+    (
+      g,
+      (
+        served_guarded a g (x ++ m ∷ y) p b is serves e,
+        (
+          omega (arith, span_append a x),
+          omega (arith, span_append a (x ++ m ∷ y), span_append x (m ∷ y), span_cons m y, piece_least m, span_append a x),
+        ),
+      ),
+    ),
   )
 
   -- the piece where a guard begins saves the status
@@ -350,7 +356,6 @@ module _ (one : OneInstruction) (decides : FirstWordDecides) (F : Piece → Type
   not_covered : GuardedLeaves → (a c : List Piece) → pieces (fields o) ≡ a ++ c → Shaped F a → Covered q (span a) → ⊥
   unfolding Covered Covers CoversBy served_guarded
   not_covered leaves a c e shape (guarded, late, (g, (h, early))) =
-      let go : ℕ → ℕ = place_map (fields o) in
       let pa : PieceAt (fields o) h.first = stand.starts h.first h.begins in
       let place : h.first ≡ span pa.before = pa.place ∙ size_span (place_map (fields o)) pa.before in
       let w : Within a pa.before pa.piece = within a c pa.before pa.piece pa.after (sym e ∙ pa.are) (omega (arith, place, early)) in
