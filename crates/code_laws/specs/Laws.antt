@@ -101,9 +101,3 @@ AcceptedGuarded = (o : Object) (units : List ℕ) → IsAccepted o units → Dan
 -- an object has one verdict
 abbrev pub OneVerdict : Type 0
 OneVerdict = (o : Object) (u v : Verdict) → IsVerdict o u → IsVerdict o v → SameVerdict u v
-
--- ---- where guards begin
-
--- a guard begins before what it guards
-abbrev pub GuardsBefore : Type 0
-GuardsBefore = (o : Object) (at : ℕ) (g : GuardKind) (h : Guarded o at g) → h.first < at

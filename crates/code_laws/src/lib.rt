@@ -5,7 +5,7 @@
 //! checker's body.
 #![tactic(auto)]
 
-ghost use Rattle.code_laws.specs.Laws.{OneStands, NextStart, StartsApart, BeforeInterior, GuardsApart, GoesOnFirst, GuardedGoesOn, GuardedLeaves, GuardedFree, JumpLands, BranchLands, CallLands, NamedUnits, AcceptedGuarded, OneVerdict, GuardsBefore};
+ghost use Rattle.code_laws.specs.Laws.{OneStands, NextStart, StartsApart, BeforeInterior, GuardsApart, GoesOnFirst, GuardedGoesOn, GuardedLeaves, GuardedFree, JumpLands, BranchLands, CallLands, NamedUnits, AcceptedGuarded, OneVerdict};
 
 /// One instruction of one length stands at a place.
 pub fn one_stands()
@@ -80,9 +80,4 @@ pub fn accepted_guarded()
 /// An object has one verdict.
 pub fn one_verdict()
     ensures { OneVerdict }
-{}
-
-/// A guard begins before what it guards.
-pub fn guards_before()
-    ensures { GuardsBefore }
 {}

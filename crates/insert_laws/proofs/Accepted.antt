@@ -1,5 +1,5 @@
 -- An object with guards is accepted: whether a unit starts at a place is known, since each of its starts is a piece's.
-use Rattle.std.proofs.Common.{◌≡◌, ℕ, ◌+◌, ◌*◌, ◌<◌, ◌≤◌, ◌⊎◌, inl, inr, List, [], ◌∷◌, ◌++◌, sym, subst, ap, ◌∙◌, arith}
+use Rattle.std.proofs.Common.{◌≡◌, ℕ, ◌+◌, ◌*◌, ◌<◌, ◌⊎◌, inl, inr, List, [], ◌∷◌, ◌++◌, sym, subst, ap, ◌∙◌, arith}
 use Rattle.std.proofs.lemmas.List.{append-nil}
 use Rattle.msp_encode.specs.Laws.{LegalByCases}
 use Rattle.msp_decode.specs.Function.{ReadingLaw}
@@ -10,14 +10,14 @@ use Rattle.code_model.specs.Fields.{fields}
 use Rattle.code_model.specs.Starts.{Start}
 use Rattle.code_model.specs.Guards.{Guarded, CoversBy, Covers, Covered, Interior, UnitStart}
 use Rattle.code_laws.specs.Laws.{OneStands, GuardedLeaves, NextStart, StartsApart}
+use Rattle.code_laws.proofs.DangerLemmas.{guarded_interior}
 use Rattle.insert_model.specs.declared.piece.Piece.{Piece}
 use Rattle.insert_model.specs.Inserted.{place_map}
-use Rattle.insert_model.specs.Guards.{save}
 use Rattle.insert_model.specs.Faults.{IsInserted}
 use Rattle.insert_laws.specs.Pieces.{pieces, PieceAt}
 use Rattle.insert_laws.specs.Laws.{PiecesStand, NothingRefused, IsAcceptable, InsertedIsAccepted}
 use Rattle.insert_laws.specs.Shapes.{IsGuard, IsServed, Shaped, IsFreeForm}
-use Rattle.insert_laws.proofs.Guarding.{HasTail, guard_tail, span, span_append, span_cons, piece_least, size_span}
+use Rattle.insert_laws.proofs.Guarding.{span, span_append, span_cons, piece_least, size_span}
 use Rattle.insert_laws.proofs.UnitStarts.{served_guarded, served_first, unit_start}
 use Rattle.insert_laws.proofs.Roles.{Role, IsFree, IsOwn, Serves, role_of}
 use Rattle.insert_laws.proofs.Placed.{pieces_stand}
@@ -25,26 +25,16 @@ use Rattle.insert_laws.proofs.FormRules.{free_standing, words_are, shaped}
 use Rattle.insert_laws.proofs.Deciding.{Decided, decided}
 use Rattle.insert_laws.proofs.Bitmaps.{Marking, marking}
 
--- a start behind a guard's first piece, up to what it guards, is interior
-interior_at : (q : Object) (a gs : List Piece) (at : ℕ) (g : GuardKind) (h : Guarded q (span (a ++ gs)) g) → h.first ≡ span a → Start q.code at → span a < at → at ≤ span (a ++ gs) → Interior q at
-unfolding Covered Covers CoversBy
-interior_at q a gs at g h first start less most = (start, (span (a ++ gs), most, (g, (h, omega (arith, first, less)))))
-
--- so is what it guards
-guarded_interior : (q : Object) (a : List Piece) (g : GuardKind) (gs : List Piece) → IsGuard g gs → (h : Guarded q (span (a ++ gs)) g) → h.first ≡ span a → Interior q (span (a ++ gs))
-guarded_interior q a g gs is h first =
-    let t : HasTail (λ x. x) gs = guard_tail (λ x. x) g gs is in
-    interior_at q a gs (span (a ++ gs)) g h first h.start (omega (arith, span_append a gs, ap span t.are, span_cons save t.behind, piece_least save)) (omega arith)
-
--- and so are the guard's own pieces behind its first
+-- a guard's own pieces behind its first are interior
 own_interior : (q : Object) (a : List Piece) (g : GuardKind) (m : Piece) (u : List Piece) (r : Piece) (y : List Piece) (h : Guarded q (span (a ++ ((m ∷ u) ++ r ∷ y))) g) → h.first ≡ span a
     → Start q.code (span (a ++ (m ∷ u))) → Interior q (span (a ++ (m ∷ u)))
+unfolding Covered Covers CoversBy
 own_interior q a g m u r y h first start =
     let gs : List Piece = (m ∷ u) ++ r ∷ y in
     let whole : span (a ++ gs) ≡ span a + span gs = span_append a gs in
     let front : span (a ++ (m ∷ u)) ≡ span a + span (m ∷ u) = span_append a (m ∷ u) in
     let parts : span gs ≡ span (m ∷ u) + span (r ∷ y) = span_append (m ∷ u) (r ∷ y) in
-    interior_at q a gs (span (a ++ (m ∷ u))) g h first start (omega (arith, front, span_cons m u, piece_least m)) (omega (arith, whole, front, parts))
+    (start, (span (a ++ gs), omega (arith, whole, front, parts), (g, (h, omega (arith, first, front, span_cons m u, piece_least m)))))
 
 module _ (one : OneStands) (reads : ReadingLaw) (legal : LegalByCases) (unique : OneInstruction) (decides : FirstWordDecides) (leaves : GuardedLeaves) (next : NextStart) (apart : StartsApart)
     (none : NothingRefused) (o q : Object) (i : IsInserted o q) where
@@ -77,7 +67,7 @@ module _ (one : OneStands) (reads : ReadingLaw) (legal : LegalByCases) (unique :
       subst Sort (sym here) (own_sort a g u r y p b front is h e (subst (Start q.code) here start))
   sort at x r z (Serves a g gs front is h e ex) are place start =
       let here : at ≡ span (a ++ gs) = place ∙ ap span ex in
-      inl (subst (Interior q) (sym here) (guarded_interior q a g gs is (guarded a g gs r z is h e) (first_is a g gs r z is h e)))
+      inl (subst (Interior q) (sym here) (guarded_interior q (span (a ++ gs)) g (guarded a g gs r z is h e)))
 
   each : (at : ℕ) → Start q.code at → Sort at
   each at start =

@@ -22,6 +22,7 @@ use Rattle.code_model.specs.Starts.{Begins, Stands, Start}
 use Rattle.code_model.specs.Relocs.{Unrelocated}
 use Rattle.code_model.specs.Guards.{guard_words, FitAll, IsQuiet, Pops, IsAtR4, IsPlainStore, IsStoreForm, IsGrowthForm, IsPopForm, IsSpForm, Serves, most_served, least_version, Guarded, CoversBy, Covers, Covered, OwnBy, Own, UnitStart}
 use Rattle.code_laws.specs.Laws.{GuardedLeaves}
+use Rattle.code_laws.proofs.Begins.{guard_begins}
 use Rattle.insert_model.specs.declared.piece.Piece.{Piece}
 use Rattle.insert_model.specs.declared.piece.Word.{Word}
 use Rattle.insert_model.specs.Words.{count, piece_words, unit_words}
@@ -56,14 +57,6 @@ within (m ∷ a) c (n ∷ x) r y e less =
     record { more = w.more; are = λ j. h j ∷ w.are j }
 
 -- ---- guards
-
-first_saves : (o : Object) (at : ℕ) (g : GuardKind) → FitAll o at (guard_words g) → slice_index o.code at ≡ 0x4205
-first_saves o at guard.Store f = f.0.1.0
-first_saves o at (guard.Wide r) f = f.0.1.0
-first_saves o at guard.Load f = f.0.1.0
-first_saves o at guard.Growth f = f.0.1.0
-first_saves o at guard.Pop f = f.0.1.0
-first_saves o at guard.Sp f = f.0.1.0
 
 -- a unit's guards serve one instruction each, and are known to each version
 pub serves_one : (g : GuardKind) (gs : List Piece) → IsGuard g gs → most_served g ≡ 1
@@ -350,7 +343,7 @@ module _ (one : OneInstruction) (decides : FirstWordDecides) (F : Piece → Type
   -- the piece where a guard begins saves the status
   pub saves_at : (at : ℕ) (g : GuardKind) (h : Guarded q at g) (p : PieceAt (fields o) h.first) → standing (place_map (fields o)) p.piece ≡ saving
   saves_at at g h p =
-      stands_saving one decides q.code h.first (standing (place_map (fields o)) p.piece) (count (standing (place_map (fields o)) p.piece)) h.begins.below (stand.stands h.first p) (first_saves q h.first g h.fit)
+      stands_saving one decides q.code h.first (standing (place_map (fields o)) p.piece) (count (standing (place_map (fields o)) p.piece)) h.begins.below (stand.stands h.first p) (guard_begins q h.first g h.fit)
 
   -- where shaped pieces end no guard lies over the place: those that begin before it serve what stands before it
   not_covered : GuardedLeaves → (a c : List Piece) → pieces (fields o) ≡ a ++ c → Shaped F a → Covered q (span a) → ⊥

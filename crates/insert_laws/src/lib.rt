@@ -5,9 +5,7 @@ ghost use Rattle.insert_laws.specs.Laws.{StartsArePieces, RelocsArePieces, FormR
 ghost use Rattle.insert_laws.specs.Source.{SpellingLaw, StartsDecided};
 ghost use Rattle.insert_laws.specs.Lines.{CodeIsPieces, LinesAreClean, LinesAreSpelled, LinesHaveUnits, PlacesWithin};
 
-use code_laws::{
-    guarded_leaves, guards_apart, guards_before, next_start, one_stands, starts_apart,
-};
+use code_laws::{guarded_leaves, guards_apart, next_start, one_stands, starts_apart};
 use insert_model::laws::{instruction_size, line_stands};
 use msp_decode::laws::{first_word_decides, one_instruction, reading_law};
 use msp_encode::laws::legal_by_cases;
@@ -139,7 +137,6 @@ pub fn guards_of_version_one()
     one_instruction();
     first_word_decides();
     guards_apart();
-    guards_before();
 }
 
 /// The words of a legal instruction spell it.
