@@ -1,58 +1,42 @@
 -- An object with guards is accepted: whether a unit starts at a place is known, since each of its starts is a piece's.
-use Rattle.std.proofs.Common.{◌≡◌, ℕ, ◌+◌, ◌*◌, ◌<◌, ◌≤◌, ◌⊎◌, inl, inr, List, [], ◌∷◌, ◌++◌, length, sym, subst, ap, ◌∙◌, arith}
+use Rattle.std.proofs.Common.{◌≡◌, ℕ, ◌+◌, ◌*◌, ◌<◌, ◌⊎◌, inl, inr, List, [], ◌∷◌, ◌++◌, sym, subst, ap, ◌∙◌, arith}
 use Rattle.std.proofs.lemmas.List.{append-nil}
 use Rattle.msp_encode.specs.Laws.{LegalByCases}
 use Rattle.msp_decode.specs.Function.{ReadingLaw}
 use Rattle.msp_decode.specs.Laws.{OneInstruction, FirstWordDecides}
 use Rattle.code_model.specs.declared.object.Object.{Object}
 use Rattle.code_model.specs.declared.guards.GuardKind.{GuardKind}
-use Rattle.code_model.specs.declared.guards.GuardKind.TheVariants as guard
 use Rattle.code_model.specs.Fields.{fields}
 use Rattle.code_model.specs.Starts.{Start}
-use Rattle.code_model.specs.Guards.{guard_words, Guarded, CoversBy, Covers, Covered, Interior, UnitStart}
-use Rattle.code_laws.specs.Laws.{OneStands, NextStart, StartsApart}
+use Rattle.code_model.specs.Guards.{Guarded, CoversBy, Covers, Covered, Interior, UnitStart}
+use Rattle.code_laws.specs.Laws.{OneStands, GuardedLeaves, NextStart, StartsApart}
+use Rattle.code_laws.proofs.DangerLemmas.{guarded_interior}
 use Rattle.insert_model.specs.declared.piece.Piece.{Piece}
 use Rattle.insert_model.specs.Inserted.{place_map}
-use Rattle.insert_model.specs.Words.{unit_words}
 use Rattle.insert_model.specs.Faults.{IsInserted}
 use Rattle.insert_laws.specs.Pieces.{pieces, PieceAt}
 use Rattle.insert_laws.specs.Laws.{PiecesStand, NothingRefused, IsAcceptable, InsertedIsAccepted}
 use Rattle.insert_laws.specs.Shapes.{IsGuard, IsServed, Shaped, IsFreeForm}
-use Rattle.insert_laws.proofs.GuardWords.{guard_length}
 use Rattle.insert_laws.proofs.Guarding.{span, span_append, span_cons, piece_least, size_span}
-use Rattle.insert_laws.proofs.UnitStarts.{served_guarded, unit_start}
+use Rattle.insert_laws.proofs.UnitStarts.{served_guarded, served_first, unit_start}
 use Rattle.insert_laws.proofs.Roles.{Role, IsFree, IsOwn, Serves, role_of}
 use Rattle.insert_laws.proofs.Placed.{pieces_stand}
 use Rattle.insert_laws.proofs.FormRules.{free_standing, words_are, shaped}
 use Rattle.insert_laws.proofs.Deciding.{Decided, decided}
 use Rattle.insert_laws.proofs.Bitmaps.{Marking, marking}
 
-guard_some : (g : GuardKind) → 1 ≤ length (guard_words g)
-guard_some guard.Store = omega arith
-guard_some guard.Growth = omega arith
-guard_some guard.Pop = omega arith
-guard_some guard.Sp = omega arith
-
--- a guarded instruction lies behind its guard's first word
-guarded_interior : (q : Object) (at : ℕ) (g : GuardKind) → Guarded q at g → Interior q at
+-- a guard's own pieces behind its first are interior
+own_interior : (q : Object) (a : List Piece) (g : GuardKind) (m : Piece) (u : List Piece) (r : Piece) (y : List Piece) (h : Guarded q (span (a ++ ((m ∷ u) ++ r ∷ y))) g) → h.first ≡ span a
+    → Start q.code (span (a ++ (m ∷ u))) → Interior q (span (a ++ (m ∷ u)))
 unfolding Covered Covers CoversBy
-guarded_interior q at g h = (h.start, (at, omega arith, (g, (h, omega (arith, h.ends, guard_some g)))))
-
--- and so do the guard's own pieces behind its first
-own_interior : (q : Object) (a : List Piece) (g : GuardKind) (m : Piece) (u : List Piece) (r : Piece) (y : List Piece) → IsGuard g ((m ∷ u) ++ r ∷ y)
-    → Guarded q (span (a ++ ((m ∷ u) ++ r ∷ y))) g → Start q.code (span (a ++ (m ∷ u))) → Interior q (span (a ++ (m ∷ u)))
-unfolding Covered Covers CoversBy span
-own_interior q a g m u r y is h start =
+own_interior q a g m u r y h first start =
     let gs : List Piece = (m ∷ u) ++ r ∷ y in
     let whole : span (a ++ gs) ≡ span a + span gs = span_append a gs in
     let front : span (a ++ (m ∷ u)) ≡ span a + span (m ∷ u) = span_append a (m ∷ u) in
     let parts : span gs ≡ span (m ∷ u) + span (r ∷ y) = span_append (m ∷ u) (r ∷ y) in
-    let some : span (m ∷ u) ≡ length (unit_words (m ∷ [])) + span u = span_append (m ∷ []) u in
-    let size : span gs ≡ length (guard_words g) = guard_length g gs is in
-    let least : 1 ≤ span (m ∷ u) = omega (arith, span_cons m u, piece_least m) in
-    (start, (span (a ++ gs), omega (arith, whole, front, parts), (g, (h, omega (arith, h.ends, whole, front, size, least)))))
+    (start, (span (a ++ gs), omega (arith, whole, front, parts), (g, (h, omega (arith, first, front, span_cons m u, piece_least m)))))
 
-module _ (one : OneStands) (reads : ReadingLaw) (legal : LegalByCases) (unique : OneInstruction) (decides : FirstWordDecides) (next : NextStart) (apart : StartsApart)
+module _ (one : OneStands) (reads : ReadingLaw) (legal : LegalByCases) (unique : OneInstruction) (decides : FirstWordDecides) (leaves : GuardedLeaves) (next : NextStart) (apart : StartsApart)
     (none : NothingRefused) (o q : Object) (i : IsInserted o q) where
   stand : PiecesStand o q
   stand = pieces_stand one reads legal o q i
@@ -63,14 +47,18 @@ module _ (one : OneStands) (reads : ReadingLaw) (legal : LegalByCases) (unique :
   guarded : (a : List Piece) (g : GuardKind) (gs : List Piece) (p : Piece) (b : List Piece) → IsGuard g gs → IsServed g p → pieces (fields o) ≡ a ++ (gs ++ p ∷ b) → Guarded q (span (a ++ gs)) g
   guarded a g gs p b is h e = served_guarded unique decides IsFreeForm o q stand (words_are o q i) (free_standing (place_map (fields o))) a g gs p b is h e
 
+  first_is : (a : List Piece) (g : GuardKind) (gs : List Piece) (p : Piece) (b : List Piece) (is : IsGuard g gs) (h : IsServed g p) (e : pieces (fields o) ≡ a ++ (gs ++ p ∷ b)) → (guarded a g gs p b is h e).first ≡ span a
+  unfolding guarded
+  first_is a g gs p b is h e = served_first unique decides IsFreeForm o q stand (words_are o q i) (free_standing (place_map (fields o))) a g gs p b is h e
+
   begins : (a : List Piece) (p : Piece) (b : List Piece) → pieces (fields o) ≡ a ++ p ∷ b → Shaped IsFreeForm a → UnitStart q (span a)
-  begins a p b e front = unit_start unique decides IsFreeForm o q stand (words_are o q i) (free_standing (place_map (fields o))) a p b e front
+  begins a p b e front = unit_start unique decides IsFreeForm o q stand (words_are o q i) (free_standing (place_map (fields o))) leaves a p b e front
 
   -- a guard's first piece is a unit's start, the others are interior
   own_sort : (a : List Piece) (g : GuardKind) (u : List Piece) (r : Piece) (y : List Piece) (p : Piece) (b : List Piece) → Shaped IsFreeForm a → IsGuard g (u ++ r ∷ y) → IsServed g p
       → pieces (fields o) ≡ a ++ ((u ++ r ∷ y) ++ p ∷ b) → Start q.code (span (a ++ u)) → Sort (span (a ++ u))
   own_sort a g [] r y p b front is h e start = inr (subst (λ (x : List Piece). UnitStart q (span x)) (sym (append-nil a)) (begins a r (y ++ p ∷ b) e front))
-  own_sort a g (m ∷ u) r y p b front is h e start = inl (own_interior q a g m u r y is (guarded a g ((m ∷ u) ++ r ∷ y) p b is h e) start)
+  own_sort a g (m ∷ u) r y p b front is h e start = inl (own_interior q a g m u r y (guarded a g ((m ∷ u) ++ r ∷ y) p b is h e) (first_is a g ((m ∷ u) ++ r ∷ y) p b is h e) start)
 
   sort : (at : ℕ) (x : List Piece) (r : Piece) (z : List Piece) → Role IsFreeForm (pieces (fields o)) x r z → pieces (fields o) ≡ x ++ r ∷ z → at ≡ span x → Start q.code at → Sort at
   sort at x r z (IsFree f front) are place start = inr (subst (UnitStart q) (sym place) (begins x r z are front))
@@ -106,5 +94,5 @@ module _ (one : OneStands) (reads : ReadingLaw) (legal : LegalByCases) (unique :
       let units : Marking (UnitStart q) = marking (UnitStart q) known 1024 below in
       (units.marks, record { none = none o q i; units = units.are; spelled = stand.spelled; each = each })
 
-pub accepted : OneStands → ReadingLaw → LegalByCases → OneInstruction → FirstWordDecides → NextStart → StartsApart → NothingRefused → InsertedIsAccepted
-accepted one reads legal unique decides next apart none o q i = acceptable one reads legal unique decides next apart none o q i
+pub accepted : OneStands → ReadingLaw → LegalByCases → OneInstruction → FirstWordDecides → GuardedLeaves → NextStart → StartsApart → NothingRefused → InsertedIsAccepted
+accepted one reads legal unique decides leaves next apart none o q i = acceptable one reads legal unique decides leaves next apart none o q i

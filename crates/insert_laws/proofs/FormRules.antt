@@ -24,7 +24,7 @@ use Rattle.code_model.specs.declared.rules.Rule.{Rule}
 use Rattle.code_model.specs.declared.rules.Rule.TheVariants as rule
 use Rattle.code_model.specs.Starts.{Stands, Start, Bad}
 use Rattle.code_model.specs.Guards.{Guarded, Own}
-use Rattle.code_model.specs.Rules.{IsReti, WritesReg, IsBranch, WritesMemory, WritesWild, ReadsStack, IsPushOrCall, BreaksAt, HasWrongReloc, Refuses}
+use Rattle.code_model.specs.Rules.{IsReti, WritesReg, IsBranch, WritesMemory, WritesWild, ReadsStack, IsPushOrCall, IsGuardedStore, BreaksAt, HasWrongReloc, Refuses}
 use Rattle.code_laws.specs.Laws.{IsSame, OneStands}
 use Rattle.insert_model.specs.declared.piece.Piece.{Piece}
 use Rattle.insert_model.specs.Words.{count, unit_words}
@@ -60,6 +60,8 @@ own_reti : (g : GuardKind) (gs : List Piece) → IsGuard g gs → NotReti gs
 unfolding NotReti
 own_reti guard.Store gs h =
     subst NotReti (sym h.are) ((λ e. e), ((λ e. e), ((λ e. e), ((λ e. e), ((λ e. e), ((λ e. e), ((λ e. e), ((λ e. e), ((λ e. e), tt)))))))))
+own_reti (guard.Wide r) gs h = absurd h
+own_reti guard.Load gs h = absurd h
 own_reti guard.Growth gs h = subst NotReti (sym h) ((λ e. e), ((λ e. e), ((λ e. e), ((λ e. e), ((λ e. e), tt)))))
 own_reti guard.Pop gs h = subst NotReti (sym h) ((λ e. e), ((λ e. e), ((λ e. e), ((λ e. e), ((λ e. e), tt)))))
 own_reti guard.Sp gs h = subst NotReti (sym h) ((λ e. e), ((λ e. e), ((λ e. e), ((λ e. e), ((λ e. e), ((λ e. e), ((λ e. e), tt)))))))
@@ -209,9 +211,11 @@ module _ (one : OneStands) (reads : ReadingLaw) (legal : LegalByCases) (unique :
       b.breaks.1 (subst (Guarded q at) r.0 guarded))
 
   no_store : (at : ℕ) → (Own q at → ⊥) → BreaksAt rule.Store q at → ⊥
+  unfolding IsGuardedStore
   no_store at own b = on_role at b.instr b.words b.start b.stands own ⊥
       (λ p same f. f.no_memory (memory_back (place_map (fields o)) p (subst WritesMemory same b.breaks.0)))
-      (λ p same g h guarded. b.breaks.1 (subst (Guarded q at) (served_memory g p.destination p.instr (form_of g p h) (memory_back (place_map (fields o)) p (subst WritesMemory same b.breaks.0))) guarded))
+      (λ p same g h guarded. b.breaks.1
+      (guard.Store, (tt, subst (Guarded q at) (served_memory g p.destination p.instr (form_of g p h) (memory_back (place_map (fields o)) p (subst WritesMemory same b.breaks.0))) guarded)))
 
   no_pop : (at : ℕ) → (Own q at → ⊥) → BreaksAt rule.Pop q at → ⊥
   no_pop at own b = on_role at b.instr b.words b.start b.stands own ⊥

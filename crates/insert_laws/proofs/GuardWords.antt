@@ -33,7 +33,7 @@ WordTakes w (slot.Word v) = (w.value ≡ v) × (w.kind ≡ None)
 WordTakes w slot.Load = IsLoad w.value × (w.kind ≡ None)
 WordTakes w slot.Free = Unit {0}
 WordTakes w slot.Low = (w.value ≡ 0) × (w.kind ≡ Some Lo)
-WordTakes w slot.High = (w.value ≡ 0) × (w.kind ≡ Some Hi)
+WordTakes w (slot.High v) = (w.value ≡ v) × (w.kind ≡ Some Hi)
 
 abbrev pub WordsFit : List Word → List Slot → Type 0
 WordsFit [] [] = Unit {0}
@@ -76,6 +76,8 @@ store_by false n x k load = reg_words n x k load
 
 pub guard_fits : (g : GuardKind) (gs : List Piece) → IsGuard g gs → WordsFit (unit_words gs) (guard_words g)
 guard_fits guard.Store gs h = subst (λ (ps : List Piece). WordsFit (unit_words ps) (guard_words guard.Store)) (sym h.are) (store_by (nat_eq h.base 3) h.base h.index h.kind (load_reg h.base h.below h.register))
+guard_fits (guard.Wide r) gs h = absurd h
+guard_fits guard.Load gs h = absurd h
 guard_fits guard.Growth gs h = subst (λ (ps : List Piece). WordsFit (unit_words ps) (guard_words guard.Growth)) (sym h) growth_words
 guard_fits guard.Pop gs h = subst (λ (ps : List Piece). WordsFit (unit_words ps) (guard_words guard.Pop)) (sym h) pop_words
 guard_fits guard.Sp gs h = subst (λ (ps : List Piece). WordsFit (unit_words ps) (guard_words guard.Sp)) (sym h) sp_words
@@ -135,7 +137,7 @@ module _ (o q : Object) (ws : List Word) (is : IsWordsOf o q ws) where
   takes us w bs slot.Free e h = tt
   takes us w bs slot.Low e h =
       (code_word us w bs e ∙ moved_plain w (Some Lo) h.1 refl ∙ h.0, a_reloc (length us) Lo (ap (λ (vs : List Word). kind_in vs (length us)) e ∙ kind_at_end us w bs ∙ h.1))
-  takes us w bs slot.High e h =
+  takes us w bs (slot.High v) e h =
       (code_word us w bs e ∙ moved_plain w (Some Hi) h.1 refl ∙ h.0, a_reloc (length us) Hi (ap (λ (vs : List Word). kind_in vs (length us)) e ∙ kind_at_end us w bs ∙ h.1))
 
   pub fit_all : (us vs bs : List Word) (ss : List Slot) → ws ≡ us ++ (vs ++ bs) → WordsFit vs ss → FitAll q (length us) ss

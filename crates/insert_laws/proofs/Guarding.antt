@@ -131,6 +131,8 @@ sp_tail go = record {
 
 pub guard_tail : (go : ℕ → ℕ) (g : GuardKind) (gs : List Piece) → IsGuard g gs → HasTail go gs
 guard_tail go guard.Store gs h = subst (HasTail go) (sym h.are) (store_tail go h.base h.index h.kind)
+guard_tail go (guard.Wide r) gs h = absurd h
+guard_tail go guard.Load gs h = absurd h
 guard_tail go guard.Growth gs h = subst (HasTail go) (sym h) (growth_tail go)
 guard_tail go guard.Pop gs h = subst (HasTail go) (sym h) (pop_tail go)
 guard_tail go guard.Sp gs h = subst (HasTail go) (sym h) (sp_tail go)
@@ -191,6 +193,8 @@ sp_not go j k (instr.Jump c n) h e = h
 served_not : (go : ℕ → ℕ) (g : GuardKind) (p : Piece) → IsServed g p → standing go p ≡ saving → ⊥
 unfolding standing
 served_not go guard.Store p h e = through_not go p.source p.destination p.instr h e
+served_not go (guard.Wide r) p h e = h
+served_not go guard.Load p h e = h
 served_not go guard.Growth p h e = growth_not go p.source p.destination p.instr h e
 served_not go guard.Pop p h e = pop_not go p.source p.destination p.instr h e
 served_not go guard.Sp p h e = sp_not go p.source p.destination p.instr h e

@@ -18,7 +18,7 @@ use Rattle.code_model.specs.declared.guards.GuardKind.TheVariants as guard
 use Rattle.code_model.specs.declared.rules.Rule.TheVariants as rule
 use Rattle.code_model.specs.Guards.{Own, UnitStart, IsGrowthForm, IsPopForm, IsSpForm}
 use Rattle.code_model.specs.Rules.{IsAlways, IsJmp, IsJumpTarget, JumpsAstray, BreaksAt}
-use Rattle.code_laws.specs.Laws.{IsSame, OneStands}
+use Rattle.code_laws.specs.Laws.{IsSame, OneStands, GuardedLeaves}
 use Rattle.insert_model.specs.declared.line.Line.{Line}
 use Rattle.insert_model.specs.declared.piece.Piece.{Piece}
 use Rattle.insert_model.specs.Words.{count, piece_words}
@@ -123,18 +123,21 @@ jump_by c e m n h = cc
 
 served_jump : (g : GuardKind) (p : Piece) (c : Cond) (k : ℤ) → p.instr ≡ instr.Jump c k → IsServed g p → ⊥
 served_jump guard.Store p c k e h = subst (IsThroughR4 p.destination) e h
+served_jump (guard.Wide r) p c k e h = h
+served_jump guard.Load p c k e h = h
 served_jump guard.Growth p c k e h = subst IsGrowthForm e h
 served_jump guard.Pop p c k e h = subst IsPopForm e h
 served_jump guard.Sp p c k e h = subst IsSpForm e h
 
 -- ---- the rule
 
-module _ (one : OneStands) (reads : ReadingLaw) (legal : LegalByCases) (unique : OneInstruction) (decides : FirstWordDecides) (size : SizeLaw) (line : LineLaw) (o q : Object) (i : IsInserted o q) where
+module _ (one : OneStands) (reads : ReadingLaw) (legal : LegalByCases) (unique : OneInstruction) (decides : FirstWordDecides) (leaves : GuardedLeaves) (size : SizeLaw) (line : LineLaw) (o q : Object)
+    (i : IsInserted o q) where
   abbrev bytes : ℕ
   bytes = static_bytes (fields o)
 
   start_at : (a : List Piece) (p : Piece) (b : List Piece) → pieces (fields o) ≡ a ++ p ∷ b → Shaped IsFreeForm a → UnitStart q (span a)
-  start_at a p b e shape = unit_start unique decides IsFreeForm o q (pieces_stand one reads legal o q i) (words_are o q i) (free_standing (place_map (fields o))) a p b e shape
+  start_at a p b e shape = unit_start unique decides IsFreeForm o q (pieces_stand one reads legal o q i) (words_are o q i) (free_standing (place_map (fields o))) leaves a p b e shape
 
   lands : (at t : ℕ) (k : ℕ) → UnitStart q t → t ≡ at + 1 + k → IsJumpTarget q at (pos k)
   unfolding IsJumpTarget
@@ -144,17 +147,17 @@ module _ (one : OneStands) (reads : ReadingLaw) (legal : LegalByCases) (unique :
   clean_of front l back e = clean_at o front l back (subst (AllClean o) e (all_clean o i.clean (source_fits o reads legal)))
 
   shaped_front : (front rest : List Line) → lines (fields o) ≡ front ++ rest → Shaped IsFreeForm (pieces_of bytes front)
-  shaped_front front rest e = front_shaped one reads legal unique decides size line o q i front rest e
+  shaped_front front rest e = front_shaped one reads legal unique decides leaves size line o q i front rest e
 
   cut : (front : List Line) (l : Line) (back : List Line) → lines (fields o) ≡ front ++ l ∷ back → pieces (fields o) ≡ pieces_of bytes front ++ (unit bytes l ++ pieces_of bytes back)
-  cut front l back e = pieces_cut one reads legal unique decides size line o q i front l back e
+  cut front l back e = pieces_cut one reads legal unique decides leaves size line o q i front l back e
 
   -- behind a conditional jump's unit another starts
   next_start : (front : List Line) (l : Line) (back : List Line) → lines (fields o) ≡ front ++ l ∷ back → (IsJmp l.instr → ⊥) → (SetsPc l.instr → ⊥) → UnitStart q (span (pieces_of bytes front ++ unit bytes l))
   unfolding pieces_of
   next_start front l [] e jmp sets = absurd ((clean_of front l [] e).lands (inr (inr (inr (line_end size line o i.spelled front l e, jmp, sets)))))
   next_start front l (m ∷ back) e jmp sets =
-      first_start one reads legal unique decides size line o q i (pieces_of bytes front ++ unit bytes l) (unit bytes m) (pieces_of bytes back) (unit_filled bytes m) (whole front l m back e)
+      first_start one reads legal unique decides leaves size line o q i (pieces_of bytes front ++ unit bytes l) (unit bytes m) (pieces_of bytes back) (unit_filled bytes m) (whole front l m back e)
       (shaped_append (pieces_of bytes front) (unit bytes l) (shaped_front front (l ∷ m ∷ back) e) (unit_shaped o l bytes (clean_of front l (m ∷ back) e)))
     where
       whole : (front : List Line) (l m : Line) (back : List Line) → lines (fields o) ≡ front ++ l ∷ m ∷ back → pieces (fields o) ≡ (pieces_of bytes front ++ unit bytes l) ++ (unit bytes m ++ pieces_of bytes back)
@@ -246,5 +249,5 @@ module _ (one : OneStands) (reads : ReadingLaw) (legal : LegalByCases) (unique :
       let role : Role IsFreeForm (pieces (fields o)) p.before p.piece p.after = role_of IsFreeForm (pieces (fields o)) p.before p.piece p.after (shaped one reads legal unique decides o q i) p.are in
       by_form at go p.piece.instr p.piece.source p.piece.destination (λ c k e. of_role at p.before p.piece p.after c k role p.are (p.place ∙ size_span go p.before) own' e) (subst (JumpsAstray q at) s.instr b.breaks)
 
-pub jump_passes : OneStands → ReadingLaw → LegalByCases → OneInstruction → FirstWordDecides → SizeLaw → LineLaw → JumpRulePasses
-jump_passes one reads legal unique decides size line o q i at h = no_jump one reads legal unique decides size line o q i at h.0 h.1
+pub jump_passes : OneStands → ReadingLaw → LegalByCases → OneInstruction → FirstWordDecides → GuardedLeaves → SizeLaw → LineLaw → JumpRulePasses
+jump_passes one reads legal unique decides leaves size line o q i at h = no_jump one reads legal unique decides leaves size line o q i at h.0 h.1

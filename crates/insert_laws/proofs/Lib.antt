@@ -25,6 +25,7 @@ pub mod Accepting
 pub mod Deciding
 pub mod Bitmaps
 pub mod Accepted
+pub mod KnownGuards
 pub mod SourceLines
 pub mod LineUnits
 pub mod PlaceBounds

@@ -276,18 +276,24 @@ is_reg_src (src.Const c) a b h k = h
 -- a guarded form, by its instruction
 abbrev pub ServedForm : GuardKind → Option RelKind → Instr → Type 0
 ServedForm guard.Store k i = IsThroughR4 k i
+ServedForm (guard.Wide r) k i = ⊥
+ServedForm guard.Load k i = ⊥
 ServedForm guard.Growth k i = IsGrowthForm i
 ServedForm guard.Pop k i = IsPopForm i
 ServedForm guard.Sp k i = IsSpForm i
 
 pub form_of : (g : GuardKind) (p : Piece) → IsServed g p → ServedForm g p.destination p.instr
 form_of guard.Store p h = h
+form_of (guard.Wide r) p h = h
+form_of guard.Load p h = h
 form_of guard.Growth p h = h
 form_of guard.Pop p h = h
 form_of guard.Sp p h = h
 
 pub served_reti : (g : GuardKind) (k : Option RelKind) (i : Instr) → ServedForm g k i → IsReti i → ⊥
 served_reti guard.Store k instr.Reti f h = f
+served_reti (guard.Wide r) k instr.Reti f h = f
+served_reti guard.Load k instr.Reti f h = f
 served_reti guard.Growth k instr.Reti f h = f
 served_reti guard.Pop k instr.Reti f h = f
 served_reti guard.Sp k instr.Reti f h = f
@@ -301,6 +307,8 @@ served_reg guard.Store k (instr.Two op w s d) r low f h = absurd (through_dst d 
 served_reg guard.Store k (instr.One op w s) r low f h = absurd (at_r4_src s r f.1 h.1)
 served_reg guard.Store k instr.Reti r low f h = absurd h
 served_reg guard.Store k (instr.Jump c n) r low f h = absurd h
+served_reg (guard.Wide q) k i r low f h = absurd f
+served_reg guard.Load k i r low f h = absurd f
 served_reg guard.Growth k (instr.Two op w s d) r low f h = absurd f
 served_reg guard.Growth k (instr.One op w s) r low f h = absurd (not_both op h.0 f.0)
 served_reg guard.Growth k instr.Reti r low f h = absurd h
@@ -316,6 +324,8 @@ served_reg guard.Sp k (instr.Jump c n) r low f h = absurd h
 
 pub served_memory : (g : GuardKind) (k : Option RelKind) (i : Instr) → ServedForm g k i → WritesMemory i → g ≡ guard.Store
 served_memory guard.Store k i f h = refl
+served_memory (guard.Wide r) k i f h = absurd f
+served_memory guard.Load k i f h = absurd f
 served_memory guard.Growth k (instr.Two op w s d) f h = absurd f
 served_memory guard.Growth k (instr.One op w s) f h = absurd (not_both op h.0 f.0)
 served_memory guard.Growth k instr.Reti f h = absurd h
@@ -335,6 +345,8 @@ served_stack guard.Store k (instr.Two op w s d) f h = absurd (f.3.1 h)
 served_stack guard.Store k (instr.One op w s) f h = absurd (at_r4_pops s 1 f.1 h)
 served_stack guard.Store k instr.Reti f h = absurd h
 served_stack guard.Store k (instr.Jump c n) f h = absurd h
+served_stack (guard.Wide r) k i f h = absurd f
+served_stack guard.Load k i f h = absurd f
 served_stack guard.Growth k (instr.Two op w s d) f h = absurd f
 served_stack guard.Growth k (instr.One op w s) f h = absurd (f.1.1 h)
 served_stack guard.Growth k instr.Reti f h = absurd h
@@ -350,6 +362,8 @@ served_push guard.Store k (instr.Two op w s d) f h = absurd h
 served_push guard.Store k (instr.One op w s) f h = absurd (not_both op f.0 h)
 served_push guard.Store k instr.Reti f h = absurd h
 served_push guard.Store k (instr.Jump c n) f h = absurd h
+served_push (guard.Wide r) k i f h = absurd f
+served_push guard.Load k i f h = absurd f
 served_push guard.Pop k (instr.Two op w s d) f h = absurd h
 served_push guard.Pop k (instr.One op w s) f h = absurd f
 served_push guard.Pop k instr.Reti f h = absurd h

@@ -1,7 +1,7 @@
 -- The words of pieces where their targets have moved.
-use Rattle.std.proofs.Common.{◌≡◌, ℕ, List, [], ◌∷◌, ◌++◌, map, Option, refl, sym, ap, ◌∙◌}
+use Rattle.std.proofs.Common.{◌≡◌, ℕ, List, [], ◌∷◌, ◌++◌, length, map, Option, refl, sym, ap, ◌∙◌, arith}
 use Rattle.std.specs.List.{flat_map}
-use Rattle.std.proofs.lemmas.List.{map-append}
+use Rattle.std.proofs.lemmas.List.{length-map, map-append}
 use Rattle.std.proofs.lemmas.List.Concat.{flat_map-append}
 use Rattle.msp_encode.specs.declared.instr.Src.{Src}
 use Rattle.msp_encode.specs.declared.instr.Src.TheVariants as src
@@ -14,7 +14,7 @@ use Rattle.code_model.specs.declared.parts.RelKind.{RelKind}
 use Rattle.insert_model.specs.declared.line.Line.{Line}
 use Rattle.insert_model.specs.declared.piece.Piece.{Piece}
 use Rattle.insert_model.specs.declared.piece.Word.{Word}
-use Rattle.insert_model.specs.Words.{src_register, src_mode, dst_register, dst_mode, two_word, one_word, first_word, spelling, with_kind, operand_words, piece_words, unit_words}
+use Rattle.insert_model.specs.Words.{src_register, src_mode, dst_register, dst_mode, two_word, one_word, first_word, spelling, count, with_kind, operand_words, piece_words, unit_words}
 use Rattle.insert_model.specs.Units.{unit}
 use Rattle.insert_model.specs.Inserted.{moved, units}
 use Rattle.insert_laws.specs.Pieces.{pieces_of, moved_src, moved_dst, moved_instr, standing}
@@ -85,6 +85,11 @@ operands_same go j k (instr.Jump c n) = refl
 pub piece_same : (go : ℕ → ℕ) (p : Piece) → map (moved go) (piece_words p) ≡ spelling (standing go p)
 unfolding piece_words spelling standing
 piece_same go p = λ t. first_same go p.source p.destination p.instr t ∷ operands_same go p.source p.destination p.instr t
+
+-- an instruction is as long where it stands as its piece
+pub count_piece : (go : ℕ → ℕ) (p : Piece) → count (standing go p) ≡ length (piece_words p)
+unfolding spelling
+count_piece go p = omega (arith, ap length (sym (piece_same go p)), length-map (piece_words p) (moved go))
 
 -- ---- pieces
 

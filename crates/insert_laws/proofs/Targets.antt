@@ -26,7 +26,7 @@ use Rattle.code_model.specs.Fields.{Fields, fields}
 use Rattle.code_model.specs.Starts.{Stands, Steps, Reached, Start}
 use Rattle.code_model.specs.Guards.{UnitStart}
 use Rattle.code_model.specs.Rules.{IsExported}
-use Rattle.code_laws.specs.Laws.{OneStands}
+use Rattle.code_laws.specs.Laws.{OneStands, GuardedLeaves}
 use Rattle.insert_model.specs.declared.fault.InsertKind.TheVariants.{BadTarget}
 use Rattle.insert_model.specs.declared.line.Line.{Line}
 use Rattle.insert_model.specs.declared.piece.Piece.{Piece}
@@ -239,7 +239,8 @@ here size line o spelled t s =
           ∙ append-nil b.front;
     }
 
-module _ (one : OneStands) (reads : ReadingLaw) (legal : LegalByCases) (unique : OneInstruction) (decides : FirstWordDecides) (size : SizeLaw) (line : LineLaw) (o q : Object) (i : IsInserted o q) where
+module _ (one : OneStands) (reads : ReadingLaw) (legal : LegalByCases) (unique : OneInstruction) (decides : FirstWordDecides) (leaves : GuardedLeaves) (size : SizeLaw) (line : LineLaw) (o q : Object)
+    (i : IsInserted o q) where
   abbrev pub bytes : ℕ
   bytes = static_bytes (fields o)
 
@@ -262,7 +263,7 @@ module _ (one : OneStands) (reads : ReadingLaw) (legal : LegalByCases) (unique :
   unfolding Filled
   first_start a [] rest f e shape = absurd f
   first_start a (p ∷ us) rest f e shape =
-      unit_start unique decides IsFreeForm o q (pieces_stand one reads legal o q i) (words_are o q i) (free_standing (place_map (fields o))) a p (us ++ rest) e shape
+      unit_start unique decides IsFreeForm o q (pieces_stand one reads legal o q i) (words_are o q i) (free_standing (place_map (fields o))) leaves a p (us ++ rest) e shape
 
   unit_at : (t : ℕ) → Start o.code t → UnitAt o q t
   unit_at t s =
@@ -273,8 +274,8 @@ module _ (one : OneStands) (reads : ReadingLaw) (legal : LegalByCases) (unique :
         is = map_place t h.front h.earlier;
       }
 
-pub starts_units : OneStands → ReadingLaw → LegalByCases → OneInstruction → FirstWordDecides → SizeLaw → LineLaw → StartsAreUnits
-starts_units one reads legal unique decides size line o q i t s = unit_at one reads legal unique decides size line o q i t s
+pub starts_units : OneStands → ReadingLaw → LegalByCases → OneInstruction → FirstWordDecides → GuardedLeaves → SizeLaw → LineLaw → StartsAreUnits
+starts_units one reads legal unique decides leaves size line o q i t s = unit_at one reads legal unique decides leaves size line o q i t s
 
 -- ---- the entry and the exports
 

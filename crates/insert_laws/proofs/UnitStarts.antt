@@ -1,5 +1,5 @@
 -- Where units start no guard lies over the place; what a guard stands before is guarded.
-use Rattle.std.proofs.Common.{◌≡◌, ℕ, zero, suc, ◌+◌, ◌/◌, ◌<◌, List, [], ◌∷◌, ◌++◌, length, take, drop, get_or, slice_index, Option, None, refl, sym, subst, ap, ◌∙◌, arith}
+use Rattle.std.proofs.Common.{◌≡◌, ℕ, zero, suc, ◌+◌, ◌<◌, ◌≤◌, List, [], ◌∷◌, ◌++◌, length, take, drop, get_or, slice_index, Option, None, refl, sym, subst, ap, ◌∙◌, arith}
 use Rattle.std.specs.List.{flat_map}
 use Rattle.std.proofs.lemmas.List.{append_assoc, length-append, drop_more}
 use Rattle.std.proofs.lemmas.List.Concat.{flat_map-append}
@@ -20,7 +20,9 @@ use Rattle.code_model.specs.declared.guards.GuardKind.{GuardKind}
 use Rattle.code_model.specs.declared.guards.GuardKind.TheVariants as guard
 use Rattle.code_model.specs.Starts.{Begins, Stands, Start}
 use Rattle.code_model.specs.Relocs.{Unrelocated}
-use Rattle.code_model.specs.Guards.{guard_words, FitAll, IsQuiet, Pops, IsAtR4, IsPlainStore, IsStoreForm, IsGrowthForm, IsPopForm, IsSpForm, Serves, Guarded, CoversBy, Covers, Covered, Own, UnitStart}
+use Rattle.code_model.specs.Guards.{guard_words, FitAll, IsQuiet, Pops, IsAtR4, IsPlainStore, IsStoreForm, IsGrowthForm, IsPopForm, IsSpForm, Serves, most_served, least_version, Guarded, CoversBy, Covers, Covered, OwnBy, Own, UnitStart}
+use Rattle.code_laws.specs.Laws.{GuardedLeaves}
+use Rattle.code_laws.proofs.Begins.{guard_begins}
 use Rattle.insert_model.specs.declared.piece.Piece.{Piece}
 use Rattle.insert_model.specs.declared.piece.Word.{Word}
 use Rattle.insert_model.specs.Words.{count, piece_words, unit_words}
@@ -30,6 +32,7 @@ use Rattle.insert_laws.specs.Pieces.{pieces, moved_src, moved_dst, moved_instr, 
 use Rattle.insert_laws.specs.Laws.{kind_in, PiecesStand}
 use Rattle.insert_laws.specs.Shapes.{saving, IsGuard, IsThroughR4, IsServed, Shaped}
 use Rattle.insert_laws.proofs.GuardWords.{guard_fits, guard_length, IsWordsOf, no_reloc, fit_all}
+use Rattle.insert_laws.proofs.Standing.{count_piece}
 use Rattle.insert_laws.proofs.Guarding.{HasTail, guard_tail, unit_words_append, span, span_append, span_cons, span_none, piece_least, size_span, Found, save_found}
 
 -- ---- two cuts of one list
@@ -53,46 +56,24 @@ within (m ∷ a) c (n ∷ x) r y e less =
     let w : Within a x r = within a c x r y (tails m n (a ++ c) (x ++ r ∷ y) e) (omega (arith, span_cons m a, span_cons n x, same)) in
     record { more = w.more; are = λ j. h j ∷ w.are j }
 
--- ---- the kind of a guard shows in its second word
+-- ---- guards
 
-record SecondIs (o : Object) (at : ℕ) (g : GuardKind) : Type 0 where
-  fit : FitAll o at (guard_words g)
+-- a unit's guards serve one instruction each, and are known to each version
+pub serves_one : (g : GuardKind) (gs : List Piece) → IsGuard g gs → most_served g ≡ 1
+serves_one guard.Store gs h = refl
+serves_one (guard.Wide r) gs h = absurd h
+serves_one guard.Load gs h = absurd h
+serves_one guard.Growth gs h = refl
+serves_one guard.Pop gs h = refl
+serves_one guard.Sp gs h = refl
 
-second_store : (o : Object) (at : ℕ) → FitAll o at (guard_words guard.Store) → slice_index o.code (at + 1) / 4096 ≡ 4
-second_store o at f = f.1.0.1.0.0
-
-second_growth : (o : Object) (at : ℕ) → FitAll o at (guard_words guard.Growth) → slice_index o.code (at + 1) ≡ 0x9211
-second_growth o at f = f.1.0.1.0
-
-second_pop : (o : Object) (at : ℕ) → FitAll o at (guard_words guard.Pop) → slice_index o.code (at + 1) ≡ 0x9182
-second_pop o at f = f.1.0.1.0
-
-second_sp : (o : Object) (at : ℕ) → FitAll o at (guard_words guard.Sp) → slice_index o.code (at + 1) ≡ 0x9214
-second_sp o at f = f.1.0.1.0
-
-same_guard : (o : Object) (at : ℕ) (g k : GuardKind) → FitAll o at (guard_words g) → FitAll o at (guard_words k) → g ≡ k
-same_guard o at guard.Store guard.Store f h = refl
-same_guard o at guard.Growth guard.Growth f h = refl
-same_guard o at guard.Pop guard.Pop f h = refl
-same_guard o at guard.Sp guard.Sp f h = refl
-same_guard o at guard.Store guard.Growth f h = absurd (omega (arith, second_store o at f, second_growth o at h))
-same_guard o at guard.Store guard.Pop f h = absurd (omega (arith, second_store o at f, second_pop o at h))
-same_guard o at guard.Store guard.Sp f h = absurd (omega (arith, second_store o at f, second_sp o at h))
-same_guard o at guard.Growth guard.Store f h = absurd (omega (arith, second_store o at h, second_growth o at f))
-same_guard o at guard.Pop guard.Store f h = absurd (omega (arith, second_store o at h, second_pop o at f))
-same_guard o at guard.Sp guard.Store f h = absurd (omega (arith, second_store o at h, second_sp o at f))
-same_guard o at guard.Growth guard.Pop f h = absurd (omega (arith, second_growth o at f, second_pop o at h))
-same_guard o at guard.Growth guard.Sp f h = absurd (omega (arith, second_growth o at f, second_sp o at h))
-same_guard o at guard.Pop guard.Growth f h = absurd (omega (arith, second_growth o at h, second_pop o at f))
-same_guard o at guard.Pop guard.Sp f h = absurd (omega (arith, second_pop o at f, second_sp o at h))
-same_guard o at guard.Sp guard.Growth f h = absurd (omega (arith, second_growth o at h, second_sp o at f))
-same_guard o at guard.Sp guard.Pop f h = absurd (omega (arith, second_pop o at h, second_sp o at f))
-
-first_saves : (o : Object) (at : ℕ) (g : GuardKind) → FitAll o at (guard_words g) → slice_index o.code at ≡ 0x4205
-first_saves o at guard.Store f = f.0.1.0
-first_saves o at guard.Growth f = f.0.1.0
-first_saves o at guard.Pop f = f.0.1.0
-first_saves o at guard.Sp f = f.0.1.0
+pub known_first : (g : GuardKind) (gs : List Piece) → IsGuard g gs → least_version g ≡ 1
+known_first guard.Store gs h = refl
+known_first (guard.Wide r) gs h = absurd h
+known_first guard.Load gs h = absurd h
+known_first guard.Growth gs h = refl
+known_first guard.Pop gs h = refl
+known_first guard.Sp gs h = refl
 
 -- ---- the instruction 4205
 
@@ -222,12 +203,14 @@ store_serves q at go j k (instr.One op w s) h un = (h.0, at_r4_moved go j s h.1)
 store_serves q at go j k instr.Reti h un = h
 store_serves q at go j k (instr.Jump c n) h un = h
 
-serves_at : (q : Object) (at : ℕ) (go : ℕ → ℕ) (g : GuardKind) (p : Piece) → IsServed g p → (IsThroughR4 p.destination p.instr → LastPlain q at p.instr) → Serves g q at (standing go p)
+serves_at : (q : Object) (first at : ℕ) (go : ℕ → ℕ) (g : GuardKind) (p : Piece) → IsServed g p → (IsThroughR4 p.destination p.instr → LastPlain q at p.instr) → Serves g q first at (standing go p)
 unfolding standing
-serves_at q at go guard.Store p h un = store_serves q at go p.source p.destination p.instr h (un h)
-serves_at q at go guard.Growth p h un = growth_serves q at go p.source p.destination p.instr h
-serves_at q at go guard.Pop p h un = pop_serves go p.source p.destination p.instr h
-serves_at q at go guard.Sp p h un = sp_serves go p.source p.destination p.instr h
+serves_at q first at go guard.Store p h un = store_serves q at go p.source p.destination p.instr h (un h)
+serves_at q first at go (guard.Wide r) p h un = absurd h
+serves_at q first at go guard.Load p h un = absurd h
+serves_at q first at go guard.Growth p h un = growth_serves q at go p.source p.destination p.instr h
+serves_at q first at go guard.Pop p h un = pop_serves go p.source p.destination p.instr h
+serves_at q first at go guard.Sp p h un = sp_serves go p.source p.destination p.instr h
 
 -- ---- the relocations of a piece's words
 
@@ -320,57 +303,67 @@ module _ (one : OneInstruction) (decides : FirstWordDecides) (F : Piece → Type
       record {
         start = starts_at (a ++ gs) p b f;
         first = span a;
+        base = span (a ++ gs);
         ends = guard_end a g gs is;
         begins = guard_starts a g gs (p ∷ b) is e;
         fit = guard_fit a g gs (p ∷ b) is e;
+        known = omega (arith, known_first g gs is, q.form.version_least);
+        before = 0;
+        few = omega (arith, serves_one g gs is);
+        run = refl;
         instr = standing (place_map (fields o)) p;
         words = count (standing (place_map (fields o)) p);
         stands = stands_at (a ++ gs) p b f;
-        serves = serves_at q (span (a ++ gs)) (place_map (fields o)) g p serves (last_plain (a ++ gs) p.instr p.source p.destination b f);
+        serves = serves_at q (span a) (span (a ++ gs)) (place_map (fields o)) g p serves (last_plain (a ++ gs) p.instr p.source p.destination b f);
       }
 
-  -- a guard's own words are covered by it
+  pub served_first : (a : List Piece) (g : GuardKind) (gs : List Piece) (p : Piece) (b : List Piece) (is : IsGuard g gs) (serves : IsServed g p) (e : pieces (fields o) ≡ a ++ (gs ++ p ∷ b))
+      → (served_guarded a g gs p b is serves e).first ≡ span a
+  unfolding served_guarded
+  served_first a g gs p b is serves e = refl
+
+  -- a guard's own words are its own
   pub own_covered : (a : List Piece) (g : GuardKind) (x : List Piece) (m : Piece) (y : List Piece) (p : Piece) (b : List Piece) → IsGuard g (x ++ m ∷ y) → IsServed g p
       → pieces (fields o) ≡ a ++ ((x ++ m ∷ y) ++ p ∷ b) → Own q (span (a ++ x))
-  unfolding Covered Covers CoversBy served_guarded
+  unfolding Own OwnBy served_guarded
   own_covered a g x m y p b is serves e = (
     span (a ++ (x ++ m ∷ y)),
-    omega (arith, span_append a (x ++ m ∷ y), span_append x (m ∷ y), span_cons m y, piece_least m, span_append a x),
-    (g, (served_guarded a g (x ++ m ∷ y) p b is serves e, omega (arith, span_append a x))),
+    (
+      g,
+      (
+        served_guarded a g (x ++ m ∷ y) p b is serves e,
+        (
+          omega (arith, span_append a x),
+          omega (arith, span_append a (x ++ m ∷ y), span_append x (m ∷ y), span_cons m y, piece_least m, span_append a x),
+        ),
+      ),
+    ),
   )
 
-  -- where shaped pieces end no guard lies over the place
-  not_covered : (a c : List Piece) → pieces (fields o) ≡ a ++ c → Shaped F a → Covered q (span a) → ⊥
-  unfolding Covered Covers CoversBy
-  not_covered a c e shape (guarded, late, (g, (h, early))) =
-      let go : ℕ → ℕ = place_map (fields o) in
+  -- the piece where a guard begins saves the status
+  pub saves_at : (at : ℕ) (g : GuardKind) (h : Guarded q at g) (p : PieceAt (fields o) h.first) → standing (place_map (fields o)) p.piece ≡ saving
+  saves_at at g h p =
+      stands_saving one decides q.code h.first (standing (place_map (fields o)) p.piece) (count (standing (place_map (fields o)) p.piece)) h.begins.below (stand.stands h.first p) (guard_begins q h.first g h.fit)
+
+  -- where shaped pieces end no guard lies over the place: those that begin before it serve what stands before it
+  not_covered : GuardedLeaves → (a c : List Piece) → pieces (fields o) ≡ a ++ c → Shaped F a → Covered q (span a) → ⊥
+  unfolding Covered Covers CoversBy served_guarded
+  not_covered leaves a c e shape (guarded, late, (g, (h, early))) =
       let pa : PieceAt (fields o) h.first = stand.starts h.first h.begins in
       let place : h.first ≡ span pa.before = pa.place ∙ size_span (place_map (fields o)) pa.before in
       let w : Within a pa.before pa.piece = within a c pa.before pa.piece pa.after (sym e ∙ pa.are) (omega (arith, place, early)) in
-      let saves : standing (place_map (fields o)) pa.piece ≡ saving =
-      stands_saving one decides q.code h.first (standing (place_map (fields o)) pa.piece) (count (standing (place_map (fields o)) pa.piece)) h.begins.below (stand.stands h.first pa) (first_saves q h.first g h.fit) in
-      let f : Found a pa.before = save_found (place_map (fields o)) F free_not a pa.before pa.piece w.more shape w.are saves in
+      let f : Found a pa.before = save_found (place_map (fields o)) F free_not a pa.before pa.piece w.more shape w.are (saves_at guarded g h pa) in
       let whole : pieces (fields o) ≡ pa.before ++ (f.guards ++ (f.piece ∷ (f.rest ++ c))) =
       e ∙ ap (λ (ys : List Piece). ys ++ c) f.are ∙ append_assoc pa.before (f.guards ++ f.piece ∷ f.rest) c ∙ ap (λ (ys : List Piece). pa.before ++ ys) (append_assoc f.guards (f.piece ∷ f.rest) c) in
-      let fit : FitAll q h.first (guard_words f.kind) =
-      subst (λ (n : ℕ). FitAll q n (guard_words f.kind)) (sym place) (guard_fit pa.before f.kind f.guards (f.piece ∷ (f.rest ++ c)) f.is whole) in
-      let same : g ≡ f.kind = same_guard q h.first g f.kind h.fit fit in
-      let size : length (guard_words g) ≡ length (guard_words f.kind) = ap (λ (k : GuardKind). length (guard_words k)) same in
-      omega (
-        arith,
-        h.ends,
-        late,
-        size,
-        place,
-        guard_end pa.before f.kind f.guards f.is,
-        ap span f.are,
-        span_append pa.before (f.guards ++ f.piece ∷ f.rest),
-        span_append f.guards (f.piece ∷ f.rest),
-        span_cons f.piece f.rest,
-        piece_least f.piece,
-        span_append pa.before f.guards,
-      )
+      let served : Guarded q (span (pa.before ++ f.guards)) f.kind = served_guarded pa.before f.kind f.guards f.piece (f.rest ++ c) f.is f.serves whole in
+      let words : served.words ≡ length (piece_words f.piece) = count_piece (place_map (fields o)) f.piece in
+      let begins : span a ≡ span pa.before + span (f.guards ++ f.piece ∷ f.rest) = ap span f.are ∙ span_append pa.before (f.guards ++ f.piece ∷ f.rest) in
+      let ends : span (pa.before ++ f.guards) + served.words ≤ span a =
+      omega (arith, words, begins, span_append pa.before f.guards, span_append f.guards (f.piece ∷ f.rest), span_cons f.piece f.rest) in
+      let behind : UnitStart q (span (pa.before ++ f.guards) + served.words) =
+      leaves q (span (pa.before ++ f.guards)) f.kind served (serves_one f.kind f.guards f.is) (omega (arith, ends, late, h.start.below)) in
+      behind.1 (behind.0, (guarded, omega (arith, ends, late), (g, (h, omega (arith, place, span_append pa.before f.guards, words, piece_least f.piece)))))
 
   -- and a unit starts there
-  pub unit_start : (a : List Piece) (p : Piece) (b : List Piece) → pieces (fields o) ≡ a ++ p ∷ b → Shaped F a → UnitStart q (span a)
-  unit_start a p b e shape = (starts_at a p b e, λ i. not_covered a (p ∷ b) e shape i.1)
+  pub unit_start : GuardedLeaves → (a : List Piece) (p : Piece) (b : List Piece) → pieces (fields o) ≡ a ++ p ∷ b → Shaped F a → UnitStart q (span a)
+  unit_start leaves a p b e shape = (starts_at a p b e, λ i. not_covered leaves a (p ∷ b) e shape i.1)

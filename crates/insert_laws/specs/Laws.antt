@@ -5,7 +5,8 @@ use Rattle.code_model.specs.Fields.{fields}
 use Rattle.code_model.specs.Starts.{Stands, Start}
 use Rattle.code_model.specs.declared.rules.Rule.{Rule}
 use Rattle.code_model.specs.declared.rules.Rule.TheVariants as rule
-use Rattle.code_model.specs.Guards.{UnitStart}
+use Rattle.code_model.specs.declared.guards.GuardKind.{GuardKind}
+use Rattle.code_model.specs.Guards.{least_version, Guarded, UnitStart}
 use Rattle.code_model.specs.Rules.{Refuses}
 use Rattle.code_model.specs.declared.verdict.Verdict.{Verdict}
 use Rattle.code_model.specs.Verdicts.{AllSpelled, IsAccepted, IsVerdict, IsAcceptance}
@@ -109,3 +110,7 @@ IsAcceptable q = (units : List ℕ) × IsAccepted q units
 -- so it does each object with guards
 abbrev pub InsertedIsAccepted : Type 0
 InsertedIsAccepted = (o q : Object) → IsInserted o q → IsAcceptable q
+
+-- an object with guards has no guard that version 1 doesn't know: no wide and no load guard
+abbrev pub GuardsOfVersionOne : Type 0
+GuardsOfVersionOne = (o q : Object) → IsInserted o q → (at : ℕ) (g : GuardKind) → Guarded q at g → least_version g ≡ 1

@@ -32,8 +32,11 @@ pub record IsStoreGuard (gs : List Piece) : Type 0 where
   pub register : (base ≡ 1) ⊎ (3 ≤ base)
   pub are : gs ≡ store_guard base index kind
 
+-- no unit has a wide or a load guard
 abbrev pub IsGuard : GuardKind → List Piece → Type 0
 IsGuard guard.Store gs = IsStoreGuard gs
+IsGuard (guard.Wide r) gs = ⊥
+IsGuard guard.Load gs = ⊥
 IsGuard guard.Growth gs = gs ≡ growth_guard
 IsGuard guard.Pop gs = gs ≡ pop_guard
 IsGuard guard.Sp gs = gs ≡ sp_guard
@@ -48,6 +51,8 @@ IsThroughR4 k (instr.Jump c n) = ⊥
 -- a piece that a guard of this kind may stand before
 abbrev pub IsServed : GuardKind → Piece → Type 0
 IsServed guard.Store p = IsThroughR4 p.destination p.instr
+IsServed (guard.Wide r) p = ⊥
+IsServed guard.Load p = ⊥
 IsServed guard.Growth p = IsGrowthForm p.instr
 IsServed guard.Pop p = IsPopForm p.instr
 IsServed guard.Sp p = IsSpForm p.instr

@@ -1,11 +1,11 @@
 //! Laws of objects with guards, for the layers above: each is used by calling it.
 #![tactic(auto)]
 
-ghost use Rattle.insert_laws.specs.Laws.{StartsArePieces, RelocsArePieces, FormRulesPass, StartsAreUnits, EntryRulePasses, TargetRulePasses, EndRulePasses, JumpRulePasses, NothingRefused, VerdictAccepts, InsertedIsAccepted};
+ghost use Rattle.insert_laws.specs.Laws.{StartsArePieces, RelocsArePieces, FormRulesPass, StartsAreUnits, EntryRulePasses, TargetRulePasses, EndRulePasses, JumpRulePasses, NothingRefused, VerdictAccepts, InsertedIsAccepted, GuardsOfVersionOne};
 ghost use Rattle.insert_laws.specs.Source.{SpellingLaw, StartsDecided};
 ghost use Rattle.insert_laws.specs.Lines.{CodeIsPieces, LinesAreClean, LinesAreSpelled, LinesHaveUnits, PlacesWithin};
 
-use code_laws::{next_start, one_stands, starts_apart};
+use code_laws::{guarded_leaves, guards_apart, next_start, one_stands, starts_apart};
 use insert_model::laws::{instruction_size, line_stands};
 use msp_decode::laws::{first_word_decides, one_instruction, reading_law};
 use msp_encode::laws::legal_by_cases;
@@ -46,6 +46,7 @@ pub fn starts_are_units()
     legal_by_cases();
     one_instruction();
     first_word_decides();
+    guarded_leaves();
     instruction_size();
     line_stands();
 }
@@ -87,6 +88,7 @@ pub fn jump_rule_passes()
     legal_by_cases();
     one_instruction();
     first_word_decides();
+    guarded_leaves();
     instruction_size();
     line_stands();
 }
@@ -119,9 +121,22 @@ pub fn inserted_is_accepted()
     legal_by_cases();
     one_instruction();
     first_word_decides();
+    guarded_leaves();
     next_start();
     starts_apart();
     nothing_refused();
+}
+
+/// An object with guards has no wide and no load guard, whatever its version: each guard in it is one that version 1 knows.
+pub fn guards_of_version_one()
+    ensures { GuardsOfVersionOne }
+{
+    one_stands();
+    reading_law();
+    legal_by_cases();
+    one_instruction();
+    first_word_decides();
+    guards_apart();
 }
 
 /// The words of a legal instruction spell it.
