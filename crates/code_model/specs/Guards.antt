@@ -1,5 +1,6 @@
 -- The guards: a guard is a fixed group of words just before the instruction that it guards.
 use Rattle.std.specs.Prelude.{◌≡◌, ℕ, ◌+◌, ◌/◌, ◌%◌, ◌<◌, ◌≤◌, ◌⊎◌, ◌↔◌, List, [], ◌∷◌, length, slice_index}
+use Rattle.msp_encode.specs.declared.registers.TheConstants.{CHECKED, SP}
 use Rattle.msp_encode.specs.declared.instr.Op2.{Op2}
 use Rattle.msp_encode.specs.declared.instr.Op2.TheVariants.{Mov, Cmp, Bit}
 use Rattle.msp_encode.specs.declared.instr.Op1.{Op1}
@@ -19,19 +20,21 @@ use Rattle.code_model.specs.declared.guards.GuardKind.{GuardKind}
 use Rattle.code_model.specs.declared.guards.GuardKind.TheVariants as guard
 use Rattle.code_model.specs.declared.guards.Slot.{Slot}
 use Rattle.code_model.specs.declared.guards.Slot.TheVariants as slot
+use Rattle.kernel_model.specs.declared.map.TheConstants.{STACK_LIMIT, STACK_TOP}
+use Rattle.kernel_model.specs.declared.entries.TheConstants.{STACK_FAULT, STORE_FAULT}
 use Rattle.kernel_model.specs.Bitmap.{Has}
 use Rattle.code_model.specs.Starts.{Stands, Start}
 use Rattle.code_model.specs.Relocs.{HasReloc, Unrelocated}
 
 abbrev pub guard_words : GuardKind → List Slot
 guard_words guard.Store = slot.Word 0x4205 ∷ slot.Load ∷ slot.Word 0x5034 ∷ slot.Free ∷ slot.Word 0x9034 ∷ slot.Low ∷ slot.Word 0x2803
-    ∷ slot.Word 0x9034 ∷ slot.High ∷ slot.Word 0x2802 ∷ slot.Word 0x4030 ∷ slot.Word 0xF000 ∷ slot.Word 0x4502 ∷ []
-guard_words guard.Growth = slot.Word 0x4205 ∷ slot.Word 0x9211 ∷ slot.Word 0x0200 ∷ slot.Word 0x2C02
-    ∷ slot.Word 0x4030 ∷ slot.Word 0xF002 ∷ slot.Word 0x4502 ∷ []
-guard_words guard.Pop = slot.Word 0x4205 ∷ slot.Word 0x9182 ∷ slot.Word 0x0202 ∷ slot.Word 0x2002
-    ∷ slot.Word 0x4030 ∷ slot.Word 0xF002 ∷ slot.Word 0x4502 ∷ []
-guard_words guard.Sp = slot.Word 0x4205 ∷ slot.Word 0x9214 ∷ slot.Word 0x0200 ∷ slot.Word 0x2803
-    ∷ slot.Word 0x9482 ∷ slot.Word 0x0202 ∷ slot.Word 0x2C02 ∷ slot.Word 0x4030 ∷ slot.Word 0xF002 ∷ slot.Word 0x4502 ∷ []
+    ∷ slot.Word 0x9034 ∷ slot.High ∷ slot.Word 0x2802 ∷ slot.Word 0x4030 ∷ slot.Word STORE_FAULT ∷ slot.Word 0x4502 ∷ []
+guard_words guard.Growth = slot.Word 0x4205 ∷ slot.Word 0x9211 ∷ slot.Word STACK_LIMIT ∷ slot.Word 0x2C02
+    ∷ slot.Word 0x4030 ∷ slot.Word STACK_FAULT ∷ slot.Word 0x4502 ∷ []
+guard_words guard.Pop = slot.Word 0x4205 ∷ slot.Word 0x9182 ∷ slot.Word STACK_TOP ∷ slot.Word 0x2002
+    ∷ slot.Word 0x4030 ∷ slot.Word STACK_FAULT ∷ slot.Word 0x4502 ∷ []
+guard_words guard.Sp = slot.Word 0x4205 ∷ slot.Word 0x9214 ∷ slot.Word STACK_LIMIT ∷ slot.Word 0x2803
+    ∷ slot.Word 0x9482 ∷ slot.Word STACK_TOP ∷ slot.Word 0x2C02 ∷ slot.Word 0x4030 ∷ slot.Word STACK_FAULT ∷ slot.Word 0x4502 ∷ []
 
 -- 4n04 for n 1 or 3 to 15, a MOV of a register or of 0 into R4
 abbrev pub IsLoad : ℕ → Type 0
@@ -94,15 +97,15 @@ Pops _ r = ⊥
 
 -- the source is neither @R4+ nor @SP+
 abbrev pub IsQuiet : Src → Type 0
-IsQuiet s = (Pops s 4 → ⊥) × (Pops s 1 → ⊥)
+IsQuiet s = (Pops s CHECKED → ⊥) × (Pops s SP → ⊥)
 
 -- the destination is 0(R4), and its word, at this place, isn't relocated
 abbrev pub IsPlainStore : Object → ℕ → Dst → Type 0
-IsPlainStore o at (dst.Indexed n x) = (n ≡ 4) × (x ≡ 0) × Unrelocated o.relocs at
+IsPlainStore o at (dst.Indexed n x) = (n ≡ CHECKED) × (x ≡ 0) × Unrelocated o.relocs at
 IsPlainStore o at _ = ⊥
 
 abbrev pub IsAtR4 : Src → Type 0
-IsAtR4 (src.Indirect n) = n ≡ 4
+IsAtR4 (src.Indirect n) = n ≡ CHECKED
 IsAtR4 _ = ⊥
 
 abbrev pub IsHigh : Dst → Type 0
@@ -119,11 +122,11 @@ IsGrowthForm (instr.One op w s) = Stacks op × IsQuiet s
 IsGrowthForm _ = ⊥
 
 abbrev pub IsPopForm : Instr → Type 0
-IsPopForm (instr.Two op w s d) = IsMov op × IsWide w × Pops s 1 × IsHigh d
+IsPopForm (instr.Two op w s d) = IsMov op × IsWide w × Pops s SP × IsHigh d
 IsPopForm _ = ⊥
 
 abbrev pub IsSpForm : Instr → Type 0
-IsSpForm (instr.Two op w s d) = IsMov op × IsWide w × SrcIs s 4 × DstIs d 1
+IsSpForm (instr.Two op w s d) = IsMov op × IsWide w × SrcIs s CHECKED × DstIs d SP
 IsSpForm _ = ⊥
 
 -- an instruction at a place that a guard may stand before
