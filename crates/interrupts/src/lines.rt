@@ -6,8 +6,7 @@ ghost use Rattle.interrupts.specs.LineSets.{lines_of};
 
 use std::marker::Model;
 
-/// How many interrupt lines there are: 0 to 13.
-pub const LINES: u8 = 14;
+pub use kernel_model::map::LINES;
 
 /// The bits of a word that are a line's.
 const LINE_BITS: u16 = 0x3FFF;
