@@ -89,8 +89,10 @@ relaid_written m m' ts rs ss e r laid =
 relaid_outside : (m m' : List ℕ) (k : Kernel) → length m ≡ 65536 → Relaid m m' k → outside m' ≡ outside m
 unfolding outside
 relaid_outside m m' k e r =
-    ap (λ bs. bs ++ part m' TABLES_END (65536 - TABLES_END)) (stays m m' k 0 512 e r (omega arith) (λ i l. low 0 512 i (omega arith) l))
-    ∙ ap (λ bs. part m 0 512 ++ bs) (stays m m' k TABLES_END (65536 - TABLES_END) e r (omega arith) (λ i l. high TABLES_END i (omega arith)))
+    ap (λ bs. bs ++ part m' TABLES_END (65536 - TABLES_END))
+    (stays m m' k 0 512 e r (omega arith) (λ i l. low 0 512 i (omega arith) l))
+    ∙ ap (λ bs. part m 0 512 ++ bs)
+    (stays m m' k TABLES_END (65536 - TABLES_END) e r (omega arith) (λ i l. high TABLES_END i (omega arith)))
 
 relaid_bytes : (m m' : List ℕ) (ts : List ThreadRow) (rs ss : List ℕ) → length m ≡ 65536 → Relaid m m' (relisted m ts rs ss) → kernel_of m' ≡ relisted m ts rs ss → HasQueueBytes m → HasQueueBytes m'
 unfolding HasQueueBytes tables

@@ -140,7 +140,8 @@ split-patch (s ∷ ss) (suc i) base a o m bs h e l w =
     ∙ ap (λ ps. part m base s ∷ ps) (split-patch ss i (base + s) a o m bs more (omega arith) l (omega arith))
 
 -- a write into the tables
-pub outside-patch : (m bs : List ℕ) (a : ℕ) → length m ≡ 65536 → 512 ≤ a → a + length bs ≤ TABLES_END → outside (patch m a bs) ≡ outside m
+pub outside-patch : (m bs : List ℕ) (a : ℕ) → length m ≡ 65536 → 512 ≤ a → a + length bs ≤ TABLES_END
+    → outside (patch m a bs) ≡ outside m
 unfolding outside
 outside-patch m bs a e h l =
     ap (λ p. p ++ part (patch m a bs) TABLES_END (65536 - TABLES_END)) (part-patch_before m bs a 0 512 h (omega arith))
