@@ -9,7 +9,8 @@ use Rattle.place_model.specs.Marking.{IsCodeWord, IsMarkBit}
 use Rattle.load_model.specs.Laws.{TablesFirstLaw, TablesLastLaw}
 
 abbrev pub OutsideLaw : Type 0
-OutsideLaw = (m n : List ℕ) → length m ≡ 65536 → length n ≡ 65536 → outside m ≡ outside n → (a : ℕ) → (a < TABLES) ⊎ (TABLES_END ≤ a)
+OutsideLaw = (m n : List ℕ) → length m ≡ 65536 → length n ≡ 65536 → outside m ≡ outside n → (a : ℕ)
+    → (a < TABLES) ⊎ (TABLES_END ≤ a)
     → get_or m a 0 ≡ get_or n a 0
 
 -- the byte of a mark
