@@ -65,7 +65,8 @@ unfoldable pub kind_field : List ℕ → Field
 kind_field t = field 5 1 (check (nat_le 1 (byte_at t 5)) kinds.Kind 5 ∷ check (nat_le (byte_at t 5) 2) kinds.Kind 5 ∷ [])
 
 unfoldable pub code_count_field : List ℕ → Field
-code_count_field t = field 6 2 (check (nat_le 1 (word_at t 6)) kinds.Limit 6 ∷ check (nat_le (word_at t 6) CODE_WORDS_MAX) kinds.Limit 6 ∷ [])
+code_count_field t =
+    field 6 2 (check (nat_le 1 (word_at t 6)) kinds.Limit 6 ∷ check (nat_le (word_at t 6) CODE_WORDS_MAX) kinds.Limit 6 ∷ [])
 
 unfoldable pub init_count_field : List ℕ → Field
 init_count_field t = field 8 2 (check (nat_le (word_at t 8) STATIC_BYTES_MAX) kinds.Limit 8 ∷ [])
