@@ -147,7 +147,8 @@ owner p rows s h =
 -- ---- the row with the places
 
 abbrev pub new_domain : Regions → DomainRow
-new_domain r = record { state = LIVE; code = record { from = r.code_lo; to = r.code_hi }; region = record { from = r.lo; to = r.hi } }
+new_domain r =
+    record { state = LIVE; code = record { from = r.code_lo; to = r.code_hi }; region = record { from = r.lo; to = r.hi } }
 
 pub at_new_app : (k : Kernel) (r : Regions) → r.dom < 8 → length k.apps ≡ 8 → domain_at (with_app k r.dom (placed_app r)) r.dom ≡ new_domain r
 at_new_app k r h size =
