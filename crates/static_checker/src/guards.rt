@@ -1,6 +1,7 @@
 //! Guards: which instruction a guard may stand before, and whether one does.
 
 ghost use Rattle.std.specs.Prelude.{◌≡◌, ℕ, ◌+◌, ◌<◌, ◌≤◌, ◌↔◌, IsTrue, length};
+ghost use Rattle.code_model.specs.declared.object.TheConstants.{CODE_WORDS_MAX};
 ghost use Rattle.code_model.specs.declared.guards.GuardKind.{GuardKind};
 ghost use Rattle.code_model.specs.Guards.{IsPlainStore, IsStoreForm, IsGrowthForm, IsPopForm, IsSpForm, Serves};
 ghost use Rattle.static_checker.specs.Cursors.{IsCursor};
@@ -16,6 +17,7 @@ use crate::spot::word_at;
 use code_model::guards::GuardKind;
 use code_model::object::Object;
 use msp_encode::instr::{Dst, Instr};
+use msp_encode::registers::{CHECKED, SP};
 
 /// The kind of a guard that begins at a start with `MOV SR,R5`, by its second word: a guard that does begin there is of this
 /// kind.
@@ -43,7 +45,7 @@ fn kind_by(second: u16) -> GuardKind
 pub fn serves(kind: GuardKind, o: &Object, cursor: Cursor, at: usize, i: Instr) -> bool
     requires cursor { IsCursor o.now.relocs cursor }
     requires order { cursor.at ≤ at }
-    requires within { at < 8192 }
+    requires within { at < CODE_WORDS_MAX }
     ensures { IsTrue result ↔ Serves kind o.now at i }
 {
     match kind {
@@ -58,7 +60,7 @@ pub fn serves(kind: GuardKind, o: &Object, cursor: Cursor, at: usize, i: Instr) 
 fn is_store_form(o: &Object, cursor: Cursor, at: usize, i: Instr) -> bool
     requires cursor { IsCursor o.now.relocs cursor }
     requires order { cursor.at ≤ at }
-    requires within { at < 8192 }
+    requires within { at < CODE_WORDS_MAX }
     ensures { IsTrue result ↔ IsStoreForm o.now at i }
 {
     match i {
@@ -78,7 +80,7 @@ fn is_plain_store(o: &Object, cursor: Cursor, at: usize, dst: Dst) -> bool
     ensures { IsTrue result ↔ IsPlainStore o.now at dst }
 {
     match dst {
-        Dst::Indexed(n, x) => n == 4 && x == 0 && unrelocated(o, cursor, at),
+        Dst::Indexed(n, x) => n == CHECKED && x == 0 && unrelocated(o, cursor, at),
         _ => false,
     }
 }
@@ -103,7 +105,7 @@ fn is_pop_form(i: Instr) -> bool
             width,
             src,
             dst,
-        } => is_mov(op) && is_wide(width) && pops(src, 1) && is_high(dst),
+        } => is_mov(op) && is_wide(width) && pops(src, SP) && is_high(dst),
         _ => false,
     }
 }
@@ -118,7 +120,7 @@ fn is_sp_form(i: Instr) -> bool
             width,
             src,
             dst,
-        } => is_mov(op) && is_wide(width) && src_is(src, 4) && dst_is(dst, 1),
+        } => is_mov(op) && is_wide(width) && src_is(src, CHECKED) && dst_is(dst, SP),
         _ => false,
     }
 }

@@ -1,6 +1,7 @@
 //! The rules on written memory.
 
 ghost use Rattle.std.specs.Prelude.{◌≡◌, ◌<◌, ◌≤◌, ◌↔◌, IsTrue};
+ghost use Rattle.code_model.specs.declared.object.TheConstants.{CODE_WORDS_MAX};
 ghost use Rattle.code_model.specs.declared.guards.GuardKind.TheVariants as kind;
 ghost use Rattle.code_model.specs.Rules.{IsMemoryDst, IsMemorySrc, WritesMemory, InStatic, IsWildDst, IsWildSrc, WritesWild};
 ghost use Rattle.static_checker.specs.Cursors.{IsCursor};
@@ -24,7 +25,7 @@ pub fn breaks_store(i: Instr, guard: Option<GuardKind>) -> bool
 pub fn writes_wild(o: &Object, cursor: Cursor, at: usize, i: Instr) -> bool
     requires cursor { IsCursor o.now.relocs cursor }
     requires order { cursor.at ≤ at }
-    requires within { at < 8192 }
+    requires within { at < CODE_WORDS_MAX }
     ensures { IsTrue result ↔ WritesWild o.now at i }
 {
     match i {
