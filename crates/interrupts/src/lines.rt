@@ -4,9 +4,8 @@ ghost use Rattle.std.specs.Prelude.{◌≡◌, ◌≢◌, ℕ, ◌<◌, ◌≤�
 ghost use Rattle.std.specs.FinSet as set;
 ghost use Rattle.interrupts.specs.LineSets.{lines_of};
 
-use std::marker::Model;
-
 pub use kernel_model::map::LINES;
+use std::marker::Model;
 
 /// The bits of a word that are a line's.
 const LINE_BITS: u16 = 0x3FFF;
