@@ -31,7 +31,16 @@ fn clear_tables(m: &mut FlatMem)
     put_words(
         m,
         SYSTEM_WORDS,
-        &[KERNEL_LIMIT, KERNEL_TOP, states::NONE, states::NONE, 0, 0, 0, 0],
+        &[
+            KERNEL_LIMIT,
+            KERNEL_TOP,
+            states::NONE,
+            states::NONE,
+            0,
+            0,
+            0,
+            0,
+        ],
     );
     fill(m, UNUSED_WORDS, 0, FUNCTION_ROWS - UNUSED_WORDS);
     free_functions(m);
