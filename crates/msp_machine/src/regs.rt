@@ -4,9 +4,8 @@ ghost use Rattle.std.specs.Prelude.{◌≡◌, ◌<◌, replicate};
 ghost use Rattle.machine_model.specs.Context.{IsContext, reg, set_reg};
 
 use msp_encode::registers::CONSTANTS;
-use std::marker::Model;
-
 pub use msp_encode::registers::{CHECKED, PC, SP, SR};
+use std::marker::Model;
 
 /// Sixteen words, with bit 0 of PC and of SP clear and register 3 zero.
 #[derive(Drop)]
