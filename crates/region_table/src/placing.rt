@@ -12,7 +12,9 @@ use crate::search::place_in;
 use arrayvec::ArrayVec;
 use code_model::parts::Kind;
 use flat_mem::FlatMem;
-use kernel_model::map::{APPS, CODE_POOL, CODE_POOL_END, DATA_POOL, DATA_POOL_END, DOMAINS, MODULES};
+use kernel_model::map::{
+    APPS, CODE_POOL, CODE_POOL_END, DATA_POOL, DATA_POOL_END, DOMAINS, MODULES,
+};
 use kernel_model::states::FREE;
 use place_model::laws::{numbers_are_least, placings_are_lowest, placings_keep_settled};
 use place_model::places::{DomainRow, NoRoom, Pool, Range, Regions};
