@@ -6,8 +6,8 @@ ghost use Rattle.trace_model.specs.Texts.{hex_byte, who_text, kind_text, entry_n
 ghost use Rattle.trace_print.specs.Named.{has_name};
 
 use kernel_model::entries::{
-    BROADCAST, CALLS, GOES, IDENTITY, LEAVE, LINE, LOCK, MODULE_CALL, PRIORITY, SIGNAL, SLEEP, SPAWN,
-    TICKS, UNLOCK, WAIT, YIELD,
+    BROADCAST, CALLS, GOES, IDENTITY, LEAVE, LINE, LOCK, MODULE_CALL, PRIORITY, SIGNAL, SLEEP,
+    SPAWN, TICKS, UNLOCK, WAIT, YIELD,
 };
 use line_text::line::Line as Text;
 use machine_model::writes::Writes;
