@@ -110,8 +110,7 @@ store_aimed o n x k = (
       reg o Add Wide (src.Immediate x) 4 k (omega arith),
       (
         reg o Cmp Wide (src.Immediate 0) 4 (Some Lo) (omega arith),
-        (tt, (reg o Cmp Wide (src.Immediate 0) 4 (Some Hi) (omega arith), (tt,
-        (entry o STORE_FAULT (inl refl), (restores o, tt))))),
+        (tt, (reg o Cmp Wide (src.Immediate 0) 4 (Some Hi) (omega arith), (tt, (entry o STORE_FAULT (inl refl), (restores o, tt))))),
       ),
     ),
   ),
