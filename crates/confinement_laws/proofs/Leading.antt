@@ -7,6 +7,7 @@ use Rattle.msp_encode.specs.declared.instr.Src.TheVariants as src
 use Rattle.msp_encode.specs.declared.instr.Dst.TheVariants as dst
 use Rattle.msp_encode.specs.declared.instr.Instr.{Instr}
 use Rattle.msp_encode.specs.declared.instr.Instr.TheVariants as instr
+use Rattle.kernel_model.specs.declared.entries.TheConstants.{STACK_FAULT, STORE_FAULT}
 use Rattle.kernel_model.specs.declared.kinds.Kind.{Kind}
 use Rattle.kernel_model.specs.declared.kinds.Kind.TheVariants.{App, Module}
 use Rattle.code_model.specs.declared.parts.RelKind.TheVariants.{Lo, Hi}
@@ -52,11 +53,11 @@ goes-leads d low top m q guarded h e t = record {
   inside = silent-inside d low top e.written t.silent;
 }
 
-store-entry : (k : Kind) (x : ℕ) → x ≡ 61440 → IsJumpEntry k x
+store-entry : (k : Kind) (x : ℕ) → x ≡ STORE_FAULT → IsJumpEntry k x
 store-entry App x e = inl e
 store-entry Module x e = inl e
 
-stack-entry : (k : Kind) (x : ℕ) → x ≡ 61442 → IsJumpEntry k x
+stack-entry : (k : Kind) (x : ℕ) → x ≡ STACK_FAULT → IsJumpEntry k x
 stack-entry App x e = inr (inl e)
 stack-entry Module x e = inr (inl e)
 
@@ -76,17 +77,20 @@ next-leads d low top m JumpsIfLow guarded h e t (inr n) = goes-leads d low top m
 next-leads d low top m ComparesHigh guarded h e t n = goes-leads d low top m JumpsIfHigh guarded h e n
 next-leads d low top m JumpsIfHigh guarded h e t (inl n) = goes-leads d low top m StoreFails guarded h e n
 next-leads d low top m JumpsIfHigh guarded h e t (inr n) = goes-leads d low top m StoreRestores guarded h e n
-next-leads d low top m StoreFails guarded h e t n = faults-leads d low top 61440 e (store-entry d.object.kind (reg e.context 0)) n
+next-leads d low top m StoreFails guarded h e t n =
+    faults-leads d low top STORE_FAULT e (store-entry d.object.kind (reg e.context 0)) n
 next-leads d low top m StoreRestores guarded h e t n = goes-leads d low top m Stores guarded h e n
 next-leads d low top m ComparesLimit guarded h e t n = goes-leads d low top m JumpsIfRoom guarded h e n
 next-leads d low top m JumpsIfRoom guarded h e t (inl n) = goes-leads d low top m GrowthFails guarded h e n
 next-leads d low top m JumpsIfRoom guarded h e t (inr n) = goes-leads d low top m GrowthRestores guarded h e n
-next-leads d low top m GrowthFails guarded h e t n = faults-leads d low top 61442 e (stack-entry d.object.kind (reg e.context 0)) n
+next-leads d low top m GrowthFails guarded h e t n =
+    faults-leads d low top STACK_FAULT e (stack-entry d.object.kind (reg e.context 0)) n
 next-leads d low top m GrowthRestores guarded h e t n = goes-leads d low top m Grows guarded h e n
 next-leads d low top m ComparesTop guarded h e t n = goes-leads d low top m JumpsIfFilled guarded h e n
 next-leads d low top m JumpsIfFilled guarded h e t (inl n) = goes-leads d low top m PopFails guarded h e n
 next-leads d low top m JumpsIfFilled guarded h e t (inr n) = goes-leads d low top m PopRestores guarded h e n
-next-leads d low top m PopFails guarded h e t n = faults-leads d low top 61442 e (stack-entry d.object.kind (reg e.context 0)) n
+next-leads d low top m PopFails guarded h e t n =
+    faults-leads d low top STACK_FAULT e (stack-entry d.object.kind (reg e.context 0)) n
 next-leads d low top m PopRestores guarded h e t n = goes-leads d low top m Pops guarded h e n
 next-leads d low top m ComparesNewLow guarded h e t n = goes-leads d low top m JumpsIfNewLow guarded h e n
 next-leads d low top m JumpsIfNewLow guarded h e t (inl n) = goes-leads d low top m SpFails guarded h e n
@@ -94,7 +98,8 @@ next-leads d low top m JumpsIfNewLow guarded h e t (inr n) = goes-leads d low to
 next-leads d low top m ComparesNewHigh guarded h e t n = goes-leads d low top m JumpsIfNewHigh guarded h e n
 next-leads d low top m JumpsIfNewHigh guarded h e t (inl n) = goes-leads d low top m SpFails guarded h e n
 next-leads d low top m JumpsIfNewHigh guarded h e t (inr n) = goes-leads d low top m SpRestores guarded h e n
-next-leads d low top m SpFails guarded h e t n = faults-leads d low top 61442 e (stack-entry d.object.kind (reg e.context 0)) n
+next-leads d low top m SpFails guarded h e t n =
+    faults-leads d low top STACK_FAULT e (stack-entry d.object.kind (reg e.context 0)) n
 next-leads d low top m SpRestores guarded h e t n = goes-leads d low top m SetsSp guarded h e n
 next-leads d low top m Stores guarded h e t n = absurd t
 next-leads d low top m Grows guarded h e t n = absurd t
