@@ -17,6 +17,7 @@ use asm_model::operand::{Destination, Operand, Source};
 use asm_model::piece::Piece;
 use msp_encode::instr::{Cg, Cond, Dst, Instr, Op1, Op2, Src, Width};
 use msp_encode::legal;
+use msp_encode::registers::{PC, SP};
 
 /// The constant that the generator has for a number.
 #[tactic(auto, unfolding(asm_model::specs::Instructions::generated))]
@@ -187,7 +188,7 @@ fn to_program_counter() -> Option<Destination>
     ensures { result ≡ program_counter }
 {
     Some(Destination {
-        dst: Dst::Reg(0),
+        dst: Dst::Reg(PC),
         base: Base::Number,
         fits: true,
     })
@@ -247,7 +248,7 @@ fn with_operand(form: Form, width: Width, operand: Option<Operand>) -> Result<Pi
         Form::Pop => of_two(
             Op2::Mov,
             width,
-            plain_source(Src::AutoInc(1)),
+            plain_source(Src::AutoInc(SP)),
             destination(o),
         ),
         Form::Branch => of_two(Op2::Mov, width, source(false, o), to_program_counter()),

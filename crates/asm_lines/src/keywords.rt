@@ -8,6 +8,7 @@ ghost use Rattle.asm_model.specs.Mnemonics.{two_of, one_of, condition_of, consta
 use crate::text::is_word;
 use asm_model::mnemonic::{Directive, Form, Keyword};
 use msp_encode::instr::{Cg, Cond, Dst, Instr, Op1, Op2, Src, Width};
+use msp_encode::registers::{CONSTANTS, PC, SP, SR};
 
 /// An operation of two operands.
 #[tactic(auto, unfolding(asm_model::specs::Mnemonics::two_of))]
@@ -163,7 +164,7 @@ fn into_register(op: Op2, src: Src, register: u8) -> Option<Form>
 fn on_status(op: Op2, constant: Cg) -> Option<Form>
     ensures { result ≡ alone_on op (src.Const constant) 2 }
 {
-    into_register(op, Src::Const(constant), 2)
+    into_register(op, Src::Const(constant), SR)
 }
 
 /// An instruction without operand.
@@ -174,9 +175,9 @@ fn alone(w: &[u8]) -> Option<Form>
     if is_word(w, b"RETI") {
         Some(Form::Alone(Instr::Reti))
     } else if is_word(w, b"NOP") {
-        into_register(Op2::Mov, Src::Const(Cg::Zero), 3)
+        into_register(Op2::Mov, Src::Const(Cg::Zero), CONSTANTS)
     } else if is_word(w, b"RET") {
-        into_register(Op2::Mov, Src::AutoInc(1), 0)
+        into_register(Op2::Mov, Src::AutoInc(SP), PC)
     } else if is_word(w, b"CLRC") {
         on_status(Op2::Bic, Cg::One)
     } else if is_word(w, b"CLRN") {

@@ -9,6 +9,7 @@ use crate::bytes::{Class, all, byte_at};
 use crate::text::is_word;
 use asm_model::name::{Name, Value};
 use indexmap::IndexMap;
+use msp_encode::registers::{PC, SP, SR};
 use std::alloc::{AllocError, Global};
 use std::marker::Model;
 
@@ -61,11 +62,11 @@ pub(crate) fn register(word: &[u8]) -> Option<u8>
     ensures small { IfSome result (λ r. r < 16) }
 {
     if is_word(word, b"PC") {
-        Some(0)
+        Some(PC)
     } else if is_word(word, b"SP") {
-        Some(1)
+        Some(SP)
     } else if is_word(word, b"SR") {
-        Some(2)
+        Some(SR)
     } else {
         numbered(word)
     }

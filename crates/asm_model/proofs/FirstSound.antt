@@ -26,6 +26,7 @@ use Rattle.asm_model.specs.Instructions.{is_legal, operation, two_piece, one_pie
 use Rattle.asm_model.specs.Drafts.{Draft, by_progress, grown}
 use Rattle.asm_model.specs.Sound.{code_total, initialised_total, entry_total, export_total, least_total, ArePieces, IsSound}
 use Rattle.asm_model.proofs.Choices.{if_true, if_not, le_of}
+use Rattle.code_model.specs.declared.object.TheConstants.{CODE_WORDS_MAX, STATIC_BYTES_MAX}
 
 -- a sound draft, if there is one
 abbrev pub OkSound : Result Draft AsmKind → Type 0
@@ -133,8 +134,8 @@ pub record Grows (p q : Progress) (code initialised zeroed : ℕ) : Type 0 where
   pub code_is : q.code ≡ p.code + code
   pub initialised_is : q.initialised ≡ p.initialised + initialised
   pub zeroed_is : q.zeroed ≡ p.zeroed + zeroed
-  pub code_most : q.code ≤ 8192
-  pub static_most : q.initialised + q.zeroed ≤ 16384
+  pub code_most : q.code ≤ CODE_WORDS_MAX
+  pub static_most : q.initialised + q.zeroed ≤ STATIC_BYTES_MAX
 
 abbrev pub OkGrows : Progress → ℕ → ℕ → ℕ → Result Progress AsmKind → Type 0
 OkGrows p code initialised z (Ok q) = Grows p q code initialised z
@@ -144,9 +145,9 @@ pub grown_grows : (p : Progress) (c i z : ℕ) → OkGrows p c i z (grown p c i 
 unfolding grown
 grown_grows p c i z =
     let next : Progress = by_progress p true p.section p.entered p.least_export (p.code + c) (p.initialised + i) (p.zeroed + z) in
-    let room : Bool = nat_le ((p.initialised + i) + (p.zeroed + z)) 16384 in
-    if_true (OkGrows p c i z) (nat_le (p.code + c) 8192) (cond room (Ok next) (Err kind.TooLarge)) (Err kind.TooLarge)
+    let room : Bool = nat_le ((p.initialised + i) + (p.zeroed + z)) STATIC_BYTES_MAX in
+    if_true (OkGrows p c i z) (nat_le (p.code + c) CODE_WORDS_MAX) (cond room (Ok next) (Err kind.TooLarge)) (Err kind.TooLarge)
     (λ h. if_true (OkGrows p c i z) room (Ok next) (Err kind.TooLarge)
-    (λ k. record { header_is = refl; least_is = refl; code_is = refl; initialised_is = refl; zeroed_is = refl; code_most = le_of (p.code + c) 8192 h; static_most = le_of ((p.initialised + i) + (p.zeroed + z)) 16384 k })
+    (λ k. record { header_is = refl; least_is = refl; code_is = refl; initialised_is = refl; zeroed_is = refl; code_most = le_of (p.code + c) CODE_WORDS_MAX h; static_most = le_of ((p.initialised + i) + (p.zeroed + z)) STATIC_BYTES_MAX k })
     (λ k. tt))
     (λ h. tt)

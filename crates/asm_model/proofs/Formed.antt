@@ -1,6 +1,7 @@
 -- What a source assembles to meets the form of objects.
 use Rattle.std.proofs.Common.{◌≡◌, ◌≢◌, ℕ, ◌+◌, ◌*◌, ◌%◌, ◌<◌, ◌≤◌, ◌==◌, Bool, true, false, not, ◌&&◌, List, [], ◌∷◌, ◌++◌, length, slice_index, slice_index_or, Option, Some, None, Result, Ok, Err, refl, sym, ◌∙◌, subst, arith, length-append}
 use Rattle.std.proofs.lemmas.Bool.Decides.{nat_tests}
+use Rattle.code_model.specs.declared.object.TheConstants.{RELOCS_MAX}
 use Rattle.code_model.specs.declared.parts.Export.{Export}
 use Rattle.code_model.specs.Form.{IsInCode}
 use Rattle.code_model.specs.Fields.{Fields, Meets}
@@ -35,7 +36,7 @@ record Common (d : Draft) (o : Output) : Type 0 where
   code_is : length o.code ≡ d.progress.code
   initialised_is : length o.initialised ≡ d.progress.initialised
   relocs_fit : AllFit o.code o.initialised 0 (o.code_relocs ++ o.data_relocs)
-  relocs_most : length (o.code_relocs ++ o.data_relocs) ≤ 16384
+  relocs_most : length (o.code_relocs ++ o.data_relocs) ≤ RELOCS_MAX
   exports_rise : ExportsRise d.progress.code 0 d.progress.least_export o.exports
   exports_are : length o.exports ≡ export_total d.pieces
   entry_even : o.entry % 2 ≡ 0

@@ -40,6 +40,7 @@ use Rattle.asm_model.proofs.Choices.{if_true, if_not, le_of, both_of}
 use Rattle.asm_model.proofs.Appended.{code_append, initialised_append, entry_append, export_append, least_append, pieces_append}
 use Rattle.asm_model.proofs.FirstSound.{OkSound, OkCode, instruction_code, grown_grows}
 use Rattle.asm_model.proofs.AddedSound.{added_sound, spaced_sound, code_adds, data_adds}
+use Rattle.code_model.specs.declared.object.TheConstants.{STATIC_BYTES_MAX}
 
 -- ---- instructions
 
@@ -140,7 +141,7 @@ section_sound d s rest h =
 space_by_grows : (p : Progress) (d : Draft) (n : Option Numeral) → d.progress ≡ p → IsSound d → OkSound (go_on d (space_by d.progress n))
 space_by_grows p d None e h = tt
 space_by_grows p d (Some n) e h =
-    if_true (λ (r : Result Progress AsmKind). OkSound (go_on d r)) (is_between 0 16384 n) (grown d.progress 0 0 n.size) (Err kind.NumberRange)
+    if_true (λ (r : Result Progress AsmKind). OkSound (go_on d r)) (is_between 0 STATIC_BYTES_MAX n) (grown d.progress 0 0 n.size) (Err kind.NumberRange)
     (λ k. spaced_sound d n.size (grown d.progress 0 0 n.size) h (grown_grows d.progress 0 0 n.size))
     (λ k. tt)
 

@@ -28,6 +28,7 @@ use Rattle.asm_model.specs.Names.{has_name_form, name_of, is_taken}
 use Rattle.asm_model.specs.Operands.{address_of}
 use Rattle.asm_model.specs.Instructions.{label_of}
 use Rattle.asm_model.specs.Drafts.{by_progress, grown}
+use Rattle.code_model.specs.declared.object.TheConstants.{STATIC_BYTES_MAX}
 
 -- ---- the header, before all other statements and once
 
@@ -201,7 +202,7 @@ data_room u names p operands =
 
 abbrev pub space_by : Progress → Option Numeral → Result Progress AsmKind
 space_by p None = Err BadDirective
-space_by p (Some n) = if is_between 0 16384 n then grown p 0 0 n.size else Err NumberRange
+space_by p (Some n) = if is_between 0 STATIC_BYTES_MAX n then grown p 0 0 n.size else Err NumberRange
 
 -- with zeroed bytes, where they may stand
 unfoldable pub space_of : Progress → List ℕ → Result Progress AsmKind

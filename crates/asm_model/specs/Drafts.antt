@@ -13,6 +13,7 @@ use Rattle.asm_model.specs.declared.progress.Section.{Section}
 use Rattle.asm_model.specs.declared.progress.Section.TheVariants as section
 use Rattle.asm_model.specs.declared.progress.Version.TheVariants as version
 use Rattle.asm_model.specs.declared.progress.Progress.{Progress}
+use Rattle.code_model.specs.declared.object.TheConstants.{CODE_WORDS_MAX, STATIC_BYTES_MAX}
 
 -- the names that are defined and the pieces, both in their order, and the rest
 pub record Draft : Type 0 where
@@ -72,8 +73,8 @@ by_progress p begun section entered least_export code initialised zeroed = recor
 -- with so many more code words, initialised bytes and zeroed bytes, unless that passes the limits
 unfoldable pub grown : Progress → ℕ → ℕ → ℕ → Result Progress AsmKind
 grown p code initialised zeroed =
-    if nat_le (p.code + code) 8192 then (
-    if nat_le ((p.initialised + initialised) + (p.zeroed + zeroed)) 16384
+    if nat_le (p.code + code) CODE_WORDS_MAX then (
+    if nat_le ((p.initialised + initialised) + (p.zeroed + zeroed)) STATIC_BYTES_MAX
     then Ok (by_progress p true p.section p.entered p.least_export (p.code + code) (p.initialised + initialised) (p.zeroed + zeroed))
     else Err TooLarge)
     else Err TooLarge

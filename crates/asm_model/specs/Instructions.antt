@@ -1,5 +1,6 @@
 -- What an instruction's operands give.
 use Rattle.std.specs.Prelude.{ℕ, ◌==◌, ◌&&◌, not, nat_lt, Bool, true, false, List, [], ◌∷◌, Option, Some, None, Result, Ok, Err, if◌then◌else◌}
+use Rattle.msp_encode.specs.declared.registers.TheConstants.{PC, SP}
 use Rattle.msp_encode.specs.declared.instr.Op2.{Op2}
 use Rattle.msp_encode.specs.declared.instr.Op2.TheVariants as op2
 use Rattle.msp_encode.specs.declared.instr.Op1.{Op1}
@@ -174,11 +175,11 @@ constant_source constant = source_by (src.Const constant) base.Number true
 
 -- PC as destination
 abbrev pub program_counter : Option Destination
-program_counter = destination_by (dst.Reg 0) base.Number true
+program_counter = destination_by (dst.Reg PC) base.Number true
 
 -- what the stack's top is popped from
 abbrev pub popped : Source
-popped = source_by (src.AutoInc 1) base.Number true
+popped = source_by (src.AutoInc SP) base.Number true
 
 -- a name given by `.equ` is no label
 abbrev pub names_place : Option Value → Bool

@@ -1,5 +1,6 @@
 -- The first word of a statement: mnemonics with their widths, and directives.
 use Rattle.std.specs.Prelude.{ℕ, ◌-◌, Bool, true, false, List, length, take, drop, codes, Option, Some, None, option_map, if◌then◌else◌}
+use Rattle.msp_encode.specs.declared.registers.TheConstants.{CONSTANTS, PC, SP, SR}
 use Rattle.msp_encode.specs.declared.instr.Op2.{Op2}
 use Rattle.msp_encode.specs.declared.instr.Op2.TheVariants as op2
 use Rattle.msp_encode.specs.declared.instr.Op1.{Op1}
@@ -103,16 +104,16 @@ alone_on op source register = Some (form.Alone (instr.Two op Wide source (dst.Re
 unfoldable pub alone_of : List ℕ → Option Form
 alone_of w =
     if word_is w (codes "RETI") then Some (form.Alone instr.Reti)
-    else if word_is w (codes "NOP") then alone_on op2.Mov (src.Const cg.Zero) 3
-    else if word_is w (codes "RET") then alone_on op2.Mov (src.AutoInc 1) 0
-    else if word_is w (codes "CLRC") then alone_on op2.Bic (src.Const cg.One) 2
-    else if word_is w (codes "CLRN") then alone_on op2.Bic (src.Const cg.Four) 2
-    else if word_is w (codes "CLRZ") then alone_on op2.Bic (src.Const cg.Two) 2
-    else if word_is w (codes "DINT") then alone_on op2.Bic (src.Const cg.Eight) 2
-    else if word_is w (codes "SETC") then alone_on op2.Bis (src.Const cg.One) 2
-    else if word_is w (codes "SETN") then alone_on op2.Bis (src.Const cg.Four) 2
-    else if word_is w (codes "SETZ") then alone_on op2.Bis (src.Const cg.Two) 2
-    else if word_is w (codes "EINT") then alone_on op2.Bis (src.Const cg.Eight) 2
+    else if word_is w (codes "NOP") then alone_on op2.Mov (src.Const cg.Zero) CONSTANTS
+    else if word_is w (codes "RET") then alone_on op2.Mov (src.AutoInc SP) PC
+    else if word_is w (codes "CLRC") then alone_on op2.Bic (src.Const cg.One) SR
+    else if word_is w (codes "CLRN") then alone_on op2.Bic (src.Const cg.Four) SR
+    else if word_is w (codes "CLRZ") then alone_on op2.Bic (src.Const cg.Two) SR
+    else if word_is w (codes "DINT") then alone_on op2.Bic (src.Const cg.Eight) SR
+    else if word_is w (codes "SETC") then alone_on op2.Bis (src.Const cg.One) SR
+    else if word_is w (codes "SETN") then alone_on op2.Bis (src.Const cg.Four) SR
+    else if word_is w (codes "SETZ") then alone_on op2.Bis (src.Const cg.Two) SR
+    else if word_is w (codes "EINT") then alone_on op2.Bis (src.Const cg.Eight) SR
     else None
 
 -- the form of a mnemonic without its width

@@ -8,6 +8,7 @@ use Rattle.asm_model.specs.declared.name.Name.{Name}
 use Rattle.asm_model.specs.declared.name.Value.{Value}
 use Rattle.asm_model.specs.Words.{word_is}
 use Rattle.asm_model.specs.Numbers.{first_byte}
+use Rattle.msp_encode.specs.declared.registers.TheConstants.{PC, SP, SR}
 
 abbrev pub is_name_byte : ℕ → Bool
 is_name_byte b = is_ascii_alphanumeric b || b == 95
@@ -26,7 +27,7 @@ numbered_register word =
 
 -- the number of a register's name
 unfoldable pub register_of : List ℕ → Option ℕ
-register_of word = if word_is word (codes "PC") then Some 0 else if word_is word (codes "SP") then Some 1 else if word_is word (codes "SR") then Some 2 else numbered_register word
+register_of word = if word_is word (codes "PC") then Some PC else if word_is word (codes "SP") then Some SP else if word_is word (codes "SR") then Some SR else numbered_register word
 
 abbrev pub is_lo : List ℕ → Bool
 is_lo word = pointwise nat_eq word (codes "LO")

@@ -8,6 +8,7 @@ use Rattle.asm_model.specs.declared.progress.Header.TheVariants as header
 use Rattle.asm_model.specs.Expressions.{is_plain}
 use Rattle.asm_model.specs.Instructions.{is_legal}
 use Rattle.asm_model.specs.Drafts.{Draft, code_words, initialised_bytes}
+use Rattle.code_model.specs.declared.object.TheConstants.{CODE_WORDS_MAX, STATIC_BYTES_MAX}
 
 -- the words that the pieces add to the code, and their bytes of static data
 abbrev pub code_total : List Placed → ℕ
@@ -88,5 +89,5 @@ pub record IsSound (d : Draft) : Type 0 where
   pub least_is : least_total 0 d.pieces ≡ d.progress.least_export
   pub header : IsHeader d.progress.header
   pub starts : StartsSuit d.progress.header (entry_total d.pieces) (export_total d.pieces)
-  pub code_most : d.progress.code ≤ 8192
-  pub static_most : d.progress.initialised + d.progress.zeroed ≤ 16384
+  pub code_most : d.progress.code ≤ CODE_WORDS_MAX
+  pub static_most : d.progress.initialised + d.progress.zeroed ≤ STATIC_BYTES_MAX

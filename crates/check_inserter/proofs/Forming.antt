@@ -2,6 +2,7 @@
 use Rattle.std.proofs.Common.{◌≡◌, ℕ, zero, suc, ◌+◌, ◌-◌, ◌*◌, ◌/◌, ◌%◌, ◌≤◌, ◌<◌, nat_lt, if◌then◌else◌, Bool, true, false, not, List, [], ◌∷◌, ◌++◌, inl, inr, length, map, fold, slice_index, slice_index_or, slice_set, Option, None, Some, sym, subst, refl, ap, ◌∙◌, arith, rules}
 use Rattle.std.proofs.lemmas.Bool.{cases_lt}
 use Rattle.std.proofs.lemmas.List.{length-append, length-map, length-set, get_or-map, get_or_default}
+use Rattle.code_model.specs.declared.object.TheConstants.{CODE_WORDS_MAX, RELOCS_MAX, STATIC_BYTES_MAX}
 use Rattle.code_model.specs.declared.object.Object.{Object}
 use Rattle.kernel_model.specs.declared.kinds.Kind.TheVariants.{App, Module}
 use Rattle.code_model.specs.declared.parts.Reloc.{Reloc}
@@ -231,7 +232,7 @@ module _ (o : Object) (laid : Laid) (is : IsLaid o laid) (source : IsSource o (l
   words_length : length laid.words.items ≡ length (units (static_bytes (fields o)) (lines (fields o)))
   words_length = ap length is.words
 
-  words_most : length laid.words.items ≤ 8192
+  words_most : length laid.words.items ≤ CODE_WORDS_MAX
   unfolding most_words
   words_most = is.fits
 
@@ -355,18 +356,18 @@ module _ (o : Object) (laid : Laid) (is : IsLaid o laid) (source : IsSource o (l
         rises_append 0 65536 (relocs_from 0 laid.words.items) (of_data o.relocs) (rises_less 0 (2 * 0) (relocs_from 0 laid.words.items) (omega arith) (code_rises laid.words.items 0)) code_keys
         (high_rises (of_data o.relocs) 0 high (data_rises o.relocs 0 old_rises)) (omega arith)
 
-    even_below : (r : Reloc) → r.in_code ≡ false → RelocFits o.code o.init r → IsEvenBelow (65536 + 16384) r
+    even_below : (r : Reloc) → r.in_code ≡ false → RelocFits o.code o.init r → IsEvenBelow (65536 + STATIC_BYTES_MAX) r
     unfolding IsEvenBelow
     even_below r e f = let least : r.offset + 2 ≤ length o.init = f.in_init e in (omega (arith, data_key r e, f.even), omega (arith, data_key r e, o.form.static_most))
 
-    data_count : length (of_data o.relocs) ≤ 8192
+    data_count : length (of_data o.relocs) ≤ STATIC_BYTES_MAX / 2
     data_count =
-        let h : 2 * length (of_data o.relocs) ≤ 65536 + 16384 - 65536 =
-        even_count (of_data o.relocs) 65536 (65536 + 16384) (omega arith) (each_data (RelocFits o.code o.init) (IsEvenBelow (65536 + 16384)) o.relocs even_below old_fit)
+        let h : 2 * length (of_data o.relocs) ≤ 65536 + STATIC_BYTES_MAX - 65536 =
+        even_count (of_data o.relocs) 65536 (65536 + STATIC_BYTES_MAX) (omega arith) (each_data (RelocFits o.code o.init) (IsEvenBelow (65536 + STATIC_BYTES_MAX)) o.relocs even_below old_fit)
         (high_rises (of_data o.relocs) 0 high (data_rises o.relocs 0 old_rises)) in
         omega arith
 
-    relocs_count : length relocs ≤ 16384
+    relocs_count : length relocs ≤ RELOCS_MAX
     relocs_count = omega (arith, ap length erelocs, length-append (relocs_from 0 laid.words.items) (of_data o.relocs), code_count laid.words.items 0, data_count, words_most)
 
     pub meets : MeetsForm o.kind o.version code init o.zeroed o.stack o.threads entry relocs exports

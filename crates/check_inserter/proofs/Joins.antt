@@ -20,6 +20,7 @@ use Rattle.insert_model.specs.Guards.{plain, take_sp, give_sp, sp_guard, growth_
 use Rattle.insert_model.specs.Units.{into_r4, setting_sp, calling_value}
 use Rattle.insert_model.specs.Faults.{number, LineHas, UsesCheck, IsForbidden}
 use Rattle.check_inserter.proofs.Growing.{both_words}
+use Rattle.kernel_model.specs.declared.entries.TheConstants.{CALLS}
 
 pub not_so : (b : Bool) (P : Type 0) → IsTrue b ↔ P → b ≡ false → P → ⊥
 not_so true P is e p = cc
@@ -48,7 +49,7 @@ setting_words out a b op w s k t i e g et ei eg ee ea eb =
     both_words out a b (t ∷ i ∷ g) (e ∷ []) ea eb ∙ ap (λ (ps : List Piece). out ++ unit_words ps) same
 
 pub calling_words : (out a b : List Word) (s : Src) (k : Option RelKind) (i e : Piece) (g : List Piece) → i ≡ into_r4 Mov Wide s k → g ≡ growth_guard
-    → e ≡ plain (instr.One Call Wide (src.Immediate 0xF006)) → a ≡ out ++ unit_words (i ∷ g) → b ≡ a ++ unit_words (e ∷ []) → b ≡ out ++ unit_words (calling_value s k)
+    → e ≡ plain (instr.One Call Wide (src.Immediate CALLS)) → a ≡ out ++ unit_words (i ∷ g) → b ≡ a ++ unit_words (e ∷ []) → b ≡ out ++ unit_words (calling_value s k)
 calling_words out a b s k i e g ei eg ee ea eb =
     let same : (i ∷ g) ++ e ∷ [] ≡ calling_value s k = λ j. (ei j ∷ eg j) ++ ee j ∷ [] in
     both_words out a b (i ∷ g) (e ∷ []) ea eb ∙ ap (λ (ps : List Piece). out ++ unit_words ps) same

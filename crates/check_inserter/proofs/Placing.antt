@@ -2,6 +2,7 @@
 use Rattle.std.proofs.Common.{◌≡◌, ℕ, ◌+◌, ◌*◌, ◌/◌, ◌≤◌, ◌<◌, min, nat_lt, true, false, List, [], ◌∷◌, ◌++◌, inl, inr, length, get_or, slice_index, sym, subst, refl, ap, ◌∙◌, arith, rules}
 use Rattle.std.proofs.lemmas.Bool.{cases_lt}
 use Rattle.std.proofs.lemmas.List.{length-append, get_or_read}
+use Rattle.code_model.specs.declared.object.TheConstants.{CODE_WORDS_MAX}
 use Rattle.code_model.specs.declared.object.Object.{Object}
 use Rattle.code_model.specs.Fields.{fields}
 use Rattle.insert_model.specs.declared.line.Line.{Line}
@@ -42,7 +43,7 @@ module _ (o : Object) (laid : Laid) (is : IsLaid o laid) where
   at_place : (k : ℕ) → k ≤ length o.code → slice_index laid.places.items k ≡ length (units (static_bytes (fields o)) (before k (lines (fields o))))
   at_place k h = is.places.each k (omega arith)
 
-  pub place_small : (k : ℕ) → k ≤ length o.code → slice_index laid.places.items k ≤ 8192
+  pub place_small : (k : ℕ) → k ≤ length o.code → slice_index laid.places.items k ≤ CODE_WORDS_MAX
   unfolding most_words
   place_small k h = omega (arith, at_place k h, units_before (static_bytes (fields o)) k (lines (fields o)), is.fits, ap length is.words)
 
@@ -62,7 +63,7 @@ module _ (o : Object) (laid : Laid) (is : IsLaid o laid) where
   unfolding place_map place_in
   place_is x = ap (λ (n : ℕ). 2 * n) (at_last (x / 2))
 
-  pub read_small : (k y : ℕ) → k ≤ length o.code → y ≡ get_or laid.places.items k y → y ≤ 8192
+  pub read_small : (k y : ℕ) → k ≤ length o.code → y ≡ get_or laid.places.items k y → y ≤ CODE_WORDS_MAX
   read_small k y h e =
       let f : y ≡ slice_index laid.places.items k = get_or_read laid.places.items k y (omega (arith, is.places.count)) e 0 in
       omega (arith, place_small k h)

@@ -2,6 +2,7 @@
 use Rattle.std.proofs.Common.{◌≡◌, ◌≢◌, ◌↔◌, ℕ, ◌+◌, ◌*◌, ◌/◌, ◌%◌, ◌≤◌, ◌<◌, List, ◌⊎◌, inl, inr, length, take, get_or, Bool, true, false, IsTrue, ℤ, pos, ◌+ℤ◌, w16, to_z, of_z, SFits, sym, subst, ◌∙◌, arith}
 use Rattle.std.proofs.lemmas.Bool.{cases_order}
 use Rattle.std.proofs.lemmas.Int.{to_z-of_z}
+use Rattle.code_model.specs.declared.object.TheConstants.{CODE_BYTES_MAX, CODE_WORDS_MAX}
 use Rattle.code_model.specs.declared.object.Object.{Object}
 use Rattle.kernel_model.specs.Bitmap.{Has}
 use Rattle.code_model.specs.Starts.{Start, AreStarts}
@@ -22,7 +23,7 @@ pub odd_offset : (code : List ℕ) (x : ℕ) → x % 2 ≡ 1 → IsStartOffset c
 unfolding IsStartOffset
 odd_offset code x odd (t, start, e) = omega arith
 
-pub far_offset : (o : Object) (x : ℕ) → 16384 ≤ x → IsStartOffset o.code x → ⊥
+pub far_offset : (o : Object) (x : ℕ) → CODE_BYTES_MAX ≤ x → IsStartOffset o.code x → ⊥
 unfolding IsStartOffset
 far_offset o x far (t, start, e) = omega (arith, start.below, o.form.code_most)
 
@@ -38,7 +39,7 @@ jump_start code starts at t k b fits are e half =
     let e' : pos t ≡ (pos (at + 1) +ℤ k) = simp (to_z-of_z) at e in
     ((λ h. (t, (are t).0 (is.0 h), e')), (λ (u, start, f). let same : u ≡ t = same_pos u t (f ∙ sym e') in is.1 ((are t).1 (subst (λ (n : ℕ). Start code n) same start))))
 
-pub no_jump_start : (o : Object) (at : ℕ) (k : ℤ) → SFits w16 k → ((t : ℕ) → t < 8192 → pos t ≡ (pos (at + 1) +ℤ to_z w16 (of_z w16 k)) → ⊥) → IsJumpStart o.code at k → ⊥
+pub no_jump_start : (o : Object) (at : ℕ) (k : ℤ) → SFits w16 k → ((t : ℕ) → t < CODE_WORDS_MAX → pos t ≡ (pos (at + 1) +ℤ to_z w16 (of_z w16 k)) → ⊥) → IsJumpStart o.code at k → ⊥
 unfolding IsJumpStart
 no_jump_start o at k fits none (t, start, e) = none t (omega (arith, start.below, o.form.code_most)) (simp (to_z-of_z) e)
 

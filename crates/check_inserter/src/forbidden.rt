@@ -9,6 +9,7 @@ use crate::size::word_count;
 use code_model::parts::RelKind;
 use insert_model::line::Line;
 use msp_encode::instr::{Dst, Instr, Src};
+use msp_encode::registers::{CHECKED, KEPT_STATUS, PC, SP, SR};
 use static_checker::forms::{
     changes, const_value, dst_is, is_bis_or_bic, is_flags, is_mov, is_reti, is_wide, pops, src_is,
     stacks, writes, writes_reg,
@@ -47,7 +48,7 @@ fn dst_uses_check(dst: Dst) -> bool
 fn is_check(register: u8) -> bool
     ensures { IsTrue result ↔ IsCheck register }
 {
-    register == 4 || register == 5
+    register == CHECKED || register == KEPT_STATUS
 }
 
 /// Tells whether a line has no unit.
@@ -77,7 +78,7 @@ fn writes_status_amiss(line: &Line) -> bool
 fn writes_pc_amiss(i: Instr) -> bool
     ensures { IsTrue result ↔ (WritesReg i 0 × (SetsPc i → ⊥)) }
 {
-    writes_reg(i, 0) && !sets_pc(i)
+    writes_reg(i, PC) && !sets_pc(i)
 }
 
 /// Tells whether an instruction is BIS or BIC of a word, of flags alone.
@@ -115,8 +116,8 @@ fn reads_pc(i: Instr) -> bool
     ensures { IsTrue result ↔ ReadsPc i }
 {
     match i {
-        Instr::Two { op, src, dst, .. } => src_is(src, 0) || dst_is(dst, 0) && !is_mov(op),
-        Instr::One { src, .. } => src_is(src, 0),
+        Instr::Two { op, src, dst, .. } => src_is(src, PC) || dst_is(dst, PC) && !is_mov(op),
+        Instr::One { src, .. } => src_is(src, PC),
         _ => false,
     }
 }
@@ -144,7 +145,7 @@ fn has_bad_operand(i: Instr) -> bool
 fn is_special(src: Src) -> bool
     ensures { IsTrue result ↔ IsSpecial src }
 {
-    src_is(src, 0) || src_is(src, 1) || src_is(src, 2)
+    src_is(src, PC) || src_is(src, SP) || src_is(src, SR)
 }
 
 /// Tells whether @SP+ is the source of PUSH, of CALL, or of an operation that writes SP, SR or memory.
@@ -152,8 +153,8 @@ fn pops_amiss(i: Instr) -> bool
     ensures { IsTrue result ↔ PopsAmiss i }
 {
     match i {
-        Instr::Two { op, src, dst, .. } => pops(src, 1) && writes(op) && is_no_pop_target(dst),
-        Instr::One { op, src, .. } => stacks(op) && pops(src, 1),
+        Instr::Two { op, src, dst, .. } => pops(src, SP) && writes(op) && is_no_pop_target(dst),
+        Instr::One { op, src, .. } => stacks(op) && pops(src, SP),
         _ => false,
     }
 }
@@ -161,7 +162,7 @@ fn pops_amiss(i: Instr) -> bool
 fn is_no_pop_target(dst: Dst) -> bool
     ensures { IsTrue result ↔ IsNoPopTarget dst }
 {
-    dst_is(dst, 1) || dst_is(dst, 2) || is_memory(dst)
+    dst_is(dst, SP) || dst_is(dst, SR) || is_memory(dst)
 }
 
 /// Tells whether a store's source steps the base of its destination.

@@ -4,6 +4,7 @@ ghost use Rattle.std.specs.Prelude.{◌↔◌, IsTrue};
 ghost use Rattle.insert_model.specs.Faults.{SetsPc, IsSymbolicSrc, IsSymbolicDst, IsAutoInc, IsMemory};
 
 use msp_encode::instr::{Dst, Instr, Src};
+use msp_encode::registers::PC;
 use static_checker::forms::{dst_is, is_mov, is_wide};
 
 /// Tells whether a source is symbolic.
@@ -39,7 +40,7 @@ pub(crate) fn sets_pc(i: Instr) -> bool
     ensures { IsTrue result ↔ SetsPc i }
 {
     match i {
-        Instr::Two { op, width, dst, .. } => is_mov(op) && is_wide(width) && dst_is(dst, 0),
+        Instr::Two { op, width, dst, .. } => is_mov(op) && is_wide(width) && dst_is(dst, PC),
         _ => false,
     }
 }

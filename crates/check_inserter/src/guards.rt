@@ -7,19 +7,10 @@ ghost use Rattle.check_inserter.specs.Fitting.{AllFit};
 
 use code_model::parts::RelKind;
 use insert_model::piece::Piece;
+use kernel_model::entries::{STACK_FAULT, STORE_FAULT};
+use kernel_model::map::{STACK_LIMIT, STACK_TOP};
 use msp_encode::instr::{Cg, Cond, Dst, Instr, Op2, Src, Width};
-
-/// The entry that faults for a store out of the region.
-const STORE_FAULT: u16 = 0xF000;
-
-/// The entry that faults for a stack pointer out of the stack.
-const STACK_FAULT: u16 = 0xF002;
-
-/// The kernel's word with the least stack pointer that leaves room for a push.
-const STACK_LIMIT: u16 = 0x0200;
-
-/// The kernel's word with the stack's top.
-const STACK_TOP: u16 = 0x0202;
+use msp_encode::registers::{CHECKED, CONSTANTS, KEPT_STATUS, PC, SP, SR};
 
 /// An instruction without relocations.
 pub(crate) fn plain(instr: Instr) -> Piece
@@ -72,7 +63,7 @@ fn on_r4(op: Op2, word: u16, kind: Option<RelKind>) -> Piece
             op,
             width: Width::Wide,
             src: Src::Immediate(word),
-            dst: Dst::Reg(4),
+            dst: Dst::Reg(CHECKED),
         },
         source: kind,
         destination: None,
@@ -88,7 +79,7 @@ pub(crate) fn branch(word: u16, kind: Option<RelKind>) -> Piece
             op: Op2::Mov,
             width: Width::Wide,
             src: Src::Immediate(word),
-            dst: Dst::Reg(0),
+            dst: Dst::Reg(PC),
         },
         source: kind,
         destination: None,
@@ -99,35 +90,35 @@ pub(crate) fn branch(word: u16, kind: Option<RelKind>) -> Piece
 fn save() -> Piece
     ensures { result ≡ save }
 {
-    mov(Src::Reg(2), Dst::Reg(5))
+    mov(Src::Reg(SR), Dst::Reg(KEPT_STATUS))
 }
 
 /// Gives the flags back from R5.
 fn restore() -> Piece
     ensures { result ≡ restore }
 {
-    mov(Src::Reg(5), Dst::Reg(2))
+    mov(Src::Reg(KEPT_STATUS), Dst::Reg(SR))
 }
 
 /// Takes SP into R4.
 pub(crate) fn take_sp() -> Piece
     ensures { result ≡ take_sp }
 {
-    mov(Src::Reg(1), Dst::Reg(4))
+    mov(Src::Reg(SP), Dst::Reg(CHECKED))
 }
 
 /// Pops a word into R4.
 pub(crate) fn pop_r4() -> Piece
     ensures { result ≡ pop_r4 }
 {
-    mov(Src::AutoInc(1), Dst::Reg(4))
+    mov(Src::AutoInc(SP), Dst::Reg(CHECKED))
 }
 
 /// Makes R4 the stack pointer.
 pub(crate) fn give_sp() -> Piece
     ensures { result ≡ give_sp }
 {
-    mov(Src::Reg(4), Dst::Reg(1))
+    mov(Src::Reg(CHECKED), Dst::Reg(SP))
 }
 
 /// A base register, or 0 for R3.
@@ -136,7 +127,7 @@ fn base(register: u8) -> Src
     ensures is { result ≡ base register }
     ensures fits { SrcFits result }
 {
-    if register == 3 {
+    if register == CONSTANTS {
         Src::Const(Cg::Zero)
     } else {
         Src::Reg(register)
@@ -151,7 +142,7 @@ pub(crate) fn store_guard(register: u8, index: u16, kind: Option<RelKind>) -> [P
 {
     [
         save(),
-        mov(base(register), Dst::Reg(4)),
+        mov(base(register), Dst::Reg(CHECKED)),
         on_r4(Op2::Add, index, kind),
         on_r4(Op2::Cmp, 0, Some(RelKind::Lo)),
         jump(Cond::Nc, 3),
@@ -169,7 +160,7 @@ pub(crate) fn growth_guard() -> [Piece; 5]
 {
     [
         save(),
-        cmp(Src::Absolute(STACK_LIMIT), Dst::Reg(1)),
+        cmp(Src::Absolute(STACK_LIMIT), Dst::Reg(SP)),
         jump(Cond::C, 2),
         branch(STACK_FAULT, None),
         restore(),
@@ -183,7 +174,7 @@ pub(crate) fn pop_guard() -> [Piece; 5]
 {
     [
         save(),
-        cmp(Src::Reg(1), Dst::Absolute(STACK_TOP)),
+        cmp(Src::Reg(SP), Dst::Absolute(STACK_TOP)),
         jump(Cond::Ne, 2),
         branch(STACK_FAULT, None),
         restore(),
@@ -197,9 +188,9 @@ pub(crate) fn sp_guard() -> [Piece; 7]
 {
     [
         save(),
-        cmp(Src::Absolute(STACK_LIMIT), Dst::Reg(4)),
+        cmp(Src::Absolute(STACK_LIMIT), Dst::Reg(CHECKED)),
         jump(Cond::Nc, 3),
-        cmp(Src::Reg(4), Dst::Absolute(STACK_TOP)),
+        cmp(Src::Reg(CHECKED), Dst::Absolute(STACK_TOP)),
         jump(Cond::C, 2),
         branch(STACK_FAULT, None),
         restore(),

@@ -52,7 +52,7 @@ fn put_places(places: &mut Vec<usize>, place: usize, times: usize) -> Result<(),
 
 /// The fault of a line whose unit passes the most words.
 fn too_large(at: usize) -> InsertFault
-    requires { at < 8192 }
+    requires { at < CODE_WORDS_MAX }
     ensures { result ≡ InsertFault.At InsertKind.TooLarge (2 * at) }
 {
     InsertFault::At {

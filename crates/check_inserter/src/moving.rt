@@ -2,6 +2,7 @@
 
 ghost use Rattle.std.specs.Prelude.{◌≡◌, ℕ, ◌+◌, ◌*◌, ◌/◌, ◌%◌, ◌^◌, ◌<◌, ◌≤◌, [], ◌∷◌, ◌++◌, length, map, false, IfOk, OnOk, IsTrue, slice_index, slice_index_or};
 ghost use Rattle.std.specs.List.{fold};
+ghost use Rattle.code_model.specs.declared.object.TheConstants.{CODE_WORDS_MAX};
 ghost use Rattle.code_model.specs.declared.parts.Reloc.{Reloc};
 ghost use Rattle.code_model.specs.declared.parts.Export.{Export};
 ghost use Rattle.code_model.specs.Fields.{fields};
@@ -71,7 +72,7 @@ pub(crate) fn all_relocs(alloc: Global, o: &Object, laid: &Laid) -> Result<Reloc
 
 /// Appends the relocations of code words.
 fn put_code_relocs(out: &mut Relocs, words: &[Word]) -> Result<(), AllocError>
-    requires { length words.now ≤ 8192 }
+    requires { length words.now ≤ CODE_WORDS_MAX }
     ensures { OnOk result (out.new ≡ out.old ++ relocs_from 0 words.now) }
 {
     for (at, word) in words.iter().enumerate() {
@@ -82,7 +83,7 @@ fn put_code_relocs(out: &mut Relocs, words: &[Word]) -> Result<(), AllocError>
 
 /// Appends the relocation of the code word at a place, if it has one.
 fn put_code_reloc(out: &mut Relocs, at: usize, kind: Option<RelKind>) -> Result<(), AllocError>
-    requires { at < 8192 }
+    requires { at < CODE_WORDS_MAX }
     ensures { OnOk result (out.new ≡ out.old ++ with_reloc at kind []) }
 {
     match kind {

@@ -9,6 +9,7 @@ use code_model::parts::RelKind;
 use insert_model::aim::Aim;
 use insert_model::piece::Piece;
 use msp_encode::instr::{Dst, Instr, Op2, Src, Width};
+use msp_encode::registers::{CHECKED, PC, SP};
 
 /// What a destination asks for.
 pub(crate) fn aim(size: usize, dst: Dst, kind: Option<RelKind>) -> Aim
@@ -17,8 +18,8 @@ pub(crate) fn aim(size: usize, dst: Dst, kind: Option<RelKind>) -> Aim
     ensures fits { AimFits result }
 {
     match dst {
-        Dst::Reg(0) => Aim::ToPc,
-        Dst::Reg(1) => Aim::ToSp,
+        Dst::Reg(PC) => Aim::ToPc,
+        Dst::Reg(SP) => Aim::ToSp,
         Dst::Reg(_) | Dst::Symbolic(_) => Aim::Elsewhere,
         Dst::Indexed(base, index) => Aim::ToMemory { base, index, kind },
         Dst::Absolute(index) => absolute_aim(size, index, kind),
@@ -83,7 +84,7 @@ pub(crate) fn is_popped(src: Src) -> bool
     ensures { result ≡ is_popped src }
 {
     match src {
-        Src::AutoInc(register) => register == 1,
+        Src::AutoInc(register) => register == SP,
         _ => false,
     }
 }
@@ -100,7 +101,7 @@ pub(crate) fn is_pc(dst: Dst) -> bool
     ensures { result ≡ is_pc dst }
 {
     match dst {
-        Dst::Reg(register) => register == 0,
+        Dst::Reg(register) => register == PC,
         _ => false,
     }
 }
@@ -136,7 +137,7 @@ pub(crate) fn into_r4(op: Op2, width: Width, src: Src, kind: Option<RelKind>) ->
             op,
             width,
             src,
-            dst: Dst::Reg(4),
+            dst: Dst::Reg(CHECKED),
         },
         source: kind,
         destination: None,
@@ -152,7 +153,7 @@ pub(crate) fn through_r4(op: Op2, width: Width, src: Src, kind: Option<RelKind>)
             op,
             width,
             src,
-            dst: Dst::Indexed(4, 0),
+            dst: Dst::Indexed(CHECKED, 0),
         },
         source: kind,
         destination: None,
@@ -167,7 +168,7 @@ pub(crate) fn from_r4(op: Op2, width: Width, dst: Dst, kind: Option<RelKind>) ->
         instr: Instr::Two {
             op,
             width,
-            src: Src::Reg(4),
+            src: Src::Reg(CHECKED),
             dst,
         },
         source: None,

@@ -1,6 +1,7 @@
 //! Reading the source instructions.
 
 ghost use Rattle.std.specs.Prelude.{◌≡◌, ◌<◌, ◌≤◌, ◌*◌, ◌+◌, ◌%◌, ◌^◌, ℕ, [], ◌∷◌, ◌++◌, true, nat_lt, if◌then◌else◌, length, slice_index_or, None, IfOk, OnOk, MatchResult};
+ghost use Rattle.code_model.specs.declared.object.TheConstants.{CODE_WORDS_MAX};
 ghost use Rattle.code_model.specs.declared.parts.Reloc.{Reloc};
 ghost use Rattle.code_model.specs.Form.{RelocFits};
 ghost use Rattle.insert_model.specs.declared.line.Line.{Line};
@@ -52,7 +53,7 @@ fn push_line(lines: &mut Vec<Line>, line: Line) -> Result<(), AllocError>
 
 /// The fault of a place where no instruction is spelled.
 fn undecoded(at: usize) -> InsertFault
-    requires { at < 8192 }
+    requires { at < CODE_WORDS_MAX }
     ensures { result ≡ InsertFault.At InsertKind.NotDecoded (2 * at) }
 {
     InsertFault::At {
@@ -80,7 +81,7 @@ fn line_of(o: &Object, kinds: &[Option<RelKind>], spot: &Spot) -> Line
 /// The relocation of one of the words at a place, counted from 0, if there are so many.
 fn kind_within(kinds: &[Option<RelKind>], spot: &Spot, word: usize) -> Option<RelKind>
     requires within { spot.now.at + spot.now.words ≤ length kinds.now }
-    requires small { length kinds.now ≤ 8192 }
+    requires small { length kinds.now ≤ CODE_WORDS_MAX }
     requires one { word < 3 }
     ensures { result ≡ (if nat_lt word spot.now.words then slice_index_or kinds.now (spot.now.at + word) None else None) }
 {

@@ -1,12 +1,13 @@
 //! The places where source instructions start.
 
 ghost use Rattle.std.specs.Prelude.{◌<◌, ◌↔◌, IsTrue};
+ghost use Rattle.code_model.specs.declared.object.TheConstants.{CODE_WORDS_MAX};
 ghost use Rattle.code_model.specs.Starts.{AreStarts};
 ghost use Rattle.insert_model.specs.Faults.{IsStartOffset, IsJumpStart};
 ghost use Rattle.check_inserter.specs.Read.{StartsIn, AreWhole, IsSource};
 
 use code_model::marks::Marks;
-use code_model::object::Object;
+use code_model::object::{CODE_BYTES_MAX, Object};
 use insert_model::line::Line;
 use static_checker::marking::{jump_place, mark};
 
@@ -30,7 +31,7 @@ pub(crate) fn is_start_offset(o: &Object, starts: &Marks, word: u16) -> bool
     if word % 2 == 1 {
         return false;
     }
-    if 16384 <= word {
+    if CODE_BYTES_MAX <= word {
         return false;
     }
     starts.has(word)
@@ -39,7 +40,7 @@ pub(crate) fn is_start_offset(o: &Object, starts: &Marks, word: u16) -> bool
 /// Tells whether a jump at a place, with an offset in words from the place behind it, goes to a start.
 pub(crate) fn is_jump_start(o: &Object, starts: &Marks, at: usize, offset: i16) -> bool
     requires starts { AreStarts o.now.code starts.now }
-    requires within { at < 8192 }
+    requires within { at < CODE_WORDS_MAX }
     ensures { IsTrue result ↔ IsJumpStart o.now.code at offset }
 {
     match jump_place(at, offset) {

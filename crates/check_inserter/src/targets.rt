@@ -2,6 +2,7 @@
 
 ghost use Rattle.std.specs.Prelude.{◌≡◌, ◌≢◌, ℕ, ◌+◌, ◌<◌, ◌≤◌, ◌⊎◌, ◌↔◌, IsTrue, length, None, Some};
 ghost use Rattle.msp_encode.specs.Spelling.{src_words, dst_words};
+ghost use Rattle.code_model.specs.declared.object.TheConstants.{CODE_WORDS_MAX};
 ghost use Rattle.code_model.specs.Starts.{AreStarts};
 ghost use Rattle.code_model.specs.Rules.{IsJumpEntry, IsCallEntry};
 ghost use Rattle.insert_model.specs.Words.{count};
@@ -17,6 +18,7 @@ use code_model::object::Object;
 use code_model::parts::{Kind, RelKind};
 use insert_model::line::Line;
 use insert_model::piece::Piece;
+use kernel_model::entries::{EMITS, EXITS, LEAVE, STACK_FAULT, STORE_FAULT, TICKS};
 use msp_encode::instr::{Dst, Instr, Src};
 use static_checker::forms::{is_call, is_jmp, src_size};
 
@@ -41,7 +43,7 @@ pub(crate) fn goes_wrong(o: &Object, starts: &Marks, line: &Line) -> bool
 /// Tells whether a line is a jump to no start.
 fn jumps_amiss(o: &Object, starts: &Marks, line: &Line) -> bool
     requires starts { AreStarts o.now.code starts.now }
-    requires within { line.now.at < 8192 }
+    requires within { line.now.at < CODE_WORDS_MAX }
     ensures { IsTrue result ↔ JumpsAmiss o.now.code line.now.at line.now.instr }
 {
     match line.instr {
@@ -120,8 +122,8 @@ fn is_source_jump(kind: Kind, entry: u16) -> bool
     ensures { IsTrue result ↔ IsSourceJump kind entry }
 {
     match kind {
-        Kind::App => matches!(entry, 0xF000 | 0xF002),
-        Kind::Module => matches!(entry, 0xF000 | 0xF002 | 0xF026),
+        Kind::App => matches!(entry, STORE_FAULT | STACK_FAULT),
+        Kind::Module => matches!(entry, STORE_FAULT | STACK_FAULT | LEAVE),
     }
 }
 
@@ -130,8 +132,8 @@ fn is_source_call(kind: Kind, entry: u16) -> bool
     ensures { IsTrue result ↔ IsSourceCall kind entry }
 {
     match kind {
-        Kind::App => 0xF008 <= entry && entry <= 0xF024 && entry % 2 == 0,
-        Kind::Module => entry == 0xF014,
+        Kind::App => EXITS <= entry && entry <= EMITS && entry % 2 == 0,
+        Kind::Module => entry == TICKS,
     }
 }
 

@@ -5,6 +5,7 @@ ghost use Rattle.msp_encode.specs.Spelling.{SrcFits, DstFits, InstrFits, TakesWi
 ghost use Rattle.insert_model.specs.Words.{unit_words};
 ghost use Rattle.insert_model.specs.Units.{popping, setting_sp, writing, two_unit, changing, calling_value, calling, one_unit, target_offset, jump_unit, unit};
 ghost use Rattle.check_inserter.specs.Fitting.{AimFits};
+ghost use Rattle.code_model.specs.declared.object.TheConstants.{CODE_WORDS_MAX};
 
 use crate::guards::{
     branch, give_sp, growth_guard, jump, plain, pop_guard, pop_r4, sp_guard, store_guard, take_sp,
@@ -19,20 +20,16 @@ use code_model::parts::RelKind;
 use insert_model::aim::Aim;
 use insert_model::line::Line;
 use insert_model::piece::{Piece, Word};
+use kernel_model::entries::{CALLS, GOES};
 use msp_encode::instr::{Cond, Dst, Instr, Op1, Op2, Src, Width};
+use msp_encode::registers::CHECKED;
 use std::alloc::AllocError;
-
-/// The entry that jumps to R4.
-const JUMP_ENTRY: u16 = 0xF004;
-
-/// The entry that calls R4.
-const CALL_ENTRY: u16 = 0xF006;
 
 /// Appends the words of a line's unit, beside a static part of `size` bytes.
 #[tactic(auto, unfolding(insert_model::specs::Units::unit))]
 pub(crate) fn put_unit(out: &mut Vec<Word>, size: usize, line: &Line) -> Result<(), AllocError>
     requires fits { InstrFits line.now.instr }
-    requires within { line.now.at < 8192 }
+    requires within { line.now.at < CODE_WORDS_MAX }
     ensures { OnOk result (out.new.items ≡ out.old.items ++ unit_words (unit size line.now)) }
 {
     let piece = own(line);
@@ -93,7 +90,7 @@ fn put_popping(
     ensures { OnOk result (out.new.items ≡ out.old.items ++ unit_words (popping op width dst piece)) }
 {
     if is_pc(dst) {
-        put_both(out, &pop_guard(), &[pop_r4(), branch(JUMP_ENTRY, None)])
+        put_both(out, &pop_guard(), &[pop_r4(), branch(GOES, None)])
     } else if is_plain_pop(op, width, dst) {
         put_both(out, &pop_guard(), &[piece])
     } else {
@@ -128,7 +125,7 @@ fn put_writing(
                     out,
                     &[
                         into_r4(Op2::Mov, Width::Wide, src, piece.source),
-                        branch(JUMP_ENTRY, None),
+                        branch(GOES, None),
                     ],
                 )
             }
@@ -206,7 +203,7 @@ fn put_changing(
             &[plain(Instr::One {
                 op,
                 width,
-                src: Src::Indirect(4),
+                src: Src::Indirect(CHECKED),
             })],
         ),
         Aim::ToPc | Aim::ToSp | Aim::Elsewhere => put_pieces(out, &[piece]),
@@ -241,7 +238,7 @@ fn put_call_of_value(out: &mut Vec<Word>, src: Src, kind: Option<RelKind>) -> Re
         &[plain(Instr::One {
             op: Op1::Call,
             width: Width::Wide,
-            src: Src::Immediate(CALL_ENTRY),
+            src: Src::Immediate(CALLS),
         })],
     )?;
     Ok(())
@@ -260,7 +257,7 @@ fn put_jump(out: &mut Vec<Word>, offset: u16, cond: Cond) -> Result<(), AllocErr
 
 /// The offset that a jump at a place names, or 0 for one before the code.
 fn target_offset(at: usize, offset: i16) -> u16
-    requires place { at < 8192 }
+    requires place { at < CODE_WORDS_MAX }
     requires range { offset <ℤ pos 512 }
     ensures { result ≡ target_offset at offset }
 {

@@ -8,6 +8,7 @@ use Rattle.msp_encode.specs.declared.instr.Src.{Src}
 use Rattle.msp_encode.specs.declared.instr.Src.TheVariants as src
 use Rattle.code_model.specs.declared.object.Object.{Object}
 use Rattle.code_model.specs.declared.parts.Reloc.{Reloc}
+use Rattle.kernel_model.specs.declared.entries.TheConstants.{CALLS, EMITS, GOES, LEAVE, STACK_FAULT, STORE_FAULT, TICKS}
 use Rattle.kernel_model.specs.declared.kinds.Kind.{Kind}
 use Rattle.kernel_model.specs.declared.kinds.Kind.TheVariants.{App, Module}
 use Rattle.code_model.specs.declared.parts.RelKind.{RelKind}
@@ -147,8 +148,9 @@ offset-or-not o marks x a = from (cases_eq x (2 * (x / 2))) (unit-or-not o marks
     from (inr n) d = inr (λ h. n (omega (arith, h.2)))
 
 entry-or-not : (k : Kind) (x : ℕ) → Decided (IsJumpEntry k x)
-entry-or-not App x = either (cases_eq x 61440) (either (cases_eq x 61442) (cases_eq x 61444))
-entry-or-not Module x = either (cases_eq x 61440) (either (cases_eq x 61442) (either (cases_eq x 61444) (cases_eq x 61478)))
+entry-or-not App x = either (cases_eq x STORE_FAULT) (either (cases_eq x STACK_FAULT) (cases_eq x GOES))
+entry-or-not Module x =
+    either (cases_eq x STORE_FAULT) (either (cases_eq x STACK_FAULT) (either (cases_eq x GOES) (cases_eq x LEAVE)))
 
 at_most : (a b : ℕ) → Decided (a ≤ b)
 at_most a b = from (cases_lt b a)
@@ -158,8 +160,8 @@ at_most a b = from (cases_lt b a)
     from (inr h) = inl h
 
 call-entry-or-not : (k : Kind) (x : ℕ) → Decided (IsCallEntry k x)
-call-entry-or-not App x = all-three (at_most 61446 x) (at_most x 61476) (cases_eq (x % 2) 0)
-call-entry-or-not Module x = either (cases_eq x 61446) (cases_eq x 61460)
+call-entry-or-not App x = all-three (at_most CALLS x) (at_most x EMITS) (cases_eq (x % 2) 0)
+call-entry-or-not Module x = either (cases_eq x CALLS) (cases_eq x TICKS)
 
 pub branch-or-not : (o : Object) (marks : List ℕ) (at : ℕ) (s : Src) → IsAccepted o marks → Decided (IsBranchTarget o at s)
 branch-or-not o marks at (src.Immediate x) a = either (both (reloc-or-not o.relocs at Code) (offset-or-not o marks x a)) (both (unrelocated-or-not o.relocs at) (entry-or-not o.kind x))

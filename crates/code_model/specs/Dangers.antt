@@ -1,5 +1,6 @@
 -- Instructions that are dangerous outside of a guard.
 use Rattle.std.specs.Prelude.{ℕ, ◌+◌, ◌⊎◌, length}
+use Rattle.msp_encode.specs.declared.registers.TheConstants.{PC, SP, SR}
 use Rattle.msp_encode.specs.declared.instr.Src.{Src}
 use Rattle.msp_encode.specs.declared.instr.Src.TheVariants as src
 use Rattle.msp_encode.specs.declared.instr.Dst.{Dst}
@@ -41,18 +42,18 @@ IsStaticSrc o at _ = ⊥
 
 -- an absolute operand in the static part is written, and @SP+ isn't read
 abbrev pub IsStaticWrite : Object → ℕ → Instr → Type 0
-IsStaticWrite o at (instr.Two op w s d) = Writes op × IsStaticDst o (at + 1 + length (src_words s)) d × (Pops s 1 → ⊥)
+IsStaticWrite o at (instr.Two op w s d) = Writes op × IsStaticDst o (at + 1 + length (src_words s)) d × (Pops s SP → ⊥)
 IsStaticWrite o at (instr.One op w s) = Changes op × IsStaticSrc o (at + 1) s
 IsStaticWrite o at _ = ⊥
 
 -- what an instruction does that may be dangerous
 abbrev pub Acts : Instr → Type 0
-Acts i = WritesMemory i ⊎ (WritesAbsolute i ⊎ (WritesReg i 0 ⊎ (WritesReg i 1 ⊎ (WritesReg i 2 ⊎ (ReadsStack i ⊎ (IsPushOrCall i ⊎ IsReti i))))))
+Acts i = WritesMemory i ⊎ (WritesAbsolute i ⊎ (WritesReg i PC ⊎ (WritesReg i SP ⊎ (WritesReg i SR ⊎ (ReadsStack i ⊎ (IsPushOrCall i ⊎ IsReti i))))))
 
 pub record IsDangerous (o : Object) (at : ℕ) (i : Instr) : Type 0 where
   pub acts : Acts i
   pub no_branch : IsGoodBranch o at i → ⊥
-  pub no_flags : ChangesFlags o at i × WritesReg i 2 → ⊥
+  pub no_flags : ChangesFlags o at i × WritesReg i SR → ⊥
   pub no_static : IsStaticWrite o at i → ⊥
 
 -- each start whose instruction is dangerous is interior

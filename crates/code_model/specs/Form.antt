@@ -2,6 +2,7 @@
 use Rattle.std.specs.Prelude.{◌≡◌, ℕ, ◌+◌, ◌*◌, ◌%◌, ◌<◌, ◌≤◌, List, length, true, false, slice_index, slice_index_or, if◌then◌else◌}
 use Rattle.kernel_model.specs.declared.kinds.Kind.{Kind}
 use Rattle.kernel_model.specs.declared.kinds.Kind.TheVariants.{App, Module}
+use Rattle.code_model.specs.declared.object.TheConstants.{CODE_WORDS_MAX, RELOCS_MAX, STATIC_BYTES_MAX}
 use Rattle.code_model.specs.declared.parts.RelKind.{RelKind}
 use Rattle.code_model.specs.declared.parts.RelKind.TheVariants.{Code, Data, Lo, Hi}
 use Rattle.code_model.specs.declared.parts.Reloc.{Reloc}
@@ -60,11 +61,11 @@ pub record MeetsForm (kind : Kind) (version : ℕ) (code init : List ℕ) (zeroe
   pub version_least : 1 ≤ version
   pub version_most : version ≤ 2
   pub code_least : 1 ≤ length code
-  pub code_most : length code ≤ 8192
-  pub static_most : length init + zeroed ≤ 16384
+  pub code_most : length code ≤ CODE_WORDS_MAX
+  pub static_most : length init + zeroed ≤ STATIC_BYTES_MAX
   pub app : kind ≡ App → AppForm code stack threads entry exports
   pub of_module : kind ≡ Module → ModuleForm stack threads entry exports
-  pub relocs_most : length relocs ≤ 16384
+  pub relocs_most : length relocs ≤ RELOCS_MAX
   pub relocs_fit : (k : ℕ) (d : Reloc) → k < length relocs → RelocFits code init (slice_index_or relocs k d)
   pub relocs_rise : InOrder relocs
   pub exports_fit : (k : ℕ) (d : Export) → k < length exports → IsInCode code (slice_index_or exports k d).offset

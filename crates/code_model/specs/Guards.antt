@@ -1,5 +1,6 @@
 -- The guards: a guard is a fixed group of words just before the instruction that it guards, or before up to four of them.
 use Rattle.std.specs.Prelude.{◌≡◌, ℕ, zero, suc, ◌+◌, ◌*◌, ◌/◌, ◌%◌, ◌<◌, ◌≤◌, ◌⊎◌, ◌↔◌, List, [], ◌∷◌, length, slice_index}
+use Rattle.msp_encode.specs.declared.registers.TheConstants.{CHECKED, SP}
 use Rattle.msp_encode.specs.declared.instr.Op2.{Op2}
 use Rattle.msp_encode.specs.declared.instr.Op2.TheVariants.{Mov, Cmp, Bit}
 use Rattle.msp_encode.specs.declared.instr.Op1.{Op1}
@@ -21,6 +22,8 @@ use Rattle.code_model.specs.declared.guards.GuardKind.{GuardKind}
 use Rattle.code_model.specs.declared.guards.GuardKind.TheVariants as guard
 use Rattle.code_model.specs.declared.guards.Slot.{Slot}
 use Rattle.code_model.specs.declared.guards.Slot.TheVariants as slot
+use Rattle.kernel_model.specs.declared.map.TheConstants.{STACK_LIMIT, STACK_TOP}
+use Rattle.kernel_model.specs.declared.entries.TheConstants.{STACK_FAULT, STORE_FAULT}
 use Rattle.kernel_model.specs.Bitmap.{Has}
 use Rattle.code_model.specs.Starts.{Stands, Start}
 use Rattle.code_model.specs.Relocs.{HasReloc, Unrelocated}
@@ -42,18 +45,18 @@ high_word reach.Six = 0xFFFA
 -- the words of a guard that keeps an address in the region
 abbrev pub region_slots : ℕ → List Slot
 region_slots high = slot.Word 0x4205 ∷ slot.Load ∷ slot.Word 0x5034 ∷ slot.Free ∷ slot.Word 0x9034 ∷ slot.Low ∷ slot.Word 0x2803
-    ∷ slot.Word 0x9034 ∷ slot.High high ∷ slot.Word 0x2802 ∷ slot.Word 0x4030 ∷ slot.Word 0xF000 ∷ slot.Word 0x4502 ∷ []
+    ∷ slot.Word 0x9034 ∷ slot.High high ∷ slot.Word 0x2802 ∷ slot.Word 0x4030 ∷ slot.Word STORE_FAULT ∷ slot.Word 0x4502 ∷ []
 
 abbrev pub guard_words : GuardKind → List Slot
 guard_words guard.Store = region_slots 0
 guard_words (guard.Wide r) = region_slots (high_word r)
 guard_words guard.Load = region_slots 0
-guard_words guard.Growth = slot.Word 0x4205 ∷ slot.Word 0x9211 ∷ slot.Word 0x0200 ∷ slot.Word 0x2C02
-    ∷ slot.Word 0x4030 ∷ slot.Word 0xF002 ∷ slot.Word 0x4502 ∷ []
-guard_words guard.Pop = slot.Word 0x4205 ∷ slot.Word 0x9182 ∷ slot.Word 0x0202 ∷ slot.Word 0x2002
-    ∷ slot.Word 0x4030 ∷ slot.Word 0xF002 ∷ slot.Word 0x4502 ∷ []
-guard_words guard.Sp = slot.Word 0x4205 ∷ slot.Word 0x9214 ∷ slot.Word 0x0200 ∷ slot.Word 0x2803
-    ∷ slot.Word 0x9482 ∷ slot.Word 0x0202 ∷ slot.Word 0x2C02 ∷ slot.Word 0x4030 ∷ slot.Word 0xF002 ∷ slot.Word 0x4502 ∷ []
+guard_words guard.Growth = slot.Word 0x4205 ∷ slot.Word 0x9211 ∷ slot.Word STACK_LIMIT ∷ slot.Word 0x2C02
+    ∷ slot.Word 0x4030 ∷ slot.Word STACK_FAULT ∷ slot.Word 0x4502 ∷ []
+guard_words guard.Pop = slot.Word 0x4205 ∷ slot.Word 0x9182 ∷ slot.Word STACK_TOP ∷ slot.Word 0x2002
+    ∷ slot.Word 0x4030 ∷ slot.Word STACK_FAULT ∷ slot.Word 0x4502 ∷ []
+guard_words guard.Sp = slot.Word 0x4205 ∷ slot.Word 0x9214 ∷ slot.Word STACK_LIMIT ∷ slot.Word 0x2803
+    ∷ slot.Word 0x9482 ∷ slot.Word STACK_TOP ∷ slot.Word 0x2C02 ∷ slot.Word 0x4030 ∷ slot.Word STACK_FAULT ∷ slot.Word 0x4502 ∷ []
 
 -- 4n04 for n 1 or 3 to 15, a MOV of a register or of 0 into R4
 abbrev pub IsLoad : ℕ → Type 0
@@ -116,15 +119,15 @@ Pops _ r = ⊥
 
 -- the source is neither @R4+ nor @SP+
 abbrev pub IsQuiet : Src → Type 0
-IsQuiet s = (Pops s 4 → ⊥) × (Pops s 1 → ⊥)
+IsQuiet s = (Pops s CHECKED → ⊥) × (Pops s SP → ⊥)
 
 -- the destination is 0(R4), and its word, at this place, isn't relocated
 abbrev pub IsPlainStore : Object → ℕ → Dst → Type 0
-IsPlainStore o at (dst.Indexed n x) = (n ≡ 4) × (x ≡ 0) × Unrelocated o.relocs at
+IsPlainStore o at (dst.Indexed n x) = (n ≡ CHECKED) × (x ≡ 0) × Unrelocated o.relocs at
 IsPlainStore o at _ = ⊥
 
 abbrev pub IsAtR4 : Src → Type 0
-IsAtR4 (src.Indirect n) = n ≡ 4
+IsAtR4 (src.Indirect n) = n ≡ CHECKED
 IsAtR4 _ = ⊥
 
 abbrev pub IsHigh : Dst → Type 0
@@ -141,16 +144,16 @@ IsGrowthForm (instr.One op w s) = Stacks op × IsQuiet s
 IsGrowthForm _ = ⊥
 
 abbrev pub IsPopForm : Instr → Type 0
-IsPopForm (instr.Two op w s d) = IsMov op × IsWide w × Pops s 1 × IsHigh d
+IsPopForm (instr.Two op w s d) = IsMov op × IsWide w × Pops s SP × IsHigh d
 IsPopForm _ = ⊥
 
 abbrev pub IsSpForm : Instr → Type 0
-IsSpForm (instr.Two op w s d) = IsMov op × IsWide w × SrcIs s 4 × DstIs d 1
+IsSpForm (instr.Two op w s d) = IsMov op × IsWide w × SrcIs s CHECKED × DstIs d SP
 IsSpForm _ = ⊥
 
 -- the destination is x(R4), where x is even and at most so many bytes, and its word, at this place, isn't relocated
 abbrev pub IsNearStore : ℕ → Object → ℕ → Dst → Type 0
-IsNearStore most o at (dst.Indexed n x) = (n ≡ 4) × (x % 2 ≡ 0) × (x ≤ most) × Unrelocated o.relocs at
+IsNearStore most o at (dst.Indexed n x) = (n ≡ CHECKED) × (x % 2 ≡ 0) × (x ≤ most) × Unrelocated o.relocs at
 IsNearStore most o at _ = ⊥
 
 abbrev pub IsWideForm : ℕ → Object → ℕ → Instr → Type 0
@@ -165,7 +168,7 @@ IsOwnDst o at _ = ⊥
 
 -- @R4, or @Rn+ of the register whose value the guard that begins at this place takes as the address
 abbrev pub IsLoadSrc : Object → ℕ → Src → Type 0
-IsLoadSrc o first (src.Indirect n) = n ≡ 4
+IsLoadSrc o first (src.Indirect n) = n ≡ CHECKED
 IsLoadSrc o first (src.AutoInc n) = (6 ≤ n) × (n ≤ 15) × (slice_index o.code (first + 1) ≡ 0x4004 + 256 * n) × (slice_index o.code (first + 3) ≡ 0) × Unrelocated o.relocs (first + 3)
 IsLoadSrc o first _ = ⊥
 

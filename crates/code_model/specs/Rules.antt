@@ -1,6 +1,7 @@
 -- What each rule refuses.
 use Rattle.std.specs.Prelude.{◌≡◌, ℕ, ◌+◌, ◌*◌, ◌/◌, ◌%◌, ◌<◌, ◌≤◌, ◌⊎◌, List, length, ℤ, pos, ◌+ℤ◌, bit_and}
 use Rattle.std.specs.List.{Contains}
+use Rattle.msp_encode.specs.declared.registers.TheConstants.{PC, SP, SR}
 use Rattle.msp_encode.specs.declared.instr.Op2.{Op2}
 use Rattle.msp_encode.specs.declared.instr.Op2.TheVariants.{Bic, Bis}
 use Rattle.msp_encode.specs.declared.instr.Op1.{Op1}
@@ -18,6 +19,7 @@ use Rattle.msp_encode.specs.declared.instr.Instr.TheVariants as instr
 use Rattle.msp_encode.specs.Spelling.{src_words}
 use Rattle.code_model.specs.declared.object.Object.{Object}
 use Rattle.code_model.specs.declared.parts.Export.{Export}
+use Rattle.kernel_model.specs.declared.entries.TheConstants.{CALLS, EMITS, GOES, LEAVE, STACK_FAULT, STORE_FAULT, TICKS}
 use Rattle.kernel_model.specs.declared.kinds.Kind.{Kind}
 use Rattle.kernel_model.specs.declared.kinds.Kind.TheVariants.{App, Module}
 use Rattle.code_model.specs.declared.parts.RelKind.{RelKind}
@@ -65,7 +67,7 @@ IsImmediate _ = ⊥
 
 -- `MOV #imm,PC`, whose first word is 4030
 abbrev pub IsBranch : Instr → Type 0
-IsBranch (instr.Two op w s d) = IsMov op × IsWide w × IsImmediate s × DstIs d 0
+IsBranch (instr.Two op w s d) = IsMov op × IsWide w × IsImmediate s × DstIs d PC
 IsBranch _ = ⊥
 
 abbrev pub const_value : Cg → ℕ
@@ -129,8 +131,8 @@ WritesWild o at _ = ⊥
 
 -- @SP+ is read
 abbrev pub ReadsStack : Instr → Type 0
-ReadsStack (instr.Two op w s d) = Pops s 1
-ReadsStack (instr.One op w s) = Pops s 1
+ReadsStack (instr.Two op w s d) = Pops s SP
+ReadsStack (instr.One op w s) = Pops s SP
 ReadsStack _ = ⊥
 
 abbrev pub IsPushOrCall : Instr → Type 0
@@ -140,13 +142,13 @@ IsPushOrCall _ = ⊥
 -- ---- targets
 
 abbrev pub IsJumpEntry : Kind → ℕ → Type 0
-IsJumpEntry App x = (x ≡ 0xF000) ⊎ ((x ≡ 0xF002) ⊎ (x ≡ 0xF004))
-IsJumpEntry Module x = (x ≡ 0xF000) ⊎ ((x ≡ 0xF002) ⊎ ((x ≡ 0xF004) ⊎ (x ≡ 0xF026)))
+IsJumpEntry App x = (x ≡ STORE_FAULT) ⊎ ((x ≡ STACK_FAULT) ⊎ (x ≡ GOES))
+IsJumpEntry Module x = (x ≡ STORE_FAULT) ⊎ ((x ≡ STACK_FAULT) ⊎ ((x ≡ GOES) ⊎ (x ≡ LEAVE)))
 
 -- for an application F006, F008 and so on up to F024
 abbrev pub IsCallEntry : Kind → ℕ → Type 0
-IsCallEntry App x = (0xF006 ≤ x) × (x ≤ 0xF024) × (x % 2 ≡ 0)
-IsCallEntry Module x = (x ≡ 0xF006) ⊎ (x ≡ 0xF014)
+IsCallEntry App x = (CALLS ≤ x) × (x ≤ EMITS) × (x % 2 ≡ 0)
+IsCallEntry Module x = (x ≡ CALLS) ⊎ (x ≡ TICKS)
 
 unfoldable pub IsUnitOffset : Object → ℕ → Type 0
 IsUnitOffset o x = (t : ℕ) × UnitStart o t × (x ≡ 2 * t)
@@ -239,9 +241,9 @@ IsGuardedStore o at = (g : GuardKind) × (KeepsStores g × Guarded o at g)
 -- an instruction of n words at a place breaks the rule
 abbrev pub Breaks : Rule → Object → ℕ → Instr → ℕ → Type 0
 Breaks rule.Reti o at i n = IsReti i
-Breaks rule.Pc o at i n = WritesReg i 0 × (IsBranch i → ⊥)
-Breaks rule.Sp o at i n = WritesReg i 1 × (Guarded o at guard.Sp → ⊥)
-Breaks rule.Sr o at i n = WritesReg i 2 × (ChangesFlags o at i → ⊥)
+Breaks rule.Pc o at i n = WritesReg i PC × (IsBranch i → ⊥)
+Breaks rule.Sp o at i n = WritesReg i SP × (Guarded o at guard.Sp → ⊥)
+Breaks rule.Sr o at i n = WritesReg i SR × (ChangesFlags o at i → ⊥)
 Breaks rule.Store o at i n = WritesMemory i × (IsGuardedStore o at → ⊥)
 Breaks rule.Static o at i n = WritesWild o at i
 Breaks rule.Pop o at i n = ReadsStack i × (Guarded o at guard.Pop → ⊥)

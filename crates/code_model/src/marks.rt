@@ -3,6 +3,7 @@
 ghost use Rattle.std.specs.Prelude.{◌≡◌, ◌≢◌, ℕ, ◌+◌, ◌*◌, ◌/◌, ◌%◌, ◌^◌, ◌<◌, ◌↔◌, IsTrue, List, length, replicate};
 ghost use Rattle.std.specs.Int.{bit_at};
 ghost use Rattle.kernel_model.specs.Bitmap.{Has};
+ghost use Rattle.code_model.specs.declared.object.TheConstants.{CODE_BYTES_MAX};
 ghost use Rattle.code_model.specs.Marks.{AreMarks};
 
 use std::marker::Model;
@@ -31,7 +32,7 @@ impl Marks {
     /// Marks the word at an offset in bytes.
     pub fn set(&mut self, offset: u16)
         requires even { offset % 2 ≡ 0 }
-        requires below { offset < 16384 }
+        requires below { offset < CODE_BYTES_MAX }
         ensures marked { Has self.new (offset / 2) }
         ensures others { (k : ℕ) → k ≢ offset / 2 → Has self.new k ↔ Has self.old k }
     {
@@ -43,7 +44,7 @@ impl Marks {
     /// Tells whether the word at an offset in bytes is marked.
     pub fn has(&self, offset: u16) -> bool
         requires even { offset % 2 ≡ 0 }
-        requires below { offset < 16384 }
+        requires below { offset < CODE_BYTES_MAX }
         ensures { IsTrue result ↔ Has self.now (offset / 2) }
     {
         let word = usize::from(offset / 2);

@@ -10,6 +10,9 @@ use edge_io::lists::Bytes;
 /// The largest number of code words.
 pub const CODE_WORDS_MAX: usize = 8192;
 
+/// The largest number of bytes of code, two for each word.
+pub const CODE_BYTES_MAX: u16 = 16384;
+
 /// The largest static part, initialised and zeroed bytes together.
 pub const STATIC_BYTES_MAX: usize = 16384;
 
@@ -41,7 +44,7 @@ impl Object {
     /// The bytes of the static part, initialised and zeroed together, rounded up to even.
     pub fn static_bytes(&self) -> u16
         ensures size { result ≡ (length self.now.init + self.now.zeroed + 1) / 2 * 2 }
-        ensures most { result ≤ 16384 }
+        ensures most { result ≤ STATIC_BYTES_MAX }
     {
         (self.init.len() as u16 + self.zeroed + 1) / 2 * 2
     }

@@ -8,6 +8,7 @@ use Rattle.msp_encode.specs.declared.instr.Src.TheVariants as src
 use Rattle.msp_encode.specs.declared.instr.Dst.TheVariants as dst
 use Rattle.msp_encode.specs.declared.instr.Instr.{Instr}
 use Rattle.msp_encode.specs.declared.instr.Instr.TheVariants as instr
+use Rattle.kernel_model.specs.declared.entries.TheConstants.{STACK_FAULT, STORE_FAULT}
 use Rattle.kernel_model.specs.declared.kinds.Kind.{Kind}
 use Rattle.kernel_model.specs.declared.kinds.Kind.TheVariants.{App, Module}
 use Rattle.code_model.specs.declared.parts.RelKind.TheVariants.{Lo, Hi}
@@ -101,11 +102,11 @@ served-leads d low top m q guarded k of h e is ends same t =
       inside = silent-inside d low top e.written t.silent;
     }
 
-store-entry : (k : Kind) (x : ℕ) → x ≡ 61440 → IsJumpEntry k x
+store-entry : (k : Kind) (x : ℕ) → x ≡ STORE_FAULT → IsJumpEntry k x
 store-entry App x e = inl e
 store-entry Module x e = inl e
 
-stack-entry : (k : Kind) (x : ℕ) → x ≡ 61442 → IsJumpEntry k x
+stack-entry : (k : Kind) (x : ℕ) → x ≡ STACK_FAULT → IsJumpEntry k x
 stack-entry App x e = inr (inl e)
 stack-entry Module x e = inr (inl e)
 
@@ -137,17 +138,17 @@ next-leads d low top m JumpsIfLow guarded k of h e t same (inr n) = goes-leads d
 next-leads d low top m ComparesHigh guarded k of h e t same n = goes-leads d low top m JumpsIfHigh guarded k of h e refl (λ r load has st. same r load tt st) n
 next-leads d low top m JumpsIfHigh guarded k of h e t same (inl n) = goes-leads d low top m StoreFails guarded k of h e refl (λ r load has st. absurd has) n
 next-leads d low top m JumpsIfHigh guarded k of h e t same (inr n) = goes-leads d low top m StoreRestores guarded k of h e refl (λ r load has st. same r load tt st) n
-next-leads d low top m StoreFails guarded k of h e t same n = faults-leads d low top 61440 e k (store-entry d.object.kind (reg e.context 0)) n
+next-leads d low top m StoreFails guarded k of h e t same n = faults-leads d low top STORE_FAULT e k (store-entry d.object.kind (reg e.context 0)) n
 next-leads d low top m StoreRestores guarded k of h e t same n = served-leads d low top m Stores guarded k of h e (λ f x. refl) refl (λ r load has st. same r load tt st) n
 next-leads d low top m ComparesLimit guarded k of h e t same n = goes-leads d low top m JumpsIfRoom guarded k of h e refl (λ r load has st. absurd has) n
 next-leads d low top m JumpsIfRoom guarded k of h e t same (inl n) = goes-leads d low top m GrowthFails guarded k of h e refl (λ r load has st. absurd has) n
 next-leads d low top m JumpsIfRoom guarded k of h e t same (inr n) = goes-leads d low top m GrowthRestores guarded k of h e refl (λ r load has st. absurd has) n
-next-leads d low top m GrowthFails guarded k of h e t same n = faults-leads d low top 61442 e k (stack-entry d.object.kind (reg e.context 0)) n
+next-leads d low top m GrowthFails guarded k of h e t same n = faults-leads d low top STACK_FAULT e k (stack-entry d.object.kind (reg e.context 0)) n
 next-leads d low top m GrowthRestores guarded k of h e t same n = served-leads d low top m Grows guarded k of h e (λ f x. refl) refl (λ r load has st. absurd has) n
 next-leads d low top m ComparesTop guarded k of h e t same n = goes-leads d low top m JumpsIfFilled guarded k of h e refl (λ r load has st. absurd has) n
 next-leads d low top m JumpsIfFilled guarded k of h e t same (inl n) = goes-leads d low top m PopFails guarded k of h e refl (λ r load has st. absurd has) n
 next-leads d low top m JumpsIfFilled guarded k of h e t same (inr n) = goes-leads d low top m PopRestores guarded k of h e refl (λ r load has st. absurd has) n
-next-leads d low top m PopFails guarded k of h e t same n = faults-leads d low top 61442 e k (stack-entry d.object.kind (reg e.context 0)) n
+next-leads d low top m PopFails guarded k of h e t same n = faults-leads d low top STACK_FAULT e k (stack-entry d.object.kind (reg e.context 0)) n
 next-leads d low top m PopRestores guarded k of h e t same n = served-leads d low top m Pops guarded k of h e (λ f x. refl) refl (λ r load has st. absurd has) n
 next-leads d low top m ComparesNewLow guarded k of h e t same n = goes-leads d low top m JumpsIfNewLow guarded k of h e refl (λ r load has st. absurd has) n
 next-leads d low top m JumpsIfNewLow guarded k of h e t same (inl n) = goes-leads d low top m SpFails guarded k of h e refl (λ r load has st. absurd has) n
@@ -155,7 +156,7 @@ next-leads d low top m JumpsIfNewLow guarded k of h e t same (inr n) = goes-lead
 next-leads d low top m ComparesNewHigh guarded k of h e t same n = goes-leads d low top m JumpsIfNewHigh guarded k of h e refl (λ r load has st. absurd has) n
 next-leads d low top m JumpsIfNewHigh guarded k of h e t same (inl n) = goes-leads d low top m SpFails guarded k of h e refl (λ r load has st. absurd has) n
 next-leads d low top m JumpsIfNewHigh guarded k of h e t same (inr n) = goes-leads d low top m SpRestores guarded k of h e refl (λ r load has st. absurd has) n
-next-leads d low top m SpFails guarded k of h e t same n = faults-leads d low top 61442 e k (stack-entry d.object.kind (reg e.context 0)) n
+next-leads d low top m SpFails guarded k of h e t same n = faults-leads d low top STACK_FAULT e k (stack-entry d.object.kind (reg e.context 0)) n
 next-leads d low top m SpRestores guarded k of h e t same n = served-leads d low top m SetsSp guarded k of h e (λ f x. refl) refl (λ r load has st. absurd has) n
 next-leads d low top m Stores guarded k of h e t same n = absurd t
 next-leads d low top m Grows guarded k of h e t same n = absurd t

@@ -1,5 +1,6 @@
 -- A step of accepted code.
 use Rattle.std.proofs.Common.{◌≡◌, ℕ, ◌+◌, ◌≤◌, List, refl, inl, inr, arith}
+use Rattle.kernel_model.specs.declared.entries.TheConstants.{FIRST_ENTRY}
 use Rattle.kernel_model.specs.declared.kinds.Kind.{Kind}
 use Rattle.kernel_model.specs.declared.kinds.Kind.TheVariants.{App, Module}
 use Rattle.code_model.specs.declared.guards.Reach.{Reach}
@@ -221,7 +222,7 @@ guard-law l guard.Growth = l.growth
 guard-law l guard.Pop = l.pop
 guard-law l guard.Sp = l.sp
 
-pub jump-entry-high : (k : Kind) (x : ℕ) → IsJumpEntry k x → 61440 ≤ x
+pub jump-entry-high : (k : Kind) (x : ℕ) → IsJumpEntry k x → FIRST_ENTRY ≤ x
 jump-entry-high App x (inl e) = omega arith
 jump-entry-high App x (inr (inl e)) = omega arith
 jump-entry-high App x (inr (inr e)) = omega arith
@@ -230,7 +231,7 @@ jump-entry-high Module x (inr (inl e)) = omega arith
 jump-entry-high Module x (inr (inr (inl e))) = omega arith
 jump-entry-high Module x (inr (inr (inr e))) = omega arith
 
-pub call-entry-high : (k : Kind) (x : ℕ) → IsCallEntry k x → 61440 ≤ x
+pub call-entry-high : (k : Kind) (x : ℕ) → IsCallEntry k x → FIRST_ENTRY ≤ x
 call-entry-high App x h = omega (arith, h.0)
 call-entry-high Module x (inl e) = omega arith
 call-entry-high Module x (inr e) = omega arith

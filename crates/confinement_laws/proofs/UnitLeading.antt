@@ -14,6 +14,7 @@ use Rattle.msp_encode.specs.declared.instr.Cond.{Cond}
 use Rattle.msp_encode.specs.declared.instr.Cond.TheVariants.{Always}
 use Rattle.msp_encode.specs.declared.instr.Instr.{Instr}
 use Rattle.msp_encode.specs.declared.instr.Instr.TheVariants as instr
+use Rattle.kernel_model.specs.declared.map.TheConstants.{CODE_POOL_END}
 use Rattle.kernel_model.specs.declared.kinds.Kind.{Kind}
 use Rattle.kernel_model.specs.declared.kinds.Kind.TheVariants.{App, Module}
 use Rattle.code_model.specs.declared.parts.RelKind.TheVariants.{Code}
@@ -169,7 +170,7 @@ branch-leads branch-goes d low top m c at x n k s st b h (inr t) =
 
 -- ---- jumps
 
-target-address : (d : Domain) (at t : ℕ) (k : ℤ) → d.code_lo + 2 * at < 57344 → d.code_lo + 2 * t < 57344 → pos t ≡ pos (at + 1) +ℤ k → target (address d at) k ≡ address d t
+target-address : (d : Domain) (at t : ℕ) (k : ℤ) → d.code_lo + 2 * at < CODE_POOL_END → d.code_lo + 2 * t < CODE_POOL_END → pos t ≡ pos (at + 1) +ℤ k → target (address d at) k ≡ address d t
 target-address d at t (pos j) h l e = forward (omega (arith, ints))
   where
     forward : t ≡ at + 1 + j → target (address d at) (pos j) ≡ address d t

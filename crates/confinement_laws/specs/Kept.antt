@@ -10,6 +10,7 @@ use Rattle.machine_laws.specs.Writes.{SamePart}
 use Rattle.load_model.specs.Domains.{Domain}
 use Rattle.node_model.specs.Placed.{IsWellPlaced, CodeStands, StandsIn}
 use Rattle.node_model.specs.Instructions.{Inside}
+use Rattle.kernel_model.specs.declared.map.TheConstants.{DATA_POOL_END, KERNEL_STACK}
 
 -- code stands as long as its bytes are the same
 abbrev pub CodeLaw : Type 0
@@ -17,7 +18,7 @@ CodeLaw = (d : Domain) (m n : List ℕ) → IsWellPlaced d → SamePart d.code_l
 
 -- writes inside of a domain's region and stack leave the code of each domain
 abbrev pub CodeLeftLaw : Type 0
-CodeLeftLaw = (d e : Domain) (low top : ℕ) (m : List ℕ) (ws : List (ℕ × ℕ)) → IsWellPlaced d → IsWellPlaced e → top ≤ 0x6000
+CodeLeftLaw = (d e : Domain) (low top : ℕ) (m : List ℕ) (ws : List (ℕ × ℕ)) → IsWellPlaced d → IsWellPlaced e → top ≤ DATA_POOL_END
     → AllByRecursion (Inside d low top) ws → CodeStands e m → CodeStands e (put_all m ws)
 
 -- they leave each part that is apart from both
@@ -27,10 +28,10 @@ PartLeftLaw = (d : Domain) (low top from to : ℕ) (m : List ℕ) (ws : List (�
 
 -- they leave the words for the current limit and the current top
 abbrev pub LimitsLeftLaw : Type 0
-LimitsLeftLaw = (d : Domain) (low top from to : ℕ) (m : List ℕ) (ws : List (ℕ × ℕ)) → IsWellPlaced d → 0x1000 ≤ low
+LimitsLeftLaw = (d : Domain) (low top from to : ℕ) (m : List ℕ) (ws : List (ℕ × ℕ)) → IsWellPlaced d → KERNEL_STACK ≤ low
     → AllByRecursion (Inside d low top) ws → Limits m from to → Limits (put_all m ws) from to
 
 -- behind an instruction that wrote inside of a domain's region and stack each domain still stands
 abbrev pub StandsLeftLaw : Type 0
-StandsLeftLaw = (d e : Domain) (low top : ℕ) (m c : List ℕ) (i : Instr) (n : ℕ) → IsWellPlaced d → top ≤ 0x6000 → IsContext c
+StandsLeftLaw = (d e : Domain) (low top : ℕ) (m c : List ℕ) (i : Instr) (n : ℕ) → IsWellPlaced d → top ≤ DATA_POOL_END → IsContext c
     → AllByRecursion (Inside d low top) (does m c i n).written → StandsIn e m → StandsIn e (memory_after m (does m c i n))

@@ -11,6 +11,7 @@ use Rattle.msp_encode.specs.declared.instr.Dst.TheVariants as dst
 use Rattle.msp_encode.specs.declared.instr.Instr.{Instr}
 use Rattle.msp_encode.specs.declared.instr.Instr.TheVariants as instr
 use Rattle.code_model.specs.declared.object.Object.{Object}
+use Rattle.kernel_model.specs.declared.entries.TheConstants.{EMITS}
 use Rattle.kernel_model.specs.declared.kinds.Kind.{Kind}
 use Rattle.kernel_model.specs.declared.kinds.Kind.TheVariants.{App}
 use Rattle.code_model.specs.declared.parts.RelKind.{RelKind}
@@ -134,11 +135,11 @@ module _ (o : Object) (at : ℕ) where
     lands = neither (λ h. h (at + 2, start, omega (arith, ints))) (neither no (neither no (λ h. omega (arith, h.0))));
   }
 
-  emits : (k : Kind) → k ≡ App → IsSourceCall k 0xF024
-  emits k e = subst (λ (j : Kind). IsSourceCall j 0xF024) (sym e) ((omega arith, omega arith, omega arith), λ f. omega arith)
+  emits : (k : Kind) → k ≡ App → IsSourceCall k EMITS
+  emits k e = subst (λ (j : Kind). IsSourceCall j EMITS) (sym e) ((omega arith, omega arith, omega arith), λ f. omega arith)
 
   -- a call of the kernel's entry `emit`
-  pub emit_clean : o.kind ≡ App → at + 2 < length o.code → IsCleanLine o (line_of at (instr.One Call Wide (src.Immediate 0xF024)) None)
+  pub emit_clean : o.kind ≡ App → at + 2 < length o.code → IsCleanLine o (line_of at (instr.One Call Wide (src.Immediate EMITS)) None)
   emit_clean app inside = record {
     fits = (tt, tt, tt);
     free = no;

@@ -29,6 +29,7 @@ use Rattle.gen_model.specs.Generated as gen
 use Rattle.gen_laws.specs.Instructions.{instrs, all_instrs, IsFree, Suits, AllSuit}
 use Rattle.gen_laws.proofs.CleanBlocks.{lines_for}
 use Rattle.gen_laws.proofs.MadeLines.{lines_apart}
+use Rattle.kernel_model.specs.declared.entries.TheConstants.{EMITS}
 
 -- ---- one instruction
 
@@ -102,7 +103,7 @@ module _ (size : ℕ) (relocs : List Reloc) where
   unfolding grown unit line_at unit_words piece_words
   skip_grown at = refl
 
-  emit_grown : (at : ℕ) → grown size (line_at relocs at (instr.One Call Wide (src.Immediate 0xF024))) ≡ 9
+  emit_grown : (at : ℕ) → grown size (line_at relocs at (instr.One Call Wide (src.Immediate EMITS))) ≡ 9
   unfolding grown unit line_at unit_words piece_words
   emit_grown at = refl
 
@@ -156,7 +157,7 @@ module _ (size : ℕ) (relocs : List Reloc) where
   block_grown at (block.Emit from) s =
       omega (
         arith,
-        two_lines (line_at relocs at (instr.Two Mov Wide (src.Reg from) (dst.Reg 12))) (line_at relocs (at + 1) (instr.One Call Wide (src.Immediate 0xF024))),
+        two_lines (line_at relocs at (instr.Two Mov Wide (src.Reg from) (dst.Reg 12))) (line_at relocs (at + 1) (instr.One Call Wide (src.Immediate EMITS))),
         registers_grown at Mov from 12 refl (record { least = omega arith; most = omega arith }),
         emit_grown (at + 1),
       )

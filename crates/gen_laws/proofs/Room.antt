@@ -1,10 +1,11 @@
 -- A generated object with its guards has room where there is no other.
-use Rattle.std.proofs.Common.{◌≡◌, ℕ, ◌+◌, ◌*◌, ◌/◌, ◌≤◌, ◌==◌, nat_le, if◌then◌else◌, Bool, true, false, List, [], ◌∷◌, length, Option, Result, Ok, Err, refl, ap, ◌∙◌, arith, rules}
+use Rattle.std.proofs.Common.{◌≡◌, ℕ, ◌+◌, ◌-◌, ◌*◌, ◌/◌, ◌≤◌, ◌==◌, nat_le, if◌then◌else◌, Bool, true, false, List, [], ◌∷◌, length, Option, Result, Ok, Err, refl, ap, ◌∙◌, arith, rules}
 use Rattle.std.specs.List.{fold}
 use Rattle.code_model.specs.declared.object.Object.{Object}
 use Rattle.code_model.specs.declared.parts.Export.{Export}
 use Rattle.code_model.specs.declared.parts.Reloc.{Reloc}
 use Rattle.code_model.specs.Fields.{Fields, fields}
+use Rattle.kernel_model.specs.declared.map.TheConstants.{CODE_POOL, CODE_POOL_END, DATA_POOL, DATA_POOL_END}
 use Rattle.kernel_model.specs.declared.kinds.Kind.{Kind}
 use Rattle.kernel_model.specs.declared.kinds.Kind.TheVariants.{App}
 use Rattle.kernel_model.specs.Layout.{empty}
@@ -40,8 +41,8 @@ guarded_region n = rw (no_data (place_map (generated n)) (relocs_from 0 (blocks 
 record IsSmall (q : Object) : Type 0 where
   app : q.kind ≡ App
   no_exports : q.exports ≡ []
-  code : code_length q ≤ 32768
-  region : region_length q ≤ 16384
+  code : code_length q ≤ (CODE_POOL_END - CODE_POOL)
+  region : region_length q ≤ (DATA_POOL_END - DATA_POOL)
 
 guarded_is : (n : ℕ) (o q : Object) → fields o ≡ generated n → IsInserted o q → fields q ≡ with_guards (generated n)
 unfolding inserted
@@ -61,34 +62,35 @@ is_small line n o q e i =
 
 -- ---- the places
 
-code_place : (c : ℕ) → c ≤ 32768 → place_in (pool_range Code) [] c ≡ Ok 0x6000
+code_place : (c : ℕ) → c ≤ (CODE_POOL_END - CODE_POOL) → place_in (pool_range Code) [] c ≡ Ok CODE_POOL
 unfolding gaps longest lowest
 code_place c h = by (c == 0)
   where
-    fits : nat_le c 32768 ≡ true
+    fits : nat_le c (CODE_POOL_END - CODE_POOL) ≡ true
     fits = search rules
 
     by : (b : Bool)
-        → (if b then Ok 0x6000 else (if nat_le c (longest (gaps (pool_range Code) [])) then Ok (lowest 0xE000 c (gaps (pool_range Code) [])) else Err (longest (gaps (pool_range Code) [])))) ≡ Ok 0x6000
+        → (if b then Ok CODE_POOL else (if nat_le c (longest (gaps (pool_range Code) [])) then Ok (lowest CODE_POOL_END c (gaps (pool_range Code) [])) else Err (longest (gaps (pool_range Code) [])))) ≡ Ok CODE_POOL
     by true = refl
     by false = rw fits refl
 
-region_place : (r : ℕ) → r ≤ 16384 → place_in (pool_range Data) [] r ≡ Ok 0x2000
+region_place : (r : ℕ) → r ≤ (DATA_POOL_END - DATA_POOL) → place_in (pool_range Data) [] r ≡ Ok DATA_POOL
 unfolding gaps longest lowest
 region_place r h = by (r == 0)
   where
-    fits : nat_le r 16384 ≡ true
+    fits : nat_le r (DATA_POOL_END - DATA_POOL) ≡ true
     fits = search rules
 
     by : (b : Bool)
-        → (if b then Ok 0x2000 else (if nat_le r (longest (gaps (pool_range Data) [])) then Ok (lowest 0x6000 r (gaps (pool_range Data) [])) else Err (longest (gaps (pool_range Data) [])))) ≡ Ok 0x2000
+        → (if b then Ok DATA_POOL else (if nat_le r (longest (gaps (pool_range Data) [])) then Ok (lowest DATA_POOL_END r (gaps (pool_range Data) [])) else Err (longest (gaps (pool_range Data) [])))) ≡ Ok DATA_POOL
     by true = refl
     by false = rw fits refl
 
 first_places : (c r : ℕ) → Regions
-first_places c r = record { dom = 0; code_lo = 0x6000; code_hi = 0x6000 + c; lo = 0x2000; hi = 0x2000 + r }
+first_places c r = record { dom = 0; code_lo = CODE_POOL; code_hi = CODE_POOL + c; lo = DATA_POOL; hi = DATA_POOL + r }
 
-placed_first : (c r : ℕ) → c ≤ 32768 → r ≤ 16384 → placing empty App c r ≡ Ok (first_places c r)
+placed_first : (c r : ℕ) → c ≤ (CODE_POOL_END - CODE_POOL) → r ≤ (DATA_POOL_END - DATA_POOL)
+    → placing empty App c r ≡ Ok (first_places c r)
 unfolding empty free_from first_places
 placed_first c r h g = rw (code_place c h, region_place r g) refl
 

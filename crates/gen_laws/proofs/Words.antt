@@ -11,6 +11,7 @@ use Rattle.gen_model.specs.declared.block.Block.TheVariants.{Set, Add, Xor, Keep
 use Rattle.gen_model.specs.Blocks.{words}
 use Rattle.gen_model.specs.Generated.{code_of}
 use Rattle.gen_laws.specs.Instructions.{instrs, all_instrs, Suits, AllSuit}
+use Rattle.kernel_model.specs.declared.entries.TheConstants.{EMITS}
 
 -- ---- words
 
@@ -33,7 +34,7 @@ block_words (Pass from to) = λ i. left i ∷ right i ∷ []
     right = omega arith
 block_words (Halve to) = one _ _ [] (omega arith)
 block_words (Skip from to) = ap (λ (x : ℕ). 0x2001 ∷ x ∷ []) (omega arith)
-block_words (Emit from) = one _ _ (0x12B0 ∷ 0xF024 ∷ []) (omega arith)
+block_words (Emit from) = one _ _ (0x12B0 ∷ EMITS ∷ []) (omega arith)
 block_words Restart = refl
 
 pub all_words : (bs : List Block) → code_of bs ≡ words_of (all_instrs bs)

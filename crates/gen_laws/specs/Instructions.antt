@@ -11,6 +11,7 @@ use Rattle.msp_encode.specs.declared.instr.Instr.{Instr}
 use Rattle.msp_encode.specs.declared.instr.Instr.TheVariants as instr
 use Rattle.gen_model.specs.declared.block.Block.{Block}
 use Rattle.gen_model.specs.declared.block.Block.TheVariants.{Set, Add, Xor, Keep, Store, Pass, Halve, Skip, Emit, Restart}
+use Rattle.kernel_model.specs.declared.entries.TheConstants.{EMITS}
 
 abbrev pub instrs : Block → List Instr
 instrs (Set to value) = instr.Two op.Mov Wide (src.Immediate value) (dst.Reg to) ∷ []
@@ -22,7 +23,7 @@ instrs (Store from place) =
 instrs (Pass from to) = instr.One Push Wide (src.Reg from) ∷ instr.Two op.Mov Wide (src.AutoInc 1) (dst.Reg to) ∷ []
 instrs (Halve to) = instr.One Rra Wide (src.Reg to) ∷ []
 instrs (Skip from to) = instr.Jump Ne (pos 1) ∷ instr.Two op.Mov Wide (src.Reg from) (dst.Reg to) ∷ []
-instrs (Emit from) = instr.Two op.Mov Wide (src.Reg from) (dst.Reg 12) ∷ instr.One Call Wide (src.Immediate 0xF024) ∷ []
+instrs (Emit from) = instr.Two op.Mov Wide (src.Reg from) (dst.Reg 12) ∷ instr.One Call Wide (src.Immediate EMITS) ∷ []
 instrs Restart = instr.Two op.Mov Wide (src.Immediate 0) (dst.Reg 0) ∷ []
 
 -- those of blocks one behind another

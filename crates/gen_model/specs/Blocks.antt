@@ -5,6 +5,7 @@ use Rattle.code_model.specs.declared.parts.RelKind.TheVariants.{Code, Data}
 use Rattle.code_model.specs.declared.parts.Reloc.{Reloc}
 use Rattle.gen_model.specs.declared.block.Block.{Block}
 use Rattle.gen_model.specs.declared.block.Block.TheVariants.{Set, Add, Xor, Keep, Store, Pass, Halve, Skip, Emit, Restart}
+use Rattle.kernel_model.specs.declared.entries.TheConstants.{EMITS}
 
 abbrev pub words : Block → List ℕ
 words (Set to value) = (0x4030 + to) ∷ value ∷ []
@@ -15,7 +16,7 @@ words (Store from place) = 0x403C ∷ place ∷ (0x408C + 256 * from) ∷ 0x0000
 words (Pass from to) = (0x1200 + from) ∷ (0x4130 + to) ∷ []
 words (Halve to) = (0x1100 + to) ∷ []
 words (Skip from to) = 0x2001 ∷ (0x4000 + 256 * from + to) ∷ []
-words (Emit from) = (0x400C + 256 * from) ∷ 0x12B0 ∷ 0xF024 ∷ []
+words (Emit from) = (0x400C + 256 * from) ∷ 0x12B0 ∷ EMITS ∷ []
 words Restart = 0x4030 ∷ 0x0000 ∷ []
 
 -- the relocation of a block's second word. No other word of a block has one

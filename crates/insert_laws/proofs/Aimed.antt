@@ -17,6 +17,8 @@ use Rattle.msp_encode.specs.declared.instr.Dst.TheVariants as dst
 use Rattle.msp_encode.specs.declared.instr.Instr.{Instr}
 use Rattle.msp_encode.specs.declared.instr.Instr.TheVariants as instr
 use Rattle.code_model.specs.declared.object.Object.{Object}
+use Rattle.kernel_model.specs.declared.map.TheConstants.{STACK_LIMIT}
+use Rattle.kernel_model.specs.declared.entries.TheConstants.{CALLS, GOES, STACK_FAULT, STORE_FAULT}
 use Rattle.kernel_model.specs.declared.kinds.Kind.{Kind}
 use Rattle.kernel_model.specs.declared.kinds.Kind.TheVariants.{App, Module}
 use Rattle.code_model.specs.declared.parts.RelKind.{RelKind}
@@ -81,10 +83,10 @@ aside o op w s n j h b never = omega (arith, b.3, h)
 stored : (o : Object) (op : Op2) (w : Width) (s : Src) (n x : ℕ) (j : Option RelKind) → AimedInstr o (instr.Two op w s (dst.Indexed n x)) j
 stored o op w s n x j b never = b.3
 
-entry : (o : Object) (x : ℕ) → (x ≡ 0xF000) ⊎ ((x ≡ 0xF002) ⊎ (x ≡ 0xF004)) → AimedInstr o (branch x None).instr None
+entry : (o : Object) (x : ℕ) → (x ≡ STORE_FAULT) ⊎ ((x ≡ STACK_FAULT) ⊎ (x ≡ GOES)) → AimedInstr o (branch x None).instr None
 entry o x h b never = never (inr (refl, of_kind o.kind h))
   where
-    of_kind : (k : Kind) → (x ≡ 0xF000) ⊎ ((x ≡ 0xF002) ⊎ (x ≡ 0xF004)) → IsJumpEntry k x
+    of_kind : (k : Kind) → (x ≡ STORE_FAULT) ⊎ ((x ≡ STACK_FAULT) ⊎ (x ≡ GOES)) → IsJumpEntry k x
     of_kind App e = e
     of_kind Module (inl e) = inl e
     of_kind Module (inr (inl e)) = inr (inl e)
@@ -108,20 +110,20 @@ store_aimed o n x k = (
       reg o Add Wide (src.Immediate x) 4 k (omega arith),
       (
         reg o Cmp Wide (src.Immediate 0) 4 (Some Lo) (omega arith),
-        (tt, (reg o Cmp Wide (src.Immediate 0) 4 (Some Hi) (omega arith), (tt, (entry o 0xF000 (inl refl), (restores o, tt))))),
+        (tt, (reg o Cmp Wide (src.Immediate 0) 4 (Some Hi) (omega arith), (tt, (entry o STORE_FAULT (inl refl), (restores o, tt))))),
       ),
     ),
   ),
 )
 
 growth_aimed : (o : Object) → AllAimed o growth_guard
-growth_aimed o = (saves o, (reg o Cmp Wide (src.Absolute 0x0200) 1 None (omega arith), (tt, (entry o 0xF002 (inr (inl refl)), (restores o, tt)))))
+growth_aimed o = (saves o, (reg o Cmp Wide (src.Absolute STACK_LIMIT) 1 None (omega arith), (tt, (entry o STACK_FAULT (inr (inl refl)), (restores o, tt)))))
 
 pop_aimed : (o : Object) → AllAimed o pop_guard
-pop_aimed o = (saves o, ((λ b never. b.0), (tt, (entry o 0xF002 (inr (inl refl)), (restores o, tt)))))
+pop_aimed o = (saves o, ((λ b never. b.0), (tt, (entry o STACK_FAULT (inr (inl refl)), (restores o, tt)))))
 
 sp_aimed : (o : Object) → AllAimed o sp_guard
-sp_aimed o = (saves o, (reg o Cmp Wide (src.Absolute 0x0200) 4 None (omega arith), (tt, ((λ b never. b.0), (tt, (entry o 0xF002 (inr (inl refl)), (restores o, tt)))))))
+sp_aimed o = (saves o, (reg o Cmp Wide (src.Absolute STACK_LIMIT) 4 None (omega arith), (tt, ((λ b never. b.0), (tt, (entry o STACK_FAULT (inr (inl refl)), (restores o, tt)))))))
 
 own_aimed : (o : Object) (p : Piece) (i : Instr) → p.instr ≡ i → AimedInstr o i p.source → AllAimed o (p ∷ [])
 own_aimed o p i e h = (subst (λ (j : Instr). AimedInstr o j p.source) (sym e) h, tt)
@@ -173,14 +175,14 @@ module _ (o : Object) (l : Line) (clean : IsCleanLine o l) where
 
 popping_aimed : (o : Object) (op : Op2) (w : Width) (s : Src) (d : Dst) (p : Piece) → p.instr ≡ instr.Two op w s d → AimedInstr o (instr.Two op w s d) p.source → AllAimed o (popping op w d p)
 popping_aimed o op w s d p e h =
-    aimed_if o (is_pc d) (pop_guard ++ pop_r4 ∷ branch 0xF004 None ∷ []) (if is_plain_pop op w d then pop_guard ++ p ∷ [] else pop_guard ++ pop_r4 ∷ from_r4 op w d p.destination ∷ [])
-    (λ t. aimed_append o pop_guard (pop_r4 ∷ branch 0xF004 None ∷ []) (pop_aimed o) (reg o Mov Wide (src.AutoInc 1) 4 None (omega arith), (entry o 0xF004 (inr (inr refl)), tt)))
+    aimed_if o (is_pc d) (pop_guard ++ pop_r4 ∷ branch GOES None ∷ []) (if is_plain_pop op w d then pop_guard ++ p ∷ [] else pop_guard ++ pop_r4 ∷ from_r4 op w d p.destination ∷ [])
+    (λ t. aimed_append o pop_guard (pop_r4 ∷ branch GOES None ∷ []) (pop_aimed o) (reg o Mov Wide (src.AutoInc 1) 4 None (omega arith), (entry o GOES (inr (inr refl)), tt)))
     (λ f. aimed_if o (is_plain_pop op w d) (pop_guard ++ p ∷ []) (pop_guard ++ pop_r4 ∷ from_r4 op w d p.destination ∷ []) (λ t. aimed_append o pop_guard (p ∷ []) (pop_aimed o) (own_aimed o p (instr.Two op w s d) e h))
     (λ g. aimed_append o pop_guard (pop_r4 ∷ from_r4 op w d p.destination ∷ []) (pop_aimed o) (reg o Mov Wide (src.AutoInc 1) 4 None (omega arith), ((λ b never. b.2), tt))))
 
 writing_aimed : (o : Object) (op : Op2) (w : Width) (s : Src) (d : Dst) (p : Piece) (a : Aim) → p.instr ≡ instr.Two op w s d → AimedInstr o (instr.Two op w s d) p.source → AllAimed o (writing op w s p a)
 writing_aimed o op w s d p ToPc e h =
-    aimed_if o (is_immediate s) (p ∷ []) (into_r4 Mov Wide s p.source ∷ branch 0xF004 None ∷ []) (λ t. own_aimed o p (instr.Two op w s d) e h) (λ f. (reg o Mov Wide s 4 p.source (omega arith), (entry o 0xF004 (inr (inr refl)), tt)))
+    aimed_if o (is_immediate s) (p ∷ []) (into_r4 Mov Wide s p.source ∷ branch GOES None ∷ []) (λ t. own_aimed o p (instr.Two op w s d) e h) (λ f. (reg o Mov Wide s 4 p.source (omega arith), (entry o GOES (inr (inr refl)), tt)))
 writing_aimed o op w s d p ToSp e h =
     aimed_append o (take_sp ∷ into_r4 op w s p.source ∷ sp_guard) (give_sp ∷ []) (reg o Mov Wide (src.Reg 1) 4 None (omega arith), (reg o op w s 4 p.source (omega arith), sp_aimed o)) (reg o Mov Wide (src.Reg 4) 1 None (omega arith), tt)
 writing_aimed o op w s d p (ToMemory n x k) e h = aimed_append o (store_guard n x k) (through_r4 op w s p.source ∷ []) (store_aimed o n x k) (stored o op w s 4 0 p.source, tt)
@@ -192,10 +194,10 @@ changing_aimed o op w s p ToSp other e = own_aimed o p (instr.One op w s) e (λ 
 changing_aimed o op w s p (ToMemory n x k) other e = aimed_append o (store_guard n x k) (plain (instr.One op w (src.Indirect 4)) ∷ []) (store_aimed o n x k) ((λ b never. other b), tt)
 changing_aimed o op w s p Elsewhere other e = own_aimed o p (instr.One op w s) e (λ b never. other b)
 
-calls_kernel : (o : Object) → AimedInstr o (instr.One Call Wide (src.Immediate 0xF006)) None
+calls_kernel : (o : Object) → AimedInstr o (instr.One Call Wide (src.Immediate CALLS)) None
 calls_kernel o b never = never (inr (refl, of_kind o.kind))
   where
-    of_kind : (k : Kind) → IsCallEntry k 0xF006
+    of_kind : (k : Kind) → IsCallEntry k CALLS
     of_kind App = (omega arith, omega arith, refl)
     of_kind Module = inl refl
 
@@ -207,7 +209,7 @@ one_aimed o size Sxt w s p e h = changing_aimed o Sxt w s p (aim_one size s p.so
 one_aimed o size Push w s p e h = aimed_append o growth_guard (p ∷ []) (growth_aimed o) (own_aimed o p (instr.One Push w s) e (λ b never. b))
 one_aimed o size Call w s p e h =
     aimed_if o (is_immediate s) (growth_guard ++ p ∷ []) (calling_value s p.source) (λ t. aimed_append o growth_guard (p ∷ []) (growth_aimed o) (own_aimed o p (instr.One Call w s) e (h t)))
-    (λ f. aimed_append o (into_r4 Mov Wide s p.source ∷ growth_guard) (plain (instr.One Call Wide (src.Immediate 0xF006)) ∷ []) (reg o Mov Wide s 4 p.source (omega arith), growth_aimed o) (calls_kernel o, tt))
+    (λ f. aimed_append o (into_r4 Mov Wide s p.source ∷ growth_guard) (plain (instr.One Call Wide (src.Immediate CALLS)) ∷ []) (reg o Mov Wide s 4 p.source (omega arith), growth_aimed o) (calls_kernel o, tt))
 
 jump_aimed : (o : Object) (x : ℕ) (c : Cond) → AimedInstr o (branch x (Some Code)).instr (Some Code) → AllAimed o (jump_unit x c)
 jump_aimed o x cond.Ne h = (tt, (tt, (h, tt)))

@@ -37,6 +37,8 @@ use Rattle.insert_laws.proofs.UnitsFit.{own_instr}
 use Rattle.insert_laws.proofs.Guarding.{span, span_cons, span_none}
 use Rattle.insert_laws.proofs.UnitStarts.{src_count}
 use Rattle.insert_laws.proofs.ShapedUnits.{AllClean}
+use Rattle.kernel_model.specs.declared.map.TheConstants.{STACK_LIMIT, STACK_TOP}
+use Rattle.kernel_model.specs.declared.entries.TheConstants.{CALLS, GOES, STACK_FAULT, STORE_FAULT}
 
 -- ---- what an operand's word may carry
 
@@ -91,17 +93,17 @@ wide x k d = (any x k, bare_dst d)
 
 store_may : (n x : ℕ) (k : Option RelKind) → AllMay (store_guard n x k)
 store_may n x k =
-    (two (src.Reg 2) (dst.Reg 5), (two (base n) (dst.Reg 4), (wide x k (dst.Reg 4), (wide 0 (Some Lo) (dst.Reg 4), (tt, (wide 0 (Some Hi) (dst.Reg 4), (tt, (wide 0xF000 None (dst.Reg 0), (two (src.Reg 5) (dst.Reg 2), tt)))))))))
+    (two (src.Reg 2) (dst.Reg 5), (two (base n) (dst.Reg 4), (wide x k (dst.Reg 4), (wide 0 (Some Lo) (dst.Reg 4), (tt, (wide 0 (Some Hi) (dst.Reg 4), (tt, (wide STORE_FAULT None (dst.Reg 0), (two (src.Reg 5) (dst.Reg 2), tt)))))))))
 
 growth_may : AllMay growth_guard
-growth_may = (two (src.Reg 2) (dst.Reg 5), (two (src.Absolute 0x0200) (dst.Reg 1), (tt, (wide 0xF002 None (dst.Reg 0), (two (src.Reg 5) (dst.Reg 2), tt)))))
+growth_may = (two (src.Reg 2) (dst.Reg 5), (two (src.Absolute STACK_LIMIT) (dst.Reg 1), (tt, (wide STACK_FAULT None (dst.Reg 0), (two (src.Reg 5) (dst.Reg 2), tt)))))
 
 pop_may : AllMay pop_guard
-pop_may = (two (src.Reg 2) (dst.Reg 5), (two (src.Reg 1) (dst.Absolute 0x0202), (tt, (wide 0xF002 None (dst.Reg 0), (two (src.Reg 5) (dst.Reg 2), tt)))))
+pop_may = (two (src.Reg 2) (dst.Reg 5), (two (src.Reg 1) (dst.Absolute STACK_TOP), (tt, (wide STACK_FAULT None (dst.Reg 0), (two (src.Reg 5) (dst.Reg 2), tt)))))
 
 sp_may : AllMay sp_guard
 sp_may =
-    (two (src.Reg 2) (dst.Reg 5), (two (src.Absolute 0x0200) (dst.Reg 4), (tt, (two (src.Reg 4) (dst.Absolute 0x0202), (tt, (wide 0xF002 None (dst.Reg 0), (two (src.Reg 5) (dst.Reg 2), tt)))))))
+    (two (src.Reg 2) (dst.Reg 5), (two (src.Absolute STACK_LIMIT) (dst.Reg 4), (tt, (two (src.Reg 4) (dst.Absolute STACK_TOP), (tt, (wide STACK_FAULT None (dst.Reg 0), (two (src.Reg 5) (dst.Reg 2), tt)))))))
 
 own_may : (p : Piece) (i : Instr) → p.instr ≡ i → MayInstr i p.source p.destination → AllMay (p ∷ [])
 own_may p i e h = (subst (λ (j : Instr). MayInstr j p.source p.destination) (sym e) h, tt)
@@ -169,14 +171,14 @@ module _ (o : Object) (l : Line) (clean : IsCleanLine o l) where
 
 popping_may : (op : Op2) (w : Width) (s : Src) (d : Dst) (p : Piece) → p.instr ≡ instr.Two op w s d → MayInstr (instr.Two op w s d) p.source p.destination → AllMay (popping op w d p)
 popping_may op w s d p e h =
-    may_if (is_pc d) (pop_guard ++ pop_r4 ∷ branch 0xF004 None ∷ []) (if is_plain_pop op w d then pop_guard ++ p ∷ [] else pop_guard ++ pop_r4 ∷ from_r4 op w d p.destination ∷ [])
-    (may_append pop_guard (pop_r4 ∷ branch 0xF004 None ∷ []) pop_may (two (src.AutoInc 1) (dst.Reg 4), (wide 0xF004 None (dst.Reg 0), tt)))
+    may_if (is_pc d) (pop_guard ++ pop_r4 ∷ branch GOES None ∷ []) (if is_plain_pop op w d then pop_guard ++ p ∷ [] else pop_guard ++ pop_r4 ∷ from_r4 op w d p.destination ∷ [])
+    (may_append pop_guard (pop_r4 ∷ branch GOES None ∷ []) pop_may (two (src.AutoInc 1) (dst.Reg 4), (wide GOES None (dst.Reg 0), tt)))
     (may_if (is_plain_pop op w d) (pop_guard ++ p ∷ []) (pop_guard ++ pop_r4 ∷ from_r4 op w d p.destination ∷ []) (may_append pop_guard (p ∷ []) pop_may (own_may p (instr.Two op w s d) e h))
     (may_append pop_guard (pop_r4 ∷ from_r4 op w d p.destination ∷ []) pop_may (two (src.AutoInc 1) (dst.Reg 4), ((bare (src.Reg 4), h.1), tt))))
 
 writing_may : (op : Op2) (w : Width) (s : Src) (d : Dst) (p : Piece) (a : Aim) → p.instr ≡ instr.Two op w s d → MayInstr (instr.Two op w s d) p.source p.destination → AllMay (writing op w s p a)
 writing_may op w s d p ToPc e h =
-    may_if (is_immediate s) (p ∷ []) (into_r4 Mov Wide s p.source ∷ branch 0xF004 None ∷ []) (own_may p (instr.Two op w s d) e h) ((h.0, bare_dst (dst.Reg 4)), (wide 0xF004 None (dst.Reg 0), tt))
+    may_if (is_immediate s) (p ∷ []) (into_r4 Mov Wide s p.source ∷ branch GOES None ∷ []) (own_may p (instr.Two op w s d) e h) ((h.0, bare_dst (dst.Reg 4)), (wide GOES None (dst.Reg 0), tt))
 writing_may op w s d p ToSp e h =
     may_append (take_sp ∷ into_r4 op w s p.source ∷ sp_guard) (give_sp ∷ []) (two (src.Reg 1) (dst.Reg 4), ((h.0, bare_dst (dst.Reg 4)), sp_may)) (two (src.Reg 4) (dst.Reg 1), tt)
 writing_may op w s d p (ToMemory n x k) e h = may_append (store_guard n x k) (through_r4 op w s p.source ∷ []) (store_may n x k) ((h.0, bare_dst (dst.Indexed 4 0)), tt)
@@ -196,7 +198,7 @@ one_may size Sxt w s p e h = changing_may Sxt w s p (aim_one size s p.source) e 
 one_may size Push w s p e h = may_append growth_guard (p ∷ []) growth_may (own_may p (instr.One Push w s) e h)
 one_may size Call w s p e h =
     may_if (is_immediate s) (growth_guard ++ p ∷ []) (calling_value s p.source) (may_append growth_guard (p ∷ []) growth_may (own_may p (instr.One Call w s) e h))
-    (may_append (into_r4 Mov Wide s p.source ∷ growth_guard) (plain (instr.One Call Wide (src.Immediate 0xF006)) ∷ []) ((h, bare_dst (dst.Reg 4)), growth_may) (any 0xF006 None, tt))
+    (may_append (into_r4 Mov Wide s p.source ∷ growth_guard) (plain (instr.One Call Wide (src.Immediate CALLS)) ∷ []) ((h, bare_dst (dst.Reg 4)), growth_may) (any CALLS None, tt))
 
 jump_may : (x : ℕ) (c : Cond) → AllMay (jump_unit x c)
 jump_may x cond.Ne = (tt, (tt, (wide x (Some Code) (dst.Reg 0), tt)))

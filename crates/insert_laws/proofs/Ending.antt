@@ -48,6 +48,7 @@ use Rattle.insert_laws.proofs.Roles.{branch_on}
 use Rattle.insert_laws.proofs.ShapedUnits.{AllClean, all_clean}
 use Rattle.insert_laws.proofs.FormRules.{source_fits, words_are}
 use Rattle.insert_laws.proofs.Targets.{Filled, unit_filled}
+use Rattle.kernel_model.specs.declared.entries.TheConstants.{GOES}
 
 -- ---- lists
 
@@ -221,10 +222,10 @@ immediate (src.Const c) e = let f : false ≡ true = e in absurd (cc)
 
 move_ends : (size : ℕ) (s : Src) (p : Piece) → p.instr ≡ instr.Two Mov Wide s (dst.Reg 0) → EndsBranch (two_unit size Mov Wide s (dst.Reg 0) p)
 move_ends size s p e =
-    ends_if (is_popped s) (popping Mov Wide (dst.Reg 0) p) (writing Mov Wide s p (aim size (dst.Reg 0) p.destination)) (λ t. ends_at (pop_guard ++ pop_r4 ∷ []) 0xF004 None)
-    (λ f. ends_if (is_immediate s) (p ∷ []) (into_r4 Mov Wide s p.source ∷ branch 0xF004 None ∷ [])
+    ends_if (is_popped s) (popping Mov Wide (dst.Reg 0) p) (writing Mov Wide s p (aim size (dst.Reg 0) p.destination)) (λ t. ends_at (pop_guard ++ pop_r4 ∷ []) GOES None)
+    (λ f. ends_if (is_immediate s) (p ∷ []) (into_r4 Mov Wide s p.source ∷ branch GOES None ∷ [])
     (λ t. record { front = []; last = p; are = refl; is = subst IsBranch (sym e) (tt, tt, immediate s t, refl) })
-    (λ g. ends_at (into_r4 Mov Wide s p.source ∷ []) 0xF004 None))
+    (λ g. ends_at (into_r4 Mov Wide s p.source ∷ []) GOES None))
 
 is_mov : (op : Op2) → IsMov op → op ≡ Mov
 is_mov Mov h = refl

@@ -25,6 +25,7 @@ use Rattle.insert_model.specs.Guards.{save, mov, on_r4, jump, branch, restore, g
 use Rattle.insert_laws.specs.Pieces.{pieces}
 use Rattle.insert_laws.specs.Laws.{kind_in, RelocsStand}
 use Rattle.insert_laws.specs.Shapes.{IsGuard}
+use Rattle.kernel_model.specs.declared.entries.TheConstants.{STORE_FAULT}
 
 -- ---- words that fit slots
 
@@ -60,7 +61,7 @@ load_reg n h (inr e) = (omega arith, omega arith, inr (omega arith))
 
 -- a store guard whose base is 0 or a register
 abbrev based : Src → ℕ → Option RelKind → List Piece
-based s x k = save ∷ mov s (dst.Reg 4) ∷ on_r4 Add x k ∷ on_r4 Cmp 0 (Some Lo) ∷ jump cond.Nc (pos 3) ∷ on_r4 Cmp 0 (Some Hi) ∷ jump cond.Nc (pos 2) ∷ branch 0xF000 None ∷ restore ∷ []
+based s x k = save ∷ mov s (dst.Reg 4) ∷ on_r4 Add x k ∷ on_r4 Cmp 0 (Some Lo) ∷ jump cond.Nc (pos 3) ∷ on_r4 Cmp 0 (Some Hi) ∷ jump cond.Nc (pos 2) ∷ branch STORE_FAULT None ∷ restore ∷ []
 
 zero_words : (x : ℕ) (k : Option RelKind) → WordsFit (unit_words (based (src.Const Zero) x k)) (guard_words guard.Store)
 unfolding unit_words piece_words two_word jump_word

@@ -21,6 +21,7 @@ use Rattle.insert_model.specs.declared.aim.Aim.TheVariants.{ToPc, ToSp, ToMemory
 use Rattle.insert_model.specs.declared.piece.Piece.{Piece}
 use Rattle.insert_model.specs.Guards.{plain, branch, take_sp, pop_r4, give_sp, store_guard, growth_guard, pop_guard, sp_guard}
 use Rattle.insert_model.specs.Units.{aim, aim_one, writes, is_popped, is_immediate, is_pc, is_plain_pop, into_r4, through_r4, from_r4, popping, writing, two_unit, changing, calling_value, one_unit}
+use Rattle.kernel_model.specs.declared.entries.TheConstants.{CALLS, GOES}
 
 -- a jump by one, or JMP
 abbrev pub LooseInstr : Instr → Type 0
@@ -65,13 +66,13 @@ own_loose p i e h = (subst LooseInstr (sym e) h, tt)
 
 popping_loose : (op : Op2) (w : Width) (d : Dst) (p : Piece) → AllLoose (p ∷ []) → AllLoose (popping op w d p)
 popping_loose op w d p h =
-    loose_if (is_pc d) (pop_guard ++ pop_r4 ∷ branch 0xF004 None ∷ []) (if is_plain_pop op w d then pop_guard ++ p ∷ [] else pop_guard ++ pop_r4 ∷ from_r4 op w d p.destination ∷ [])
-    (loose_append pop_guard (pop_r4 ∷ branch 0xF004 None ∷ []) pop_loose (tt, (tt, tt)))
+    loose_if (is_pc d) (pop_guard ++ pop_r4 ∷ branch GOES None ∷ []) (if is_plain_pop op w d then pop_guard ++ p ∷ [] else pop_guard ++ pop_r4 ∷ from_r4 op w d p.destination ∷ [])
+    (loose_append pop_guard (pop_r4 ∷ branch GOES None ∷ []) pop_loose (tt, (tt, tt)))
     (loose_if (is_plain_pop op w d) (pop_guard ++ p ∷ []) (pop_guard ++ pop_r4 ∷ from_r4 op w d p.destination ∷ []) (loose_append pop_guard (p ∷ []) pop_loose h)
     (loose_append pop_guard (pop_r4 ∷ from_r4 op w d p.destination ∷ []) pop_loose (tt, (tt, tt))))
 
 writing_loose : (op : Op2) (w : Width) (s : Src) (p : Piece) (a : Aim) → AllLoose (p ∷ []) → AllLoose (writing op w s p a)
-writing_loose op w s p ToPc h = loose_if (is_immediate s) (p ∷ []) (into_r4 Mov Wide s p.source ∷ branch 0xF004 None ∷ []) h (tt, (tt, tt))
+writing_loose op w s p ToPc h = loose_if (is_immediate s) (p ∷ []) (into_r4 Mov Wide s p.source ∷ branch GOES None ∷ []) h (tt, (tt, tt))
 writing_loose op w s p ToSp h = loose_append (take_sp ∷ into_r4 op w s p.source ∷ sp_guard) (give_sp ∷ []) (tt, (tt, sp_loose)) (tt, tt)
 writing_loose op w s p (ToMemory n x k) h = loose_append (store_guard n x k) (through_r4 op w s p.source ∷ []) (store_loose n x k) (tt, tt)
 writing_loose op w s p Elsewhere h = h
@@ -90,7 +91,7 @@ one_loose size Sxt w s p h = changing_loose Sxt w p (aim_one size s p.source) h
 one_loose size Push w s p h = loose_append growth_guard (p ∷ []) growth_loose h
 one_loose size Call w s p h =
     loose_if (is_immediate s) (growth_guard ++ p ∷ []) (calling_value s p.source) (loose_append growth_guard (p ∷ []) growth_loose h)
-    (loose_append (into_r4 Mov Wide s p.source ∷ growth_guard) (plain (instr.One Call Wide (src.Immediate 0xF006)) ∷ []) (tt, growth_loose) (tt, tt))
+    (loose_append (into_r4 Mov Wide s p.source ∷ growth_guard) (plain (instr.One Call Wide (src.Immediate CALLS)) ∷ []) (tt, growth_loose) (tt, tt))
 
 pub two_units : (size : ℕ) (op : Op2) (w : Width) (s : Src) (d : Dst) (p : Piece) → p.instr ≡ instr.Two op w s d → AllLoose (two_unit size op w s d p)
 two_units size op w s d p e =

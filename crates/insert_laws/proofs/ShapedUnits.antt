@@ -32,6 +32,7 @@ use Rattle.insert_laws.specs.Pieces.{pieces_of, pieces}
 use Rattle.insert_laws.specs.Shapes.{IsServed, Ends, Free, Guards, IsFreeForm, IsCleanLine}
 use Rattle.insert_laws.proofs.UnitsFit.{own_instr, LinesFit}
 use Rattle.insert_laws.proofs.Shaping.{Good, shaped_if, none, free, guarded, free_branch, free_jump, free_into, quiet_of, clean_saves, store_of, base_register, two_shaped}
+use Rattle.kernel_model.specs.declared.entries.TheConstants.{CALLS}
 
 -- ---- one operand
 
@@ -98,8 +99,8 @@ calling_shaped : (o : Object) (l : Line) (p : Piece) (w : Width) (s : Src) → I
 calling_shaped o l p w s is =
     shaped_if (is_immediate s) (growth_guard ++ p ∷ []) (calling_value s p.source)
     (λ t. guarded guard.Growth growth_guard p [] refl (served_growth o l p Call w s is tt) none)
-    (λ t. free (into_r4 Mov Wide s p.source) (growth_guard ++ plain (instr.One Call Wide (src.Immediate 0xF006)) ∷ []) (free_into Mov Wide s p.source (no_pop o l p Call w s is tt))
-    (guarded guard.Growth growth_guard (plain (instr.One Call Wide (src.Immediate 0xF006))) [] refl (search rules) none))
+    (λ t. free (into_r4 Mov Wide s p.source) (growth_guard ++ plain (instr.One Call Wide (src.Immediate CALLS)) ∷ []) (free_into Mov Wide s p.source (no_pop o l p Call w s is tt))
+    (guarded guard.Growth growth_guard (plain (instr.One Call Wide (src.Immediate CALLS))) [] refl (search rules) none))
 
 one_shaped : (o : Object) (l : Line) (p : Piece) (op : Op1) (w : Width) (s : Src) (size : ℕ) → IsOne o l p op w s → Good (one_unit size op w s p)
 one_shaped o l p Rrc w s size is = changing_shaped o l p Rrc w s size is tt (λ h. h)

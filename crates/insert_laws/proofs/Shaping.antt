@@ -27,6 +27,7 @@ use Rattle.insert_model.specs.Units.{is_static, aim, writes, is_popped, is_immed
 use Rattle.insert_model.specs.Source.{own_piece, own}
 use Rattle.insert_model.specs.Faults.{UsesCheck, SrcUsesCheck, ChangesFlags, SetsPc, HasSymbolic, IsNoPopTarget, IsMemory, PopsAmiss}
 use Rattle.insert_laws.specs.Shapes.{saving, IsGuard, IsServed, Shaped, Ends, Free, Guards, IsFreeForm, IsCleanLine}
+use Rattle.kernel_model.specs.declared.entries.TheConstants.{GOES}
 
 abbrev pub Good : List Piece → Type 0
 Good ps = Shaped IsFreeForm ps
@@ -286,8 +287,8 @@ module _ (o : Object) (l : Line) (p : Piece) (op : Op2) (w : Width) (s : Src) (d
   popping_shaped : s ≡ src.AutoInc 1 → Good (popping op w d p)
   popping_shaped e =
       let pops : Pops s 1 = subst (λ (x : Src). Pops x 1) (sym e) refl in
-      shaped_if (is_pc d) (pop_guard ++ pop_r4 ∷ branch 0xF004 None ∷ []) (if is_plain_pop op w d then pop_guard ++ p ∷ [] else pop_guard ++ pop_r4 ∷ from_r4 op w d p.destination ∷ [])
-      (λ t. guarded guard.Pop pop_guard pop_r4 (branch 0xF004 None ∷ []) refl (search rules) (free (branch 0xF004 None) [] (free_branch 0xF004 None) none))
+      shaped_if (is_pc d) (pop_guard ++ pop_r4 ∷ branch GOES None ∷ []) (if is_plain_pop op w d then pop_guard ++ p ∷ [] else pop_guard ++ pop_r4 ∷ from_r4 op w d p.destination ∷ [])
+      (λ t. guarded guard.Pop pop_guard pop_r4 (branch GOES None ∷ []) refl (search rules) (free (branch GOES None) [] (free_branch GOES None) none))
       (λ other. shaped_if (is_plain_pop op w d) (pop_guard ++ p ∷ []) (pop_guard ++ pop_r4 ∷ from_r4 op w d p.destination ∷ [])
       (λ t. guarded guard.Pop pop_guard p [] refl (plain_pop t) none)
       (λ t. guarded guard.Pop pop_guard pop_r4 (from_r4 op w d p.destination ∷ []) refl (search rules)
@@ -323,9 +324,9 @@ stored op w s p n x k h quiet below register = guarded guard.Store (store_guard 
 
 to_pc : (o : Object) (l : Line) (p : Piece) (op : Op2) (w : Width) (s : Src) (n : ℕ) → IsTwo o l p op w s (dst.Reg n) → Writes op → (Pops s 1 → ⊥) → n ≡ 0 → Good (writing op w s p ToPc)
 to_pc o l p op w s n is h pops zero' =
-    shaped_if (is_immediate s) (p ∷ []) (into_r4 Mov Wide s p.source ∷ branch 0xF004 None ∷ [])
+    shaped_if (is_immediate s) (p ∷ []) (into_r4 Mov Wide s p.source ∷ branch GOES None ∷ [])
     (λ t. free p [] (own_free o l p op w s (dst.Reg n) is pops (λ g at. branches t) (λ g at. omega (arith, at)) (λ g m. m)) none)
-    (λ t. free (into_r4 Mov Wide s p.source) (branch 0xF004 None ∷ []) (free_into Mov Wide s p.source pops) (free (branch 0xF004 None) [] (free_branch 0xF004 None) none))
+    (λ t. free (into_r4 Mov Wide s p.source) (branch GOES None ∷ []) (free_into Mov Wide s p.source pops) (free (branch GOES None) [] (free_branch GOES None) none))
   where
     immediate : (s : Src) → is_immediate s ≡ true → IsImmediate s
     immediate (src.Reg n) e = let f : false ≡ true = e in absurd (cc)

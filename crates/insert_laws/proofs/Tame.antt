@@ -31,6 +31,7 @@ use Rattle.insert_laws.specs.Shapes.{IsCleanLine}
 use Rattle.insert_laws.proofs.UnitsFit.{own_instr}
 use Rattle.insert_laws.proofs.Shaping.{IsTwo, popped_so, writes_not, no_pop_target}
 use Rattle.insert_laws.proofs.ShapedUnits.{AllClean}
+use Rattle.kernel_model.specs.declared.entries.TheConstants.{CALLS, GOES}
 
 -- the word of an absolute operand that is written is an address in the static part
 abbrev pub IsStaticWord : (size x : ℕ) → Option RelKind → Type 0
@@ -112,8 +113,8 @@ module _ (o : Object) (l : Line) (p : Piece) (op : Op2) (w : Width) (s : Src) (d
   popping_tame e =
       let pops : Pops s 1 = subst (λ (x : Src). Pops x 1) (sym e) refl in
       let never : Writes op → IsMemory d → ⊥ = λ h m. no_pop_target o l p op w s d is pops h (inr (inr m)) in
-      tame_if size (is_pc d) (pop_guard ++ pop_r4 ∷ branch 0xF004 None ∷ []) (if is_plain_pop op w d then pop_guard ++ p ∷ [] else pop_guard ++ pop_r4 ∷ from_r4 op w d p.destination ∷ [])
-      (λ t. tame_append size pop_guard (pop_r4 ∷ branch 0xF004 None ∷ []) (pop_tame size) (tt, (tt, tt)))
+      tame_if size (is_pc d) (pop_guard ++ pop_r4 ∷ branch GOES None ∷ []) (if is_plain_pop op w d then pop_guard ++ p ∷ [] else pop_guard ++ pop_r4 ∷ from_r4 op w d p.destination ∷ [])
+      (λ t. tame_append size pop_guard (pop_r4 ∷ branch GOES None ∷ []) (pop_tame size) (tt, (tt, tt)))
       (λ f. tame_if size (is_plain_pop op w d) (pop_guard ++ p ∷ []) (pop_guard ++ pop_r4 ∷ from_r4 op w d p.destination ∷ [])
       (λ t. tame_append size pop_guard (p ∷ []) (pop_tame size) (own_tame size p (instr.Two op w s d) is.piece (not_memory size op d p.destination never)))
       (λ g. tame_append size pop_guard (pop_r4 ∷ from_r4 op w d p.destination ∷ []) (pop_tame size) (tt, (not_memory size op d p.destination never, tt))))
@@ -122,7 +123,7 @@ module _ (o : Object) (l : Line) (p : Piece) (op : Op2) (w : Width) (s : Src) (d
   reading_tame e = own_tame size p (instr.Two op w s d) is.piece (not_memory size op d p.destination (λ h m. writes_not op e h))
 
 to_register : (size : ℕ) (p : Piece) (op : Op2) (w : Width) (s : Src) (a b : Bool) → AllTame size (p ∷ []) → AllTame size (writing op w s p (if a then ToPc else (if b then ToSp else Elsewhere)))
-to_register size p op w s true b own = tame_if size (is_immediate s) (p ∷ []) (into_r4 Mov Wide s p.source ∷ branch 0xF004 None ∷ []) (λ t. own) (λ f. (tt, (tt, tt)))
+to_register size p op w s true b own = tame_if size (is_immediate s) (p ∷ []) (into_r4 Mov Wide s p.source ∷ branch GOES None ∷ []) (λ t. own) (λ f. (tt, (tt, tt)))
 to_register size p op w s false true own = tame_append size (take_sp ∷ into_r4 op w s p.source ∷ sp_guard) (give_sp ∷ []) (tt, (tt, sp_tame size)) (tt, tt)
 to_register size p op w s false false own = own
 
@@ -183,7 +184,7 @@ one_tame size Sxt w s p e = changing_tame size Sxt w s p e
 one_tame size Push w s p e = tame_append size growth_guard (p ∷ []) (growth_tame size) (stacking_tame size Push w s p (λ h. h) e)
 one_tame size Call w s p e =
     tame_if size (is_immediate s) (growth_guard ++ p ∷ []) (calling_value s p.source) (λ t. tame_append size growth_guard (p ∷ []) (growth_tame size) (stacking_tame size Call w s p (λ h. h) e))
-    (λ f. tame_append size (into_r4 Mov Wide s p.source ∷ growth_guard) (plain (instr.One Call Wide (src.Immediate 0xF006)) ∷ []) (tt, growth_tame size) (tt, tt))
+    (λ f. tame_append size (into_r4 Mov Wide s p.source ∷ growth_guard) (plain (instr.One Call Wide (src.Immediate CALLS)) ∷ []) (tt, growth_tame size) (tt, tt))
 
 -- ---- all pieces
 

@@ -50,6 +50,7 @@ use Rattle.insert_laws.proofs.Guarding.{span}
 use Rattle.insert_laws.proofs.UnitStarts.{unit_start}
 use Rattle.insert_laws.proofs.ShapedUnits.{AllClean, all_clean, lines_shaped}
 use Rattle.insert_laws.proofs.FormRules.{free_standing, source_fits, words_are}
+use Rattle.kernel_model.specs.declared.entries.TheConstants.{GOES}
 
 -- ---- lines by their places
 
@@ -158,12 +159,12 @@ filled_if false xs ys hx hy = hy
 popping_filled : (op : Op2) (w : Width) (d : Dst) (p : Piece) → Filled (popping op w d p)
 unfolding Filled
 popping_filled op w d p =
-    filled_if (is_pc d) (pop_guard ++ pop_r4 ∷ branch 0xF004 None ∷ []) (if is_plain_pop op w d then pop_guard ++ p ∷ [] else pop_guard ++ pop_r4 ∷ from_r4 op w d p.destination ∷ []) tt
+    filled_if (is_pc d) (pop_guard ++ pop_r4 ∷ branch GOES None ∷ []) (if is_plain_pop op w d then pop_guard ++ p ∷ [] else pop_guard ++ pop_r4 ∷ from_r4 op w d p.destination ∷ []) tt
     (filled_if (is_plain_pop op w d) (pop_guard ++ p ∷ []) (pop_guard ++ pop_r4 ∷ from_r4 op w d p.destination ∷ []) tt tt)
 
 writing_filled : (op : Op2) (w : Width) (s : Src) (p : Piece) (a : Aim) → Filled (writing op w s p a)
 unfolding Filled
-writing_filled op w s p ToPc = filled_if (is_immediate s) (p ∷ []) (into_r4 Mov Wide s p.source ∷ branch 0xF004 None ∷ []) tt tt
+writing_filled op w s p ToPc = filled_if (is_immediate s) (p ∷ []) (into_r4 Mov Wide s p.source ∷ branch GOES None ∷ []) tt tt
 writing_filled op w s p ToSp = tt
 writing_filled op w s p (ToMemory n x k) = tt
 writing_filled op w s p Elsewhere = tt

@@ -32,6 +32,7 @@ use Rattle.insert_model.specs.Guards.{plain, branch, pop_r4, base, store_guard, 
 use Rattle.insert_model.specs.Units.{is_static, aim, aim_one, writes, is_popped, is_immediate, is_pc, is_plain_pop, into_r4, through_r4, from_r4, popping, setting_sp, writing, changing, calling_value, calling, one_unit, jump_unit, target_offset, unit_of, unit}
 use Rattle.insert_laws.specs.Pieces.{pieces_of, moved_src, moved_dst, moved_instr, standing}
 use Rattle.insert_laws.proofs.Streams.{FitEach}
+use Rattle.kernel_model.specs.declared.entries.TheConstants.{GOES}
 
 abbrev pub AllFit : List Piece → Type 0
 AllFit [] = Unit {0}
@@ -70,11 +71,11 @@ sp_fits = search rules
 
 popping_fits : (op : Op2) (w : Width) (d : Dst) (p : Piece) → DstFits d → InstrFits p.instr → AllFit (popping op w d p)
 popping_fits op w d p hd hp =
-    let back : AllFit (pop_r4 ∷ branch 0xF004 None ∷ []) = search rules in
+    let back : AllFit (pop_r4 ∷ branch GOES None ∷ []) = search rules in
     let through : AllFit (pop_r4 ∷ from_r4 op w d p.destination ∷ []) = search rules in
     let own : AllFit (p ∷ []) = (hp, tt) in
-    fit_if (is_pc d) (pop_guard ++ pop_r4 ∷ branch 0xF004 None ∷ []) (if is_plain_pop op w d then pop_guard ++ p ∷ [] else pop_guard ++ pop_r4 ∷ from_r4 op w d p.destination ∷ [])
-    (fit_append pop_guard (pop_r4 ∷ branch 0xF004 None ∷ []) pop_fits back)
+    fit_if (is_pc d) (pop_guard ++ pop_r4 ∷ branch GOES None ∷ []) (if is_plain_pop op w d then pop_guard ++ p ∷ [] else pop_guard ++ pop_r4 ∷ from_r4 op w d p.destination ∷ [])
+    (fit_append pop_guard (pop_r4 ∷ branch GOES None ∷ []) pop_fits back)
     (fit_if (is_plain_pop op w d) (pop_guard ++ p ∷ []) (pop_guard ++ pop_r4 ∷ from_r4 op w d p.destination ∷ [])
     (fit_append pop_guard (p ∷ []) pop_fits own) (fit_append pop_guard (pop_r4 ∷ from_r4 op w d p.destination ∷ []) pop_fits through))
 
@@ -115,8 +116,8 @@ setting_fits op w s k hs = search rules
 writing_fits : (op : Op2) (w : Width) (s : Src) (p : Piece) (a : Aim) → SrcFits s → InstrFits p.instr → AimFits a → AllFit (writing op w s p a)
 writing_fits op w s p ToPc hs hp ha =
     let own : AllFit (p ∷ []) = (hp, tt) in
-    let over : AllFit (into_r4 Mov Wide s p.source ∷ branch 0xF004 None ∷ []) = search rules in
-    fit_if (is_immediate s) (p ∷ []) (into_r4 Mov Wide s p.source ∷ branch 0xF004 None ∷ []) own over
+    let over : AllFit (into_r4 Mov Wide s p.source ∷ branch GOES None ∷ []) = search rules in
+    fit_if (is_immediate s) (p ∷ []) (into_r4 Mov Wide s p.source ∷ branch GOES None ∷ []) own over
 writing_fits op w s p ToSp hs hp ha = setting_fits op w s p.source hs
 writing_fits op w s p (ToMemory n x k) hs hp ha =
     let through : AllFit (through_r4 op w s p.source ∷ []) = search rules in fit_append (store_guard n x k) (through_r4 op w s p.source ∷ []) (store_fits n x k ha) through

@@ -1,6 +1,7 @@
 -- What is wrong with a source object, and where.
 use Rattle.std.specs.Prelude.{◌≡◌, ◌≢◌, ℕ, ◌+◌, ◌*◌, ◌<◌, ◌≤◌, ◌⊎◌, ◌==◌, if◌then◌else◌, List, [], ◌∷◌, ◌++◌, length, ℤ, pos, ◌+ℤ◌, false, Option, None, Some, MatchOption, Result, Ok, Err}
 use Rattle.std.specs.List.{Any}
+use Rattle.msp_encode.specs.declared.registers.TheConstants.{CHECKED, KEPT_STATUS, PC, SP, SR}
 use Rattle.msp_encode.specs.declared.instr.Src.{Src}
 use Rattle.msp_encode.specs.declared.instr.Src.TheVariants as src
 use Rattle.msp_encode.specs.declared.instr.Dst.{Dst}
@@ -8,9 +9,11 @@ use Rattle.msp_encode.specs.declared.instr.Dst.TheVariants as dst
 use Rattle.msp_encode.specs.declared.instr.Instr.{Instr}
 use Rattle.msp_encode.specs.declared.instr.Instr.TheVariants as instr
 use Rattle.msp_encode.specs.Spelling.{src_words, dst_words}
+use Rattle.code_model.specs.declared.object.TheConstants.{CODE_WORDS_MAX}
 use Rattle.code_model.specs.declared.object.Object.{Object}
 use Rattle.code_model.specs.declared.parts.Export.{Export}
 use Rattle.code_model.specs.declared.parts.Reloc.{Reloc}
+use Rattle.kernel_model.specs.declared.entries.TheConstants.{CALLS, GOES}
 use Rattle.kernel_model.specs.declared.kinds.Kind.{Kind}
 use Rattle.kernel_model.specs.declared.kinds.Kind.TheVariants.{App}
 use Rattle.code_model.specs.declared.parts.RelKind.{RelKind}
@@ -41,7 +44,7 @@ number TooLarge = 5
 -- ---- an operand names R4 or R5
 
 abbrev pub IsCheck : ℕ → Type 0
-IsCheck n = (n ≡ 4) ⊎ (n ≡ 5)
+IsCheck n = (n ≡ CHECKED) ⊎ (n ≡ KEPT_STATUS)
 
 abbrev pub SrcUsesCheck : Src → Type 0
 SrcUsesCheck (src.Reg n) = IsCheck n
@@ -75,13 +78,13 @@ ChangesFlags _ k = ⊥
 
 -- a MOV of a word to PC
 abbrev pub SetsPc : Instr → Type 0
-SetsPc (instr.Two op w s d) = IsMov op × IsWide w × DstIs d 0
+SetsPc (instr.Two op w s d) = IsMov op × IsWide w × DstIs d PC
 SetsPc _ = ⊥
 
 -- PC is read in register mode, by a source or by a destination that isn't moved to
 abbrev pub ReadsPc : Instr → Type 0
-ReadsPc (instr.Two op w s d) = SrcIs s 0 ⊎ (DstIs d 0 × (IsMov op → ⊥))
-ReadsPc (instr.One op w s) = SrcIs s 0
+ReadsPc (instr.Two op w s d) = SrcIs s PC ⊎ (DstIs d PC × (IsMov op → ⊥))
+ReadsPc (instr.One op w s) = SrcIs s PC
 ReadsPc _ = ⊥
 
 abbrev pub IsSymbolicSrc : Src → Type 0
@@ -102,7 +105,7 @@ IsAutoInc (src.AutoInc n) = Unit {0}
 IsAutoInc _ = ⊥
 
 abbrev pub IsSpecial : Src → Type 0
-IsSpecial s = SrcIs s 0 ⊎ (SrcIs s 1 ⊎ SrcIs s 2)
+IsSpecial s = SrcIs s PC ⊎ (SrcIs s SP ⊎ SrcIs s SR)
 
 -- RRC, RRA, SWPB or SXT on PC, SP or SR, or through autoincrement
 abbrev pub HasBadOperand : Instr → Type 0
@@ -114,12 +117,12 @@ IsMemory (dst.Reg n) = ⊥
 IsMemory _ = Unit {0}
 
 abbrev pub IsNoPopTarget : Dst → Type 0
-IsNoPopTarget d = DstIs d 1 ⊎ (DstIs d 2 ⊎ IsMemory d)
+IsNoPopTarget d = DstIs d SP ⊎ (DstIs d SR ⊎ IsMemory d)
 
 -- @SP+ is the source of PUSH, of CALL, or of an operation that writes SP, SR or memory
 abbrev pub PopsAmiss : Instr → Type 0
-PopsAmiss (instr.Two op w s d) = Pops s 1 × Writes op × IsNoPopTarget d
-PopsAmiss (instr.One op w s) = Stacks op × Pops s 1
+PopsAmiss (instr.Two op w s d) = Pops s SP × Writes op × IsNoPopTarget d
+PopsAmiss (instr.One op w s) = Stacks op × Pops s SP
 PopsAmiss _ = ⊥
 
 -- the source is @Rn+ and the destination X(Rn)
@@ -173,10 +176,10 @@ JumpsAmiss code at _ = ⊥
 
 -- what source may name: F004 and F006 are for units alone
 abbrev pub IsSourceJump : Kind → ℕ → Type 0
-IsSourceJump kind x = IsJumpEntry kind x × (x ≢ 0xF004)
+IsSourceJump kind x = IsJumpEntry kind x × (x ≢ GOES)
 
 abbrev pub IsSourceCall : Kind → ℕ → Type 0
-IsSourceCall kind x = IsCallEntry kind x × (x ≢ 0xF006)
+IsSourceCall kind x = IsCallEntry kind x × (x ≢ CALLS)
 
 -- a word with this relocation names a start
 abbrev pub NamesStart : List ℕ → ℕ → Option RelKind → Type 0
@@ -271,7 +274,7 @@ pub record IsFirst (o : Object) (k : InsertKind) (x : ℕ) : Type 0 where
 
 -- the most words of code
 unfoldable pub most_words : ℕ
-most_words = 8192
+most_words = CODE_WORDS_MAX
 
 -- the units of the lines before this one fit, and its own passes the most words
 pub record Passes (o : Object) (x : ℕ) : Type 0 where

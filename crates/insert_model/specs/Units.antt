@@ -1,5 +1,6 @@
 -- The unit of each source instruction: what stands for it in an object with guards.
 use Rattle.std.specs.Prelude.{ℕ, ◌+◌, ◌-◌, ◌*◌, ◌/◌, ◌==◌, ◌&&◌, Bool, true, false, nat_le, nat_lt, if◌then◌else◌, List, [], ◌∷◌, ◌++◌, length, ℤ, pos, negsuc, Option, None, Some}
+use Rattle.msp_encode.specs.declared.registers.TheConstants.{CHECKED, PC, SP}
 use Rattle.msp_encode.specs.declared.instr.Op2.{Op2}
 use Rattle.msp_encode.specs.declared.instr.Op2.TheVariants.{Mov, Add, Addc, Subc, Sub, Cmp, Dadd, Bit, Bic, Bis, Xor, And}
 use Rattle.msp_encode.specs.declared.instr.Op1.{Op1}
@@ -23,6 +24,7 @@ use Rattle.insert_model.specs.declared.line.Line.{Line}
 use Rattle.insert_model.specs.declared.piece.Piece.{Piece}
 use Rattle.insert_model.specs.Source.{own}
 use Rattle.insert_model.specs.Guards.{plain, jump, branch, take_sp, pop_r4, give_sp, store_guard, growth_guard, pop_guard, sp_guard}
+use Rattle.kernel_model.specs.declared.entries.TheConstants.{CALLS, GOES}
 
 -- ---- what a destination asks for
 
@@ -42,7 +44,7 @@ abbrev pub absolute_aim : (size x : ℕ) → Option RelKind → Aim
 absolute_aim size x k = if is_static size x k then Elsewhere else ToMemory 3 x k
 
 abbrev pub aim : (size : ℕ) → Dst → Option RelKind → Aim
-aim size (dst.Reg n) k = if n == 0 then ToPc else (if n == 1 then ToSp else Elsewhere)
+aim size (dst.Reg n) k = if n == PC then ToPc else (if n == SP then ToSp else Elsewhere)
 aim size (dst.Indexed n x) k = ToMemory n x k
 aim size (dst.Symbolic x) k = Elsewhere
 aim size (dst.Absolute x) k = absolute_aim size x k
@@ -80,7 +82,7 @@ is_popped (src.Indexed n x) = false
 is_popped (src.Symbolic x) = false
 is_popped (src.Absolute x) = false
 is_popped (src.Indirect n) = false
-is_popped (src.AutoInc n) = n == 1
+is_popped (src.AutoInc n) = n == SP
 is_popped (src.Immediate x) = false
 is_popped (src.Const c) = false
 
@@ -95,7 +97,7 @@ is_immediate (src.Immediate x) = true
 is_immediate (src.Const c) = false
 
 abbrev pub is_pc : Dst → Bool
-is_pc (dst.Reg n) = n == 0
+is_pc (dst.Reg n) = n == PC
 is_pc (dst.Indexed n x) = false
 is_pc (dst.Symbolic x) = false
 is_pc (dst.Absolute x) = false
@@ -119,20 +121,20 @@ is_plain_pop op w d = is_wide_move op w && is_free d
 
 -- `op src,R4`
 abbrev pub into_r4 : Op2 → Width → Src → Option RelKind → Piece
-into_r4 op w s k = record { instr = instr.Two op w s (dst.Reg 4); source = k; destination = None }
+into_r4 op w s k = record { instr = instr.Two op w s (dst.Reg CHECKED); source = k; destination = None }
 
 -- `op src,0(R4)`
 abbrev pub through_r4 : Op2 → Width → Src → Option RelKind → Piece
-through_r4 op w s k = record { instr = instr.Two op w s (dst.Indexed 4 0); source = k; destination = None }
+through_r4 op w s k = record { instr = instr.Two op w s (dst.Indexed CHECKED 0); source = k; destination = None }
 
 -- `op R4,dst`
 abbrev pub from_r4 : Op2 → Width → Dst → Option RelKind → Piece
-from_r4 op w d k = record { instr = instr.Two op w (src.Reg 4) d; source = None; destination = k }
+from_r4 op w d k = record { instr = instr.Two op w (src.Reg CHECKED) d; source = None; destination = k }
 
 -- `op @SP+,dst`: a return, a pop of a whole word into R6 to R15, and another
 abbrev pub popping : Op2 → Width → Dst → Piece → List Piece
 popping op w d p =
-    if is_pc d then pop_guard ++ pop_r4 ∷ branch 0xF004 None ∷ []
+    if is_pc d then pop_guard ++ pop_r4 ∷ branch GOES None ∷ []
     else (if is_plain_pop op w d then pop_guard ++ p ∷ []
     else pop_guard ++ pop_r4 ∷ from_r4 op w d p.destination ∷ [])
 
@@ -142,7 +144,7 @@ setting_sp op w s k = (take_sp ∷ into_r4 op w s k ∷ sp_guard) ++ give_sp ∷
 
 -- `op src,dst` of another source, where the operation writes
 abbrev pub writing : Op2 → Width → Src → Piece → Aim → List Piece
-writing op w s p ToPc = if is_immediate s then p ∷ [] else into_r4 Mov Wide s p.source ∷ branch 0xF004 None ∷ []
+writing op w s p ToPc = if is_immediate s then p ∷ [] else into_r4 Mov Wide s p.source ∷ branch GOES None ∷ []
 writing op w s p ToSp = setting_sp op w s p.source
 writing op w s p (ToMemory n x k) = store_guard n x k ++ through_r4 op w s p.source ∷ []
 writing op w s p Elsewhere = p ∷ []
@@ -162,7 +164,7 @@ changing op w p Elsewhere = p ∷ []
 
 -- `CALL src` of a value
 abbrev pub calling_value : Src → Option RelKind → List Piece
-calling_value s k = (into_r4 Mov Wide s k ∷ growth_guard) ++ plain (instr.One Call Wide (src.Immediate 0xF006)) ∷ []
+calling_value s k = (into_r4 Mov Wide s k ∷ growth_guard) ++ plain (instr.One Call Wide (src.Immediate CALLS)) ∷ []
 
 -- CALL of a place, and of a value
 abbrev pub calling : Src → Piece → List Piece

@@ -13,11 +13,9 @@ ghost use Rattle.interrupts.specs.Pushed.{pushed_bytes};
 
 use crate::lines::LINES;
 use flat_mem::FlatMem;
+use kernel_model::map::VECTORS;
 use machine_model::writes::Writes;
 use msp_machine::regs::{PC, Regs, SP, SR};
-
-/// Where the vector of line 0 lies. That of line n lies n words above it.
-const VECTORS: u16 = 0xFFE0;
 
 /// The one bit of SR that an acceptance keeps: SCG0.
 const SCG0: u16 = 0x0040;

@@ -4,10 +4,8 @@ ghost use Rattle.std.specs.Prelude.{◌≡◌, ◌≢◌, ℕ, ◌<◌, ◌≤�
 ghost use Rattle.std.specs.FinSet as set;
 ghost use Rattle.interrupts.specs.LineSets.{lines_of};
 
+pub use kernel_model::map::LINES;
 use std::marker::Model;
-
-/// How many interrupt lines there are: 0 to 13.
-pub const LINES: u8 = 14;
 
 /// The bits of a word that are a line's.
 const LINE_BITS: u16 = 0x3FFF;

@@ -1,6 +1,7 @@
 -- Threads and applications that end.
 use Rattle.std.specs.Prelude.{◌≢◌, ℕ, ◌<◌, ◌==◌, Bool, not, ◌||◌, if◌then◌else◌, List, [], map}
 use Rattle.std.specs.List.{filter, fold, range_with_len, list_all}
+use Rattle.kernel_model.specs.declared.states.TheConstants.{DONE, FAULTED}
 use Rattle.kernel_model.specs.Kernel.{Kernel, with_thread, app_at, with_app, with_mutex, with_condition, free_mutex, empty_row}
 use Rattle.kernel_model.specs.Words.{running, app_of, number_of, identity, owner_of, none_running}
 use Rattle.kernel_model.specs.declared.ends.AppEnd.{AppEnd}
@@ -16,8 +17,8 @@ others a ts = filter (λ t. not (is_of a t)) ts
 
 -- the state of the row of an application that ended
 abbrev pub end_state : AppEnd → ℕ
-end_state Done = 2
-end_state Faulted = 3
+end_state Done = DONE
+end_state Faulted = FAULTED
 
 -- no thread of the application is live or in a list
 unfoldable pub threads_ended : Kernel → (a : ℕ) → Kernel

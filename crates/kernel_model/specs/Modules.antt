@@ -1,5 +1,7 @@
 -- What the calls on modules do to the kernel.
 use Rattle.std.specs.Prelude.{ℕ, ◌<◌, ◌≤◌, ◌==◌, nat_lt, ◌||◌, List, [], ◌∷◌, slice_index, Option}
+use Rattle.kernel_model.specs.declared.states.TheConstants.{ENDED}
+use Rattle.kernel_model.specs.declared.map.TheConstants.{KERNEL_TOP}
 use Rattle.kernel_model.specs.Kernel.{Kernel, module_at, with_module, function_at}
 use Rattle.kernel_model.specs.Words.{none, calling, running_state, running, running_module, with_running_module, with_state, saved_register}
 use Rattle.kernel_model.specs.Entries.{first_code}
@@ -8,7 +10,7 @@ use Rattle.kernel_model.specs.declared.code.Code.{Code}
 use Rattle.kernel_model.specs.declared.code.Code.TheVariants.{NoFunction, ModuleEnded}
 
 abbrev pub ended_module : ℕ
-ended_module = 2
+ended_module = ENDED
 
 -- each module's row is free, live or ended
 abbrev pub HasKnownModules : Kernel → Type 0
@@ -29,7 +31,7 @@ entered k r =
 -- all registers 0 but PC, SP, R12 and R13
 abbrev pub entered_context : Kernel → List ℕ → List ℕ
 entered_context k r =
-    (function_at k (slice_index r 12)).address ∷ 0x1100 ∷ 0 ∷ 0 ∷ 0 ∷ 0 ∷ 0 ∷ 0 ∷ 0 ∷ 0 ∷ 0 ∷ 0 ∷ slice_index r 13 ∷ slice_index r 14 ∷ 0 ∷ 0 ∷ []
+    (function_at k (slice_index r 12)).address ∷ KERNEL_TOP ∷ 0 ∷ 0 ∷ 0 ∷ 0 ∷ 0 ∷ 0 ∷ 0 ∷ 0 ∷ 0 ∷ 0 ∷ slice_index r 13 ∷ slice_index r 14 ∷ 0 ∷ 0 ∷ []
 
 -- the caller runs again
 abbrev pub call_ended : Kernel → Kernel

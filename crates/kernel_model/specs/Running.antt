@@ -1,5 +1,6 @@
 -- Who runs, and the contexts that the kernel makes.
 use Rattle.std.specs.Prelude.{◌≡◌, ℕ, ◌+◌, ◌<◌, ◌==◌, if◌then◌else◌, List, [], ◌∷◌}
+use Rattle.kernel_model.specs.declared.map.TheConstants.{IDLE, KERNEL_TOP}
 use Rattle.kernel_model.specs.Kernel.{Kernel}
 use Rattle.kernel_model.specs.Words.{none, running, running_module, app_of}
 
@@ -27,4 +28,4 @@ new_context pc sp r12 = pc ∷ sp ∷ 8 ∷ 0 ∷ 0 ∷ 0 ∷ 0 ∷ 0 ∷ 0 ∷ 
 
 -- those of the machine that idles
 abbrev pub idle_context : List ℕ
-idle_context = new_context 0xF07E 0x1100 0
+idle_context = new_context IDLE KERNEL_TOP 0

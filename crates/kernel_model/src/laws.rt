@@ -1,6 +1,7 @@
 //! What ties the layout to the kernel that is read back. Each law is a function that does nothing, and its contract is the law.
 
 ghost use Rattle.std.specs.Prelude.{◌≡◌, ℕ, ◌+◌, ◌*◌, ◌<◌, ◌≤◌, ◌⊎◌, List, length, slice_index, slice_set, All};
+ghost use Rattle.kernel_model.specs.declared.map.TheConstants.{TABLES, TABLES_END};
 ghost use Rattle.kernel_model.specs.Kernel.{Kernel};
 ghost use Rattle.kernel_model.specs.Layout.{kernel_of, layout, tables, table_bytes, outside, empty, Fits, IsLaidOut, queue_of};
 ghost use Rattle.kernel_model.specs.Queues.{QueuesHold, HasQueues};
@@ -46,7 +47,7 @@ pub fn same_memory()
 
 /// Two memories with the same bytes outside the tables have the same byte at each address there.
 pub fn outside_bytes()
-    ensures { (m n : List ℕ) → length m ≡ 65536 → length n ≡ 65536 → outside m ≡ outside n → (a : ℕ) → (a < 512) ⊎ (4096 ≤ a) → slice_index m a ≡ slice_index n a }
+    ensures { (m n : List ℕ) → length m ≡ 65536 → length n ≡ 65536 → outside m ≡ outside n → (a : ℕ) → (a < TABLES) ⊎ (TABLES_END ≤ a) → slice_index m a ≡ slice_index n a }
 {}
 
 /// The empty kernel is orderly.
@@ -57,7 +58,7 @@ pub fn empty_is_orderly()
 
 /// A byte written above the tables leaves them, and memories with the same tables have the same kernel.
 pub fn tables_stay()
-    ensures written { (m : List ℕ) (a v : ℕ) → 4096 ≤ a → tables (slice_set m a v) ≡ tables m }
+    ensures written { (m : List ℕ) (a v : ℕ) → TABLES_END ≤ a → tables (slice_set m a v) ≡ tables m }
     ensures kernel { (m n : List ℕ) → tables n ≡ tables m → kernel_of n ≡ kernel_of m }
 {}
 

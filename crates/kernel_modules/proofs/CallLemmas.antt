@@ -4,6 +4,8 @@ use Rattle.std.proofs.lemmas.Bool.{cases_lt}
 use Rattle.std.proofs.lemmas.List.{get_or_past}
 use Rattle.machine_model.specs.Context.{set_reg}
 use Rattle.machine_model.specs.Memory.{even}
+use Rattle.kernel_model.specs.declared.states.TheConstants.{ENDED}
+use Rattle.kernel_model.specs.declared.map.TheConstants.{KERNEL_TOP}
 use Rattle.kernel_model.specs.Kernel.{Kernel, function_at, module_at, free_module}
 use Rattle.kernel_model.specs.Words.{none, live, free}
 use Rattle.kernel_model.specs.Modules.{ended_module, entered_context}
@@ -30,7 +32,7 @@ pub callee_is : (k : Kernel) (f i : ℕ) → IsSettledKernel k → HasKnownModul
 callee_is k f i h known below is some on =
     let used : (module_at k i).state ≢ free = subst (λ (j : ℕ). (module_at k j).state ≢ free) (sym is) (h.orderly.functions f below (λ e. some (is ∙ e))) in
     let number : i < 4 = used_below k i h used in
-    let states : (module_at k i).state ≤ 2 = known i number in
+    let states : (module_at k i).state ≤ ENDED = known i number in
     record { number = number; alive = omega arith }
 
 -- ---- its registers
@@ -39,18 +41,18 @@ even_same : (n : ℕ) → n % 2 ≡ 0 → even n ≡ n
 even_same n h = omega arith
 
 abbrev context_of : (pc first second : ℕ) → List ℕ
-context_of pc x y = pc ∷ 0x1100 ∷ 0 ∷ 0 ∷ 0 ∷ 0 ∷ 0 ∷ 0 ∷ 0 ∷ 0 ∷ 0 ∷ 0 ∷ x ∷ y ∷ 0 ∷ 0 ∷ []
+context_of pc x y = pc ∷ KERNEL_TOP ∷ 0 ∷ 0 ∷ 0 ∷ 0 ∷ 0 ∷ 0 ∷ 0 ∷ 0 ∷ 0 ∷ 0 ∷ x ∷ y ∷ 0 ∷ 0 ∷ []
 
-four_set : (a x y : ℕ) → set_reg (set_reg (set_reg (set_reg (replicate 16 0) 0 a) 1 0x1100) 12 x) 13 y ≡ context_of (even a) x y
+four_set : (a x y : ℕ) → set_reg (set_reg (set_reg (set_reg (replicate 16 0) 0 a) 1 KERNEL_TOP) 12 x) 13 y ≡ context_of (even a) x y
 unfolding set_reg
 four_set a x y = refl
 
-pub begins_with : (k : Kernel) (r r0 r1 r2 r3 r4 : List ℕ) (a x y : ℕ) → r0 ≡ replicate 16 0 → r1 ≡ set_reg r0 0 a → r2 ≡ set_reg r1 1 0x1100
+pub begins_with : (k : Kernel) (r r0 r1 r2 r3 r4 : List ℕ) (a x y : ℕ) → r0 ≡ replicate 16 0 → r1 ≡ set_reg r0 0 a → r2 ≡ set_reg r1 1 KERNEL_TOP
     → r3 ≡ set_reg r2 12 x → r4 ≡ set_reg r3 13 y → a ≡ (function_at k (get_or r 12 0)).address → (function_at k (get_or r 12 0)).address % 2 ≡ 0
     → x ≡ get_or r 13 0 → y ≡ get_or r 14 0 → r4 ≡ entered_context k r
 begins_with k r r0 r1 r2 r3 r4 a x y e0 e1 e2 e3 e4 is ev first second =
     let pc : ℕ = (function_at k (get_or r 12 0)).address in
-    e4 ∙ ap (λ q. set_reg q 13 y) (e3 ∙ ap (λ q. set_reg q 12 x) (e2 ∙ ap (λ q. set_reg q 1 0x1100) (e1 ∙ ap (λ q. set_reg q 0 a) e0)))
+    e4 ∙ ap (λ q. set_reg q 13 y) (e3 ∙ ap (λ q. set_reg q 12 x) (e2 ∙ ap (λ q. set_reg q 1 KERNEL_TOP) (e1 ∙ ap (λ q. set_reg q 0 a) e0)))
     ∙ four_set a x y
     ∙ ap (λ p. context_of p x y) (ap (λ p. even p) is ∙ even_same pc ev)
     ∙ ap (λ v. context_of pc v y) first

@@ -4,6 +4,7 @@ use Rattle.std.specs.Prelude.{◌==◌, if◌then◌else◌, Result, Ok}
 use Rattle.std.specs.List.{fold}
 use Rattle.std.proofs.lemmas.Bool.{cases_eq}
 use Rattle.std.proofs.lemmas.List.{get_or-set_same, get_or-set_other}
+use Rattle.kernel_model.specs.declared.states.TheConstants.{ENDED, LIVE}
 use Rattle.kernel_model.specs.declared.kinds.Kind.{Kind}
 use Rattle.kernel_model.specs.declared.kinds.Kind.TheVariants.{Module}
 use Rattle.kernel_model.specs.declared.rows.ModuleRow.{ModuleRow}
@@ -109,13 +110,13 @@ known_with m m1 o r n p l h i b =
     ∙ ap (λ (rows : List ModuleRow). get_or rows i free_module) (modules_stay (placed_row k r) (r.dom - 8) r.code_lo o.object.exports) in
     elim (cases_eq i (n - 8)) [
       | inl here ↦
-          let new : (module_at (kernel_of m1) i).state ≡ 1 =
+          let new : (module_at (kernel_of m1) i).state ≡ LIVE =
           ap (λ (x : ModuleRow). x.state) (same ∙ ap (λ (x : ℕ). module_at (placed_row k r) x) here ∙ p.row) in
           omega arith
       | inr other ↦
           let old : module_at (placed_row k r) i ≡ module_at k i =
           get_or-set_other k.modules (r.dom - 8) i (placed_module r) free_module (λ q. other (let is = p.is in omega arith)) in
-          let before : (module_at k i).state ≤ 2 = h i b in
+          let before : (module_at k i).state ≤ ENDED = h i b in
           let state : (module_at (kernel_of m1) i).state ≡ (module_at k i).state = ap (λ (x : ModuleRow). x.state) (same ∙ old) in
           omega arith
     ]

@@ -14,6 +14,8 @@ ghost use Rattle.kernel_modules.specs.Calls.{BecomesBy};
 
 use crate::Code;
 use flat_mem::FlatMem;
+use kernel_model::map::{KERNEL_LIMIT, KERNEL_TOP};
+use kernel_model::states::{CALLING, ENDED};
 use kernel_tables::laws::orderly_queues_hold;
 use kernel_tables::{SysWord, function, module, put, set_thread, thread};
 use kernel_threads::{NONE, running, save};
@@ -36,18 +38,6 @@ pub const SECOND_ARGUMENT: u8 = 13;
 const CALLERS_FIRST: u8 = 13;
 
 const CALLERS_SECOND: u8 = 14;
-
-/// The state of a thread in a module call.
-const CALLING: u16 = 7;
-
-/// The state of the row of a module that ended.
-pub const ENDED: u16 = 2;
-
-/// The limit of the kernel's stack, on which modules run.
-const KERNEL_LIMIT: u16 = 0x1006;
-
-/// The address behind the kernel's stack.
-const KERNEL_TOP: u16 = 0x1100;
 
 /// The running thread enters the module that exported function R12. Its registers are saved as they are, and its state is that of a
 /// module call. The module's registers are all 0 but PC, which is the function's address, SP at the top of the kernel's stack, R12,

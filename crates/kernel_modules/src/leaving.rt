@@ -10,16 +10,14 @@ ghost use Rattle.kernel_model.specs.Words.{none, running, running_module, saved_
 ghost use Rattle.place_model.specs.Settled.{IsSettled};
 ghost use Rattle.kernel_threads.specs.Stacks.{HasStack};
 
-use crate::entering::{ENDED, FIRST_ARGUMENT, SECOND_ARGUMENT};
+use crate::entering::{FIRST_ARGUMENT, SECOND_ARGUMENT};
 use flat_mem::FlatMem;
+use kernel_model::states::{ENDED, RUNNING};
 use kernel_tables::laws::orderly_queues_hold;
 use kernel_tables::{SysWord, app, get, module, put, set_module, set_register, set_thread, thread};
 use kernel_threads::{NONE, THREADS_OF_APP, running};
 use module_laws::{ended_module_is_settled, left_is_settled};
 use msp_machine::Regs;
-
-/// The state of the running thread.
-const RUNNING: u16 = 2;
 
 /// The number of the code that a module has ended.
 const MODULE_ENDED: u16 = 6;

@@ -19,15 +19,13 @@ use code_model::marks::Marks;
 use code_model::object::Object;
 use code_model::parts::Kind;
 use flat_mem::FlatMem;
+use kernel_model::map::APPS;
 use kernel_tables::{FnRow, function, module, set_function};
 use kernel_threads::NONE;
 use load_model::{loaded_is_settled, tables_stand_apart};
 use place_model::laws::{numbers_are_least, placings_are_lowest};
 use region_table::{NoRoom, free_row};
 use reloc_loader::put_module;
-
-/// The number of the first module among the domains.
-const FIRST_MODULE: u8 = 8;
 
 /// Loads a module that was accepted with these marks, with its functions, of which no module has exported one, and answers its
 /// number, the least free one of 8 to 11. It gets the lowest gap of each pool that fits. A function's row gets the module and
@@ -81,7 +79,7 @@ fn put_with_functions(m: &mut FlatMem, o: &Object, marks: &Marks) -> Result<u8, 
         Err(cause) => Err(cause),
         Ok(n) => {
             m.is_flat();
-            put_functions(m, o, n - FIRST_MODULE);
+            put_functions(m, o, n - APPS);
             m.is_flat();
             Ok(n)
         }

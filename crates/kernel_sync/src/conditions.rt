@@ -18,6 +18,7 @@ use crate::caller::{LAST_NUMBER, own_app, own_number, owns};
 use crate::waiting::{go_for, hand_over, set_waiting};
 use arrayvec::ArrayVec;
 use flat_mem::FlatMem;
+use kernel_model::states::ON_CONDITION;
 use kernel_tables::laws::orderly_queues_hold;
 use kernel_tables::{cond, set_cond};
 use kernel_threads::{THREADS_OF_APP, run_none};
@@ -25,9 +26,6 @@ use sync_laws::{
     running_thread_has_room, staying_keeps_locks, waited_is_settled, waiters_are_numbers,
     waiters_may_go, waiting_keeps_locks, waking_keeps_locks, woken_is_settled,
 };
-
-/// The state of a thread that waits for a condition.
-const ON_CONDITION: u16 = 5;
 
 /// Hands mutex i of the running thread's application over, and lets the thread wait for condition c, at the end of its list, to
 /// take the mutex again; nothing runs. `BadArgument` where c or i is over 3, else `NotOwner` where the thread doesn't own the

@@ -17,6 +17,7 @@ use crate::Code;
 use crate::caller::{LAST_NUMBER, own_app, own_number, owns};
 use crate::waiting::{hand_over, join_waiters};
 use flat_mem::FlatMem;
+use kernel_model::map::MUTEXES;
 use kernel_tables::laws::orderly_queues_hold;
 use kernel_tables::{mutex, set_mutex};
 use kernel_threads::{NONE, run_none};
@@ -24,9 +25,6 @@ use sync_laws::{
     all_handed_are_settled, handing_over_keeps_locks, locked_is_settled, locking_keeps_locks,
     running_thread_has_room, staying_keeps_locks, waiters_are_numbers,
 };
-
-/// How many mutexes an application has.
-const MUTEXES: u8 = 4;
 
 /// Locks mutex i of the running thread's application: true where it was free, and is the thread's now; false where another thread
 /// owns it, and this one waits for it at the end of its list, and nothing runs. `BadArgument` where i is over 3, else `OwnLock`

@@ -12,13 +12,11 @@ ghost use Rattle.sync_laws.specs.Waiters.{HasRoom, MayGetReady, MayGo};
 
 use arrayvec::ArrayVec;
 use flat_mem::FlatMem;
+use kernel_model::states::ON_MUTEX;
 use kernel_tables::laws::orderly_queues_hold;
 use kernel_tables::{MutexRow, mutex, set_mutex, set_thread, thread};
 use kernel_threads::{NONE, THREADS_OF_APP, get_ready};
 use sync_laws::{handed_is_settled, handed_runs_on, waiter_may_get_ready, waiters_are_numbers};
-
-/// The state of a thread that waits for a mutex.
-const ON_MUTEX: u16 = 4;
 
 /// Hands mutex i of application a over, a below 8 and i below 4: its first waiter owns it and is ready at the end, or it is free.
 /// Memory is settled before and after.

@@ -5,6 +5,7 @@ use Rattle.std.proofs.lemmas.List.{set_split, length-replicate, replicate_more}
 use Rattle.std.proofs.lemmas.List.Elements.{All-nil, All-replicate}
 use Rattle.std.proofs.lemmas.List.FromFn.{get_or-map-range_with_len}
 use Rattle.flat_mem.specs.Bytes.{patch, word_at}
+use Rattle.kernel_model.specs.declared.map.TheConstants.{FIRST_ROUTINE, KERNEL_LIMIT, KERNEL_TOP, TABLES_END, VECTORS, VECTORS_END}
 use Rattle.kernel_model.specs.Bytes.{part, bytes_of, words_of, filled}
 use Rattle.kernel_model.specs.Kernel.{empty_row, free_mutex}
 use Rattle.kernel_model.specs.Layout.{app_bytes, module_bytes, function_bytes, linked_bytes, thread_bytes, mutex_bytes, queue_ends, layout, table_bytes, empty, kernel_of, IsLaidOut, Fits, FitsList, FitsThread, FitsMutex}
@@ -69,7 +70,7 @@ repeated_more m m1 m2 bs at i r b s p e f h =
 -- ---- the pieces of the empty kernel
 
 abbrev pub start : List ℕ
-start = bytes_of (0x1006 ∷ 0x1100 ∷ 0xFFFF ∷ 0xFFFF ∷ 0 ∷ 0 ∷ 0 ∷ 0 ∷ [])
+start = bytes_of (KERNEL_LIMIT ∷ KERNEL_TOP ∷ 0xFFFF ∷ 0xFFFF ∷ 0 ∷ 0 ∷ 0 ∷ 0 ∷ [])
 
 abbrev pub no_function : List ℕ
 no_function = 255 ∷ 255 ∷ 0 ∷ 0 ∷ []
@@ -153,30 +154,30 @@ vector_size : length vector_bytes ≡ 28
 unfolding vector_bytes
 vector_size = refl
 
-vector_word : (m : List ℕ) → length m ≡ 65536 → part m 65504 28 ≡ vector_bytes → (n : ℕ) → n < 14 → word_at m (65504 + 2 * n) ≡ 61568 + 2 * n
+vector_word : (m : List ℕ) → length m ≡ 65536 → part m VECTORS 28 ≡ vector_bytes → (n : ℕ) → n < 14 → word_at m (VECTORS + 2 * n) ≡ FIRST_ROUTINE + 2 * n
 unfolding vector_bytes
 vector_word m e v n h =
-    word_in m 65504 28 n (65504 + 2 * n) refl refl (omega arith) (omega arith)
+    word_in m VECTORS 28 n (VECTORS + 2 * n) refl refl (omega arith) (omega arith)
     ∙ ap (λ bs. get_or (words_of bs) n 0) v
-    ∙ ap (λ ws. get_or ws n 0) (words_of-bytes_of (map (λ k. 61568 + 2 * k) (range_with_len 0 14)))
-    ∙ get_or-map-range_with_len (λ k. 61568 + 2 * k) 0 14 n n 0 h (omega arith)
+    ∙ ap (λ ws. get_or ws n 0) (words_of-bytes_of (map (λ k. FIRST_ROUTINE + 2 * k) (range_with_len 0 14)))
+    ∙ get_or-map-range_with_len (λ k. FIRST_ROUTINE + 2 * k) 0 14 n n 0 h (omega arith)
 
-pub cleared_lem : (m m1 m2 : List ℕ) → length m ≡ 65536 → m1 ≡ patch m 512 (layout empty) → m2 ≡ patch m1 65504 vector_bytes → Cleared m m2
+pub cleared_lem : (m m1 m2 : List ℕ) → length m ≡ 65536 → m1 ≡ patch m 512 (layout empty) → m2 ≡ patch m1 VECTORS vector_bytes → Cleared m m2
 unfolding table_bytes
 cleared_lem m m1 m2 e f g =
     let tables : length (layout empty) ≡ 3584 = layout_size in
     let vectors : length vector_bytes ≡ 28 = vector_size in
     let size1 : length m1 ≡ 65536 = ap (λ n. length n) f ∙ length-patch m (layout empty) 512 (omega arith) ∙ e in
-    let size2 : length m2 ≡ 65536 = ap (λ n. length n) g ∙ length-patch m1 vector_bytes 65504 (omega arith) ∙ size1 in
+    let size2 : length m2 ≡ 65536 = ap (λ n. length n) g ∙ length-patch m1 vector_bytes VECTORS (omega arith) ∙ size1 in
     let bytes : part m2 512 3584 ≡ layout empty =
     ap (λ n. part n 512 3584) g
-    ∙ part-patch_before m1 vector_bytes 65504 512 3584 (omega arith) (omega arith)
+    ∙ part-patch_before m1 vector_bytes VECTORS 512 3584 (omega arith) (omega arith)
     ∙ ap (λ n. part n 512 3584) f
     ∙ part-patch_all m (layout empty) 512 3584 (sym tables) (omega arith) in
     let laid : IsLaidOut m2 = laid_out_from_layout m2 empty empty_fits empty_queues bytes in
     let kernel : kernel_of m2 ≡ empty = kernel_of-layout m2 empty empty_fits empty_queues bytes in
-    let placed : part m2 65504 28 ≡ vector_bytes = ap (λ n. part n 65504 28) g ∙ part-patch_all m1 vector_bytes 65504 28 (sym vectors) (omega arith) in
-    let byte2 : (a : ℕ) → get_or m2 a 0 ≡ get_or (patch m1 65504 vector_bytes) a 0 = λ a. ap (λ n. get_or n a 0) g in
+    let placed : part m2 VECTORS 28 ≡ vector_bytes = ap (λ n. part n VECTORS 28) g ∙ part-patch_all m1 vector_bytes VECTORS 28 (sym vectors) (omega arith) in
+    let byte2 : (a : ℕ) → get_or m2 a 0 ≡ get_or (patch m1 VECTORS vector_bytes) a 0 = λ a. ap (λ n. get_or n a 0) g in
     let byte1 : (a : ℕ) → get_or m1 a 0 ≡ get_or (patch m 512 (layout empty)) a 0 = λ a. ap (λ n. get_or n a 0) f in
     record {
       kernel = kernel;
@@ -185,14 +186,14 @@ cleared_lem m m1 m2 e f g =
       vectors = vector_word m2 size2 placed;
       others = λ a where'. ⊎_elim
           (λ (low : a < 512).
-          byte2 a ∙ kept_below m1 vector_bytes 65504 a (omega arith) (omega arith)
+          byte2 a ∙ kept_below m1 vector_bytes VECTORS a (omega arith) (omega arith)
           ∙ byte1 a ∙ kept_below m (layout empty) 512 a low (omega arith))
-          (λ (rest : ((4096 ≤ a) × (a < 65504)) ⊎ (65532 ≤ a)). ⊎_elim
-          (λ (mid : (4096 ≤ a) × (a < 65504)).
-          byte2 a ∙ kept_below m1 vector_bytes 65504 a mid.1 (omega arith)
+          (λ (rest : ((TABLES_END ≤ a) × (a < VECTORS)) ⊎ (VECTORS_END ≤ a)). ⊎_elim
+          (λ (mid : (TABLES_END ≤ a) × (a < VECTORS)).
+          byte2 a ∙ kept_below m1 vector_bytes VECTORS a mid.1 (omega arith)
           ∙ byte1 a ∙ kept_above m (layout empty) 512 a (omega (arith, mid.0)) (omega arith))
-          (λ (high : 65532 ≤ a).
-          byte2 a ∙ kept_above m1 vector_bytes 65504 a (omega arith) (omega arith)
+          (λ (high : VECTORS_END ≤ a).
+          byte2 a ∙ kept_above m1 vector_bytes VECTORS a (omega arith) (omega arith)
           ∙ byte1 a ∙ kept_above m (layout empty) 512 a (omega arith) (omega arith))
           rest)
           where';

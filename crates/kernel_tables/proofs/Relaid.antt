@@ -1,6 +1,7 @@
 -- A memory whose thread rows and queues were written anew.
-use Rattle.std.proofs.Common.{◌≡◌, ◌≢◌, ℕ, ◌+◌, ◌*◌, ◌<◌, ◌≤◌, List, [], ◌∷◌, ◌++◌, length, get_or, refl, ap, sym, ◌∙◌, subst, arith, ◌⊎◌, ⊎_elim, inl, inr}
+use Rattle.std.proofs.Common.{◌≡◌, ◌≢◌, ℕ, ◌+◌, ◌-◌, ◌*◌, ◌<◌, ◌≤◌, List, [], ◌∷◌, ◌++◌, length, get_or, refl, ap, sym, ◌∙◌, subst, arith, ◌⊎◌, ⊎_elim, inl, inr}
 use Rattle.std.proofs.lemmas.Bool.{cases_eq}
+use Rattle.kernel_model.specs.declared.map.TheConstants.{TABLES_END}
 use Rattle.kernel_model.specs.Bytes.{part, words_of, before_none, rows}
 use Rattle.kernel_model.specs.Kernel.{Kernel, free_thread}
 use Rattle.kernel_model.specs.Links.{gathered}
@@ -88,8 +89,10 @@ relaid_written m m' ts rs ss e r laid =
 relaid_outside : (m m' : List ℕ) (k : Kernel) → length m ≡ 65536 → Relaid m m' k → outside m' ≡ outside m
 unfolding outside
 relaid_outside m m' k e r =
-    ap (λ bs. bs ++ part m' 4096 61440) (stays m m' k 0 512 e r (omega arith) (λ i l. low 0 512 i (omega arith) l))
-    ∙ ap (λ bs. part m 0 512 ++ bs) (stays m m' k 4096 61440 e r (omega arith) (λ i l. high 4096 i (omega arith)))
+    ap (λ bs. bs ++ part m' TABLES_END (65536 - TABLES_END))
+    (stays m m' k 0 512 e r (omega arith) (λ i l. low 0 512 i (omega arith) l))
+    ∙ ap (λ bs. part m 0 512 ++ bs)
+    (stays m m' k TABLES_END (65536 - TABLES_END) e r (omega arith) (λ i l. high TABLES_END i (omega arith)))
 
 relaid_bytes : (m m' : List ℕ) (ts : List ThreadRow) (rs ss : List ℕ) → length m ≡ 65536 → Relaid m m' (relisted m ts rs ss) → kernel_of m' ≡ relisted m ts rs ss → HasQueueBytes m → HasQueueBytes m'
 unfolding HasQueueBytes tables

@@ -1,8 +1,9 @@
 -- Rows, and the parts of a memory, after one row was written.
-use Rattle.std.proofs.Common.{◌≡◌, ℕ, ◌+◌, ◌*◌, ◌<◌, ◌≤◌, zero, suc, List, [], ◌∷◌, ◌++◌, length, take, drop, get_or, set, refl, ap, sym, ◌∙◌, arith, mul-zero, mul-le-mul_left}
+use Rattle.std.proofs.Common.{◌≡◌, ℕ, ◌+◌, ◌-◌, ◌*◌, ◌<◌, ◌≤◌, zero, suc, List, [], ◌∷◌, ◌++◌, length, take, drop, get_or, set, refl, ap, sym, ◌∙◌, arith, mul-zero, mul-le-mul_left}
 use Rattle.std.specs.List.{flat_map}
 use Rattle.std.proofs.lemmas.List.{same_lists, places, length-drop, length-take-le, drop-drop, drop_at, take_at, take-append-drop}
 use Rattle.flat_mem.specs.Bytes.{patch}
+use Rattle.kernel_model.specs.declared.map.TheConstants.{TABLES_END}
 use Rattle.kernel_model.specs.Bytes.{part, rows}
 use Rattle.kernel_model.specs.Layout.{split, outside}
 use Rattle.kernel_model.proofs.BytesLemmas.{total}
@@ -139,8 +140,9 @@ split-patch (s ∷ ss) (suc i) base a o m bs h e l w =
     ∙ ap (λ ps. part m base s ∷ ps) (split-patch ss i (base + s) a o m bs more (omega arith) l (omega arith))
 
 -- a write into the tables
-pub outside-patch : (m bs : List ℕ) (a : ℕ) → length m ≡ 65536 → 512 ≤ a → a + length bs ≤ 4096 → outside (patch m a bs) ≡ outside m
+pub outside-patch : (m bs : List ℕ) (a : ℕ) → length m ≡ 65536 → 512 ≤ a → a + length bs ≤ TABLES_END
+    → outside (patch m a bs) ≡ outside m
 unfolding outside
 outside-patch m bs a e h l =
-    ap (λ p. p ++ part (patch m a bs) 4096 61440) (part-patch_before m bs a 0 512 h (omega arith))
-    ∙ ap (λ p. part m 0 512 ++ p) (part-patch_after m bs a 4096 61440 l (omega arith))
+    ap (λ p. p ++ part (patch m a bs) TABLES_END (65536 - TABLES_END)) (part-patch_before m bs a 0 512 h (omega arith))
+    ∙ ap (λ p. part m 0 512 ++ p) (part-patch_after m bs a TABLES_END (65536 - TABLES_END) l (omega arith))

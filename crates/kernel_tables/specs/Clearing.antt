@@ -3,6 +3,7 @@ use Rattle.std.specs.Prelude.{◌≡◌, ℕ, ◌+◌, ◌*◌, ◌<◌, ◌≤�
 use Rattle.std.specs.List.{range_with_len}
 use Prim.Native.Nat.{zero, suc}
 use Rattle.flat_mem.specs.Bytes.{word_at}
+use Rattle.kernel_model.specs.declared.map.TheConstants.{FIRST_ROUTINE, TABLES, TABLES_END, VECTORS, VECTORS_END}
 use Rattle.kernel_model.specs.Bytes.{bytes_of}
 use Rattle.kernel_model.specs.Layout.{kernel_of, empty, IsLaidOut}
 use Rattle.kernel_model.specs.Queues.{QueuesHold}
@@ -18,11 +19,11 @@ repeated (suc n) bs = repeated n bs ++ bs
 
 -- the addresses of the lines' routines, as bytes
 unfoldable pub vector_bytes : List ℕ
-vector_bytes = bytes_of (map (λ n. 0xF080 + 2 * n) (range_with_len 0 14))
+vector_bytes = bytes_of (map (λ n. FIRST_ROUTINE + 2 * n) (range_with_len 0 14))
 
 -- an address outside the tables and the vectors
 abbrev pub IsElsewhere : ℕ → Type 0
-IsElsewhere a = (a < 0x0200) ⊎ (((0x1000 ≤ a) × (a < 0xFFE0)) ⊎ (0xFFFC ≤ a))
+IsElsewhere a = (a < TABLES) ⊎ (((TABLES_END ≤ a) × (a < VECTORS)) ⊎ (VECTORS_END ≤ a))
 
 -- the second memory has the empty kernel and the vectors, and the first one's bytes elsewhere
 pub record Cleared (before after : List ℕ) : Type 0 where
@@ -30,5 +31,5 @@ pub record Cleared (before after : List ℕ) : Type 0 where
   pub laid_out : IsLaidOut after
   pub queues : QueuesHold after
   -- line n's vector is the address of its routine
-  pub vectors : (n : ℕ) → n < 14 → word_at after (0xFFE0 + 2 * n) ≡ 0xF080 + 2 * n
+  pub vectors : (n : ℕ) → n < 14 → word_at after (VECTORS + 2 * n) ≡ FIRST_ROUTINE + 2 * n
   pub others : (a : ℕ) → IsElsewhere a → slice_index after a ≡ slice_index before a

@@ -1,11 +1,12 @@
 -- Where the kernel's words lie.
 use Rattle.std.specs.Prelude.{ℕ, ◌+◌, ◌*◌}
+use Rattle.kernel_model.specs.declared.map.TheConstants.{STACK_LIMIT, STACK_TOP}
 use Rattle.kernel_model.specs.declared.rows.SysWord.{SysWord}
 use Rattle.kernel_model.specs.declared.rows.SysWord.TheVariants.{CurLim, CurTop, Running, Module, Budget, Pending, TickLow, TickHigh}
 
 abbrev pub place_of : SysWord → ℕ
-place_of CurLim = 0x0200
-place_of CurTop = 0x0202
+place_of CurLim = STACK_LIMIT
+place_of CurTop = STACK_TOP
 place_of Running = 0x0204
 place_of Module = 0x0206
 place_of Budget = 0x0208

@@ -8,9 +8,11 @@ ghost use Rattle.kernel_tables.specs.Clearing.{Cleared, copies, repeated, vector
 use crate::pieces::{NONE, put_words};
 use crate::places::{
     CONDITION_LISTS, FUNCTION_ROW_BYTES, FUNCTION_ROWS, MUTEX_ROW_BYTES, MUTEX_ROWS, SYSTEM_WORDS,
-    TABLES_END, THREAD_ROWS, UNUSED_END, UNUSED_WORDS, VECTORS,
+    THREAD_ROWS, UNUSED_END, UNUSED_WORDS,
 };
 use flat_mem::FlatMem;
+use kernel_model::map::{FIRST_ROUTINE, KERNEL_LIMIT, KERNEL_TOP, TABLES_END, VECTORS};
+use kernel_model::states;
 
 /// Writes the empty kernel into the tables, and the interrupt vectors. All other bytes stay.
 pub fn clear(m: &mut FlatMem)
@@ -29,7 +31,16 @@ fn clear_tables(m: &mut FlatMem)
     put_words(
         m,
         SYSTEM_WORDS,
-        &[0x1006, 0x1100, 0xFFFF, 0xFFFF, 0, 0, 0, 0],
+        &[
+            KERNEL_LIMIT,
+            KERNEL_TOP,
+            states::NONE,
+            states::NONE,
+            0,
+            0,
+            0,
+            0,
+        ],
     );
     fill(m, UNUSED_WORDS, 0, FUNCTION_ROWS - UNUSED_WORDS);
     free_functions(m);
@@ -77,15 +88,27 @@ fn free_mutexes(m: &mut FlatMem)
 /// Writes the address of each line's routine.
 #[tactic(auto, unfolding(crate::specs::Clearing::vector_bytes))]
 fn put_vectors(m: &mut FlatMem)
-    ensures { m.new ≡ patch m.old 65504 vector_bytes }
+    ensures { m.new ≡ patch m.old VECTORS vector_bytes }
 {
     m.is_flat();
     put_words(
         m,
         VECTORS,
         &[
-            0xF080, 0xF082, 0xF084, 0xF086, 0xF088, 0xF08A, 0xF08C, 0xF08E, 0xF090, 0xF092, 0xF094,
-            0xF096, 0xF098, 0xF09A,
+            FIRST_ROUTINE,
+            FIRST_ROUTINE + 2,
+            FIRST_ROUTINE + 4,
+            FIRST_ROUTINE + 6,
+            FIRST_ROUTINE + 8,
+            FIRST_ROUTINE + 10,
+            FIRST_ROUTINE + 12,
+            FIRST_ROUTINE + 14,
+            FIRST_ROUTINE + 16,
+            FIRST_ROUTINE + 18,
+            FIRST_ROUTINE + 20,
+            FIRST_ROUTINE + 22,
+            FIRST_ROUTINE + 24,
+            FIRST_ROUTINE + 26,
         ],
     );
 }

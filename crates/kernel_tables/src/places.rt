@@ -1,7 +1,9 @@
 //! Where the tables lie, in bytes.
 
+use kernel_model::map::TABLES;
+
 /// The kernel's words, from CURLIM on.
-pub const SYSTEM_WORDS: u16 = 0x0200;
+pub const SYSTEM_WORDS: u16 = TABLES;
 /// The unused words behind them.
 pub const UNUSED_WORDS: u16 = 0x0210;
 /// The first and the last thread of each queue.
@@ -24,11 +26,6 @@ pub const CONDITION_LISTS: u16 = 0x0B20;
 pub const LINE_LISTS: u16 = 0x0BA0;
 /// The unused bytes behind the lines' lists.
 pub const UNUSED_END: u16 = 0x0D60;
-/// The end of the tables.
-pub const TABLES_END: u16 = 0x1000;
-/// The interrupt vectors.
-pub const VECTORS: u16 = 0xFFE0;
-
 /// The bytes of a word.
 pub const WORD_BYTES: u16 = 2;
 /// The bytes of an application's row.

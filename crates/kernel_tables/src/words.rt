@@ -7,6 +7,7 @@ ghost use Rattle.kernel_model.specs.Queues.{Leaves};
 ghost use Rattle.kernel_tables.specs.Places.{place_of};
 
 use flat_mem::FlatMem;
+use kernel_model::map::{STACK_LIMIT, STACK_TOP};
 use kernel_model::rows::SysWord;
 
 /// A word of the kernel, as it stands.
@@ -31,8 +32,8 @@ fn place(w: SysWord) -> u16
     ensures { result ≡ place_of w }
 {
     match w {
-        SysWord::CurLim => 0x0200,
-        SysWord::CurTop => 0x0202,
+        SysWord::CurLim => STACK_LIMIT,
+        SysWord::CurTop => STACK_TOP,
         SysWord::Running => 0x0204,
         SysWord::Module => 0x0206,
         SysWord::Budget => 0x0208,

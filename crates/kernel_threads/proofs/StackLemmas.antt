@@ -2,6 +2,7 @@
 use Rattle.std.proofs.Common.{◌≡◌, ◌≢◌, ℕ, ◌+◌, ◌-◌, ◌*◌, ◌<◌, ◌≤◌, Bool, cond, subst, sym, ap, ◌∙◌, arith}
 use Rattle.std.proofs.lemmas.Bool.{lt-ltb}
 use Rattle.std.proofs.Math.Nat.{mul-le-mul_right}
+use Rattle.kernel_model.specs.declared.map.TheConstants.{DATA_POOL_END}
 use Rattle.kernel_model.specs.Kernel.{Kernel, app_at, module_at}
 use Rattle.kernel_model.specs.Words.{free, app_of, number_of}
 use Rattle.kernel_model.specs.Orderly.{IsLiveThread}
@@ -19,7 +20,7 @@ app_is_domain : (k : Kernel) (a : ℕ) → a < 8 → domain_at k a ≡ app_domai
 app_is_domain k a h = ap (λ (b : Bool). cond b (app_domain (app_at k a)) (module_domain (module_at k (a - 8)))) (lt-ltb a 8 h)
 
 -- a live application's region ends by the pool's end
-region_end : (k : Kernel) (a : ℕ) → IsSettledKernel k → a < 8 → (app_at k a).state ≢ free → (app_at k a).hi ≤ 0x6000
+region_end : (k : Kernel) (a : ℕ) → IsSettledKernel k → a < 8 → (app_at k a).state ≢ free → (app_at k a).hi ≤ DATA_POOL_END
 region_end k a s h used =
     let is : domain_at k a ≡ app_domain (app_at k a) = app_is_domain k a h in
     let in_use : (domain_at k a).state ≢ free = λ e. used (sym (ap (λ (r : DomainRow). r.state) is) ∙ e) in
@@ -30,7 +31,7 @@ region_end k a s h used =
 pub live_stack : (k : Kernel) (t : ℕ) → IsSettledKernel k → t < 32 → (app_at k (app_of t)).state ≢ free → number_of t < (app_at k (app_of t)).threads → HasStack k t
 live_stack k t s h used below =
     let a : AppRow = app_at k (app_of t) in
-    let end : a.hi ≤ 0x6000 = region_end k (app_of t) s (omega arith) used in
+    let end : a.hi ≤ DATA_POOL_END = region_end k (app_of t) s (omega arith) used in
     let place : IsAppPlace a = s.apps (app_of t) (omega arith) used in
     let more : (number_of t + 1) * a.stack ≤ a.threads * a.stack = mul-le-mul_right a.stack (omega arith) in
     omega (arith, place.fits, end, more)

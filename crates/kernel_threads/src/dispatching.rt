@@ -11,9 +11,11 @@ ghost use Rattle.kernel_model.specs.Running.{NoneRuns, ThreadRuns};
 ghost use Rattle.kernel_threads.specs.Contexts.{taken};
 
 use crate::contexts::{new_context, take, words_of};
-use crate::stacks::{KERNEL_TOP, run, run_none, running};
+use crate::stacks::{run, run_none, running};
 use crate::starting::{get_ready, get_ready_first};
 use flat_mem::FlatMem;
+use kernel_model::map::{IDLE, KERNEL_TOP};
+use kernel_model::states::RUNNING;
 use kernel_tables::laws::orderly_queues_hold;
 use kernel_tables::{ready, ready_take, set_thread, thread};
 use msp_machine::Regs;
@@ -21,12 +23,6 @@ use thread_laws::{
     dispatched_is_settled, end_is_settled, front_is_settled, ready_thread, running_thread,
     saved_is_settled,
 };
-
-/// The state of the running thread.
-const RUNNING: u16 = 2;
-
-/// The address of the kernel's instruction that idles.
-const IDLE: u16 = 0xF07E;
 
 /// Keeps the registers in the running thread's row. Memory is settled before and after.
 pub fn save(m: &mut FlatMem, r: &Regs)

@@ -13,18 +13,17 @@ ghost use Rattle.kernel_threads.specs.Leaving.{is_last_thread, rows_emptied};
 
 use crate::AppEnd;
 use crate::leaving::{leave_lines, leave_ready, leave_sleepers};
-use crate::stacks::{NONE, THREADS_OF_APP, run_none, running};
-use crate::starting::{FREE, is_free};
+use crate::stacks::{run_none, running};
+use crate::starting::is_free;
 use arrayvec::ArrayVec;
 use flat_mem::FlatMem;
+use kernel_model::map::{MUTEXES, THREADS_OF_APP};
+use kernel_model::states::{DONE, FAULTED, FREE, NONE};
 use kernel_tables::laws::orderly_queues_hold;
 use kernel_tables::{
     MutexRow, SysWord, ThreadRow, app, get, set_app, set_cond, set_mutex, set_thread,
 };
 use thread_laws::{end_frees_locks, ended_is_settled, exited_is_settled, running_thread};
-
-/// How many mutexes an application has, and how many conditions.
-const MUTEXES: u8 = 4;
 
 /// The row of a thread that isn't live.
 const EMPTY_ROW: ThreadRow = ThreadRow {
@@ -168,7 +167,7 @@ fn end_state(how: AppEnd) -> u16
     ensures { result ≡ end_state how }
 {
     match how {
-        AppEnd::Done => 2,
-        AppEnd::Faulted => 3,
+        AppEnd::Done => DONE,
+        AppEnd::Faulted => FAULTED,
     }
 }

@@ -12,9 +12,10 @@ ghost use Rattle.kernel_threads.specs.Entries.{AnswersBy, Spawns};
 
 use crate::Code;
 use crate::returning::is_own_mark;
-use crate::stacks::{THREADS_OF_APP, running};
+use crate::stacks::running;
 use crate::starting::{begin, is_free};
 use flat_mem::FlatMem;
+use kernel_model::map::THREADS_OF_APP;
 use kernel_tables::laws::orderly_queues_hold;
 use kernel_tables::{app, set_thread, thread};
 use msp_machine::Regs;

@@ -7,10 +7,9 @@ ghost use Rattle.kernel_model.specs.Layout.{kernel_of};
 ghost use Rattle.kernel_model.specs.Queues.{Leaves, QueuesHold};
 ghost use Rattle.kernel_model.specs.Ending.{others};
 
-use crate::lines::LINES;
-use crate::stacks::THREADS_OF_APP;
 use arrayvec::ArrayVec;
 use flat_mem::FlatMem;
+use kernel_model::map::{LINES, THREADS_OF_APP};
 use kernel_tables::laws::kernel_fits;
 use kernel_tables::{line, ready, ready_take, set_line, sleep_take, sleepers};
 

@@ -27,9 +27,11 @@ pub use ending::{end_app, exit};
 pub use entries::{set_priority, spawn};
 pub use kernel_model::code::Code;
 pub use kernel_model::ends::AppEnd;
+pub use kernel_model::map::THREADS_OF_APP;
+pub use kernel_model::states::NONE;
 pub use lines::{wait_line, wake_line};
 pub use returning::{jump, take_return};
-pub use stacks::{NONE, THREADS_OF_APP, run_none, running};
+pub use stacks::{run_none, running};
 pub use starting::{get_ready, start};
 pub use time::{sleep, tick};
 

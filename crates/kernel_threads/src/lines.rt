@@ -16,6 +16,8 @@ use crate::stacks::{run_none, running};
 use crate::starting::each_ready;
 use arrayvec::ArrayVec;
 use flat_mem::FlatMem;
+use kernel_model::map::LINES;
+use kernel_model::states::ON_LINE;
 use kernel_tables::laws::orderly_queues_hold;
 use kernel_tables::{line, set_line, set_thread, thread};
 use msp_machine::Regs;
@@ -23,12 +25,6 @@ use thread_laws::{
     line_wakes_its_waiters, running_thread, waiters_may_wake, waiting_line_is_settled,
     woken_line_is_settled,
 };
-
-/// How many lines there are.
-pub const LINES: u8 = 14;
-
-/// The state of a thread that waits for a line.
-const ON_LINE: u16 = 6;
 
 /// The running thread waits at the end of the list of the line in R12, and nothing runs. `BadArgument` where that is 0, the line of
 /// the ticks, or above 13; then memory is as it was. Memory is settled before and after.

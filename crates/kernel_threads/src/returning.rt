@@ -11,11 +11,8 @@ ghost use Rattle.kernel_threads.specs.Returns.{GoesOn, gone_to, returned_to};
 use crate::stacks::running_domain;
 use flat_mem::FlatMem;
 use msp_machine::Regs;
-use msp_machine::regs::{PC, SP};
+use msp_machine::regs::{CHECKED, PC, SP};
 use region_table::is_marked;
-
-/// The register that a jump takes its address from.
-const JUMPS_TO: u8 = 4;
 
 /// Returns: takes the word at SP, which is read once. Where it is a mark of the running domain, PC becomes it and SP goes up by 2.
 /// Else the error is the word, and the registers are as before.
@@ -40,7 +37,7 @@ pub fn jump(m: &FlatMem, r: &mut Regs) -> Result<(), u16>
     requires { DomainRuns (kernel_of m.now) }
     ensures { let at = reg r.old 4 in GoesOn m.now r.old r.new at (gone_to r.old at) result }
 {
-    let target = r.get(JUMPS_TO);
+    let target = r.get(CHECKED);
     if !is_own_mark(m, target) {
         return Err(target);
     }

@@ -8,25 +8,12 @@ ghost use Rattle.kernel_model.specs.Running.{DomainRuns, running_domain};
 ghost use Rattle.kernel_threads.specs.Stacks.{HasStack};
 
 use flat_mem::FlatMem;
+use kernel_model::map::{APPS, KERNEL_LIMIT, KERNEL_TOP, THREADS_OF_APP};
+use kernel_model::states::NONE;
 use kernel_tables::{SysWord, app, get, put};
-
-/// How many threads an application may have: an identity is this times the application's number, plus the thread's.
-pub const THREADS_OF_APP: u8 = 4;
-
-/// No thread, no module, no owner.
-pub const NONE: u16 = 0xFFFF;
-
-/// The number of the first module among the domains.
-const FIRST_MODULE: u8 = 8;
 
 /// How far the limit is above the stack's lowest address.
 const LIMIT_MARGIN: u16 = 6;
-
-/// The limit of the kernel's stack.
-const KERNEL_LIMIT: u16 = 0x1006;
-
-/// The address behind the kernel's stack.
-pub const KERNEL_TOP: u16 = 0x1100;
 
 /// The identity of the running thread, below 32.
 pub fn running(m: &FlatMem) -> u8
@@ -45,7 +32,7 @@ pub fn running_domain(m: &FlatMem) -> u8
     if module == NONE {
         (get(m, SysWord::Running) / u16::from(THREADS_OF_APP)) as u8
     } else {
-        FIRST_MODULE + module as u8
+        APPS + module as u8
     }
 }
 

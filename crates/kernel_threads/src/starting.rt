@@ -11,17 +11,13 @@ ghost use Rattle.thread_laws.specs.Facts.{IsUnlisted};
 ghost use Rattle.thread_laws.specs.Wakings.{AreUnlisted};
 
 use crate::contexts::new_context;
-use crate::stacks::{THREADS_OF_APP, stack_high};
+use crate::stacks::stack_high;
 use flat_mem::FlatMem;
+use kernel_model::map::THREADS_OF_APP;
+use kernel_model::states::{FREE, READY};
 use kernel_tables::laws::orderly_queues_hold;
 use kernel_tables::{ThreadRow, ready_end, ready_front, set_thread, thread};
 use thread_laws::{begun_is_settled, free_thread_is_unlisted, next_may_wake};
-
-/// The state of a row with no thread.
-pub const FREE: u16 = 0;
-
-/// The state of a thread in the ready list.
-const READY: u16 = 1;
 
 /// The priority that an application's thread 0 begins with.
 const FIRST_PRIORITY: u16 = 3;

@@ -15,6 +15,7 @@ use crate::entries::FIRST_ARGUMENT;
 use crate::stacks::{run_none, running};
 use crate::starting::each_ready;
 use flat_mem::FlatMem;
+use kernel_model::states::ASLEEP;
 use kernel_tables::laws::orderly_queues_hold;
 use kernel_tables::{
     SysWord, first_later, get, put, set_thread, sleep_in, sleep_take, sleepers, thread,
@@ -23,9 +24,6 @@ use msp_machine::Regs;
 use thread_laws::{
     running_thread, sleepers_may_wake, slept_is_settled, tick_wakes_the_due, ticked_is_settled,
 };
-
-/// The state of a thread that sleeps.
-const ASLEEP: u16 = 3;
 
 /// The running thread sleeps for as many ticks as R12 says, at least one, and nothing runs. The tick that it waits for fits 32
 /// bits. Memory is settled before and after.

@@ -5,6 +5,7 @@ use Rattle.flat_mem.specs.Bytes.{patch}
 use Rattle.code_model.specs.declared.object.Object.{Object}
 use Rattle.code_model.specs.declared.parts.Export.{Export}
 use Rattle.code_model.specs.Statics.{static_size}
+use Rattle.kernel_model.specs.declared.map.TheConstants.{BITMAP, BITMAP_END, CODE_POOL, CODE_POOL_END, DATA_POOL, DATA_POOL_END, TABLES, TABLES_END}
 use Rattle.kernel_model.specs.declared.kinds.Kind.{Kind}
 use Rattle.kernel_model.specs.declared.kinds.Kind.TheVariants.{App, Module}
 use Rattle.kernel_model.specs.Bitmap.{Has}
@@ -88,14 +89,14 @@ pub record ArePlaces (o : Object) (r : Regions) : Type 0 where
   pub number_from : first_number o.kind ≤ r.dom
   pub number_to : r.dom < first_number o.kind + number_count o.kind
   pub code_even : r.code_lo % 2 ≡ 0
-  pub code_low : 0x6000 ≤ r.code_lo
+  pub code_low : CODE_POOL ≤ r.code_lo
   pub code_length : r.code_hi ≡ r.code_lo + code_length o
-  pub code_high : r.code_hi ≤ 0xE000
+  pub code_high : r.code_hi ≤ CODE_POOL_END
   pub region_even : r.lo % 2 ≡ 0
   pub end_even : r.hi % 2 ≡ 0
-  pub region_low : 0x2000 ≤ r.lo
+  pub region_low : DATA_POOL ≤ r.lo
   pub region_length : r.hi ≡ r.lo + region_length o
-  pub region_high : r.hi ≤ 0x6000
+  pub region_high : r.hi ≤ DATA_POOL_END
 
 -- an address neither of the code nor of the region
 pub record IsBeside (r : Regions) (a : ℕ) : Type 0 where
@@ -114,4 +115,4 @@ pub record Loaded (before after : List ℕ) (k : Kernel) (o : Loadable) (r : Reg
   pub marks : (at : ℕ) → IsCodeWord at → r.code_lo ≤ at → at < r.code_hi → IsMarkBit after at ↔ Has o.units ((at - r.code_lo) / 2)
   pub other_marks : (at : ℕ) → IsCodeWord at → (at < r.code_lo) ⊎ (r.code_hi ≤ at) → IsMarkBit after at ↔ IsMarkBit before at
   -- bytes outside of the tables, of the bitmap and of the places
-  pub others : (a : ℕ) → (a < 0x0200) ⊎ (0x1000 ≤ a) → (a < 0x1100) ⊎ (0x1900 ≤ a) → IsBeside r a → slice_index after a ≡ slice_index before a
+  pub others : (a : ℕ) → (a < TABLES) ⊎ (TABLES_END ≤ a) → (a < BITMAP) ⊎ (BITMAP_END ≤ a) → IsBeside r a → slice_index after a ≡ slice_index before a

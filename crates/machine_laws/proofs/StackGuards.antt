@@ -19,6 +19,7 @@ use Rattle.machine_laws.specs.Own.{GuardAt, IsGuardAt, IsAtOwn, GoesTo, Faults}
 use Rattle.machine_laws.proofs.Flags.{status-with_flags, with_flags-small, carry-with_flags, is_zero-with_flags, at_least, apart}
 use Rattle.machine_laws.proofs.Words.{words, set-context}
 use Rattle.machine_laws.proofs.Jumps.{jump-taken, jump-passed, goes}
+use Rattle.kernel_model.specs.declared.entries.TheConstants.{STACK_FAULT}
 
 pub compares_limit-on : (g : GuardAt) (b : Bounds) (kb : ℕ) (m r : List ℕ) → IsGuardAt g → AreBounds b → Limits m b.low b.top → IsSteady kb b.low b.top r → IsContext (words r) → IsAtOwn ComparesLimit g b kb r
     → GoesTo JumpsIfRoom g b kb (does m (words r) (instr.Two Cmp Wide (src.Absolute 512) (dst.Reg 1)) 2)
@@ -49,11 +50,11 @@ jumps_if_room-on g b kb m r gi bi li s k p = elim (cases_Bool (carry (reg r 2)))
 ]
 
 pub growth_fails-on : (g : GuardAt) (b : Bounds) (kb : ℕ) (m r : List ℕ) → IsGuardAt g → AreBounds b → Limits m b.low b.top → IsSteady kb b.low b.top r → IsContext (words r) → IsAtOwn GrowthFails g b kb r
-    → Faults 61442 b kb (does m (words r) (instr.Two Mov Wide (src.Immediate 61442) (dst.Reg 0)) 2)
+    → Faults STACK_FAULT b kb (does m (words r) (instr.Two Mov Wide (src.Immediate STACK_FAULT) (dst.Reg 0)) 2)
 unfolding does two set_reg source_value after_source place_to value_in put_context put_pairs alu added
 growth_fails-on g b kb m r gi bi li s k p = record {
   steady = record {
-    context = set-context (words r) 0 61442 k (omega arith);
+    context = set-context (words r) 0 STACK_FAULT k (omega arith);
     room = s.room;
     within = s.within;
     status = s.status;
@@ -109,11 +110,11 @@ jumps_if_filled-on g b kb m r gi bi li s k p = elim (cases_Bool (is_zero (reg r 
 ]
 
 pub pop_fails-on : (g : GuardAt) (b : Bounds) (kb : ℕ) (m r : List ℕ) → IsGuardAt g → AreBounds b → Limits m b.low b.top → IsSteady kb b.low b.top r → IsContext (words r) → IsAtOwn PopFails g b kb r
-    → Faults 61442 b kb (does m (words r) (instr.Two Mov Wide (src.Immediate 61442) (dst.Reg 0)) 2)
+    → Faults STACK_FAULT b kb (does m (words r) (instr.Two Mov Wide (src.Immediate STACK_FAULT) (dst.Reg 0)) 2)
 unfolding does two set_reg source_value after_source place_to value_in put_context put_pairs alu added
 pop_fails-on g b kb m r gi bi li s k p = record {
   steady = record {
-    context = set-context (words r) 0 61442 k (omega arith);
+    context = set-context (words r) 0 STACK_FAULT k (omega arith);
     room = s.room;
     within = s.within;
     status = s.status;
@@ -197,11 +198,11 @@ jumps_if_new_high-on g b kb m r gi bi li s k p = elim (cases_Bool (carry (reg r 
 ]
 
 pub sp_fails-on : (g : GuardAt) (b : Bounds) (kb : ℕ) (m r : List ℕ) → IsGuardAt g → AreBounds b → Limits m b.low b.top → IsSteady kb b.low b.top r → IsContext (words r) → IsAtOwn SpFails g b kb r
-    → Faults 61442 b kb (does m (words r) (instr.Two Mov Wide (src.Immediate 61442) (dst.Reg 0)) 2)
+    → Faults STACK_FAULT b kb (does m (words r) (instr.Two Mov Wide (src.Immediate STACK_FAULT) (dst.Reg 0)) 2)
 unfolding does two set_reg source_value after_source place_to value_in put_context put_pairs alu added
 sp_fails-on g b kb m r gi bi li s k p = record {
   steady = record {
-    context = set-context (words r) 0 61442 k (omega arith);
+    context = set-context (words r) 0 STACK_FAULT k (omega arith);
     room = s.room;
     within = s.within;
     status = s.status;

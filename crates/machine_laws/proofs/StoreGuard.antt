@@ -21,6 +21,7 @@ use Rattle.machine_laws.specs.Own.{GuardAt, IsLoad, IsGuardAt, IsAtOwn, GoesTo, 
 use Rattle.machine_laws.proofs.Flags.{status-with_flags, with_flags-small, carry-with_flags, at_least, below}
 use Rattle.machine_laws.proofs.Words.{words, set-context}
 use Rattle.machine_laws.proofs.Jumps.{jump-taken, jump-passed, goes}
+use Rattle.kernel_model.specs.declared.entries.TheConstants.{STORE_FAULT}
 
 takes_register-on : (n : ℕ) → (g : GuardAt) (b : Bounds) (kb : ℕ) (m r : List ℕ) → IsGuardAt g → AreBounds b → Limits m b.low b.top → IsSteady kb b.low b.top r → IsContext (words r) → IsAtOwn TakesAddress g b kb r
     → GoesTo AddsIndex g b kb (does m (words r) (instr.Two Mov Wide (src.Reg n) (dst.Reg 4)) 1)
@@ -136,11 +137,11 @@ jumps_if_high-on g b kb m r gi bi li s k p = elim (cases_Bool (carry (reg r 2)))
 ]
 
 pub store_fails-on : (g : GuardAt) (b : Bounds) (kb : ℕ) (m r : List ℕ) → IsGuardAt g → AreBounds b → Limits m b.low b.top → IsSteady kb b.low b.top r → IsContext (words r) → IsAtOwn StoreFails g b kb r
-    → Faults 61440 b kb (does m (words r) (instr.Two Mov Wide (src.Immediate 61440) (dst.Reg 0)) 2)
+    → Faults STORE_FAULT b kb (does m (words r) (instr.Two Mov Wide (src.Immediate STORE_FAULT) (dst.Reg 0)) 2)
 unfolding does two set_reg source_value after_source place_to value_in put_context put_pairs alu added
 store_fails-on g b kb m r gi bi li s k p = record {
   steady = record {
-    context = set-context (words r) 0 61440 k (omega arith);
+    context = set-context (words r) 0 STORE_FAULT k (omega arith);
     room = s.room;
     within = s.within;
     status = s.status;

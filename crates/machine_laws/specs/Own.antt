@@ -12,6 +12,8 @@ use Rattle.msp_encode.specs.declared.instr.Instr.{Instr}
 use Rattle.msp_encode.specs.declared.instr.Instr.TheVariants as instr
 use Rattle.machine_laws.specs.Steady.{IsStatus, IsSteady, Bounds, AreBounds, Limits}
 use Rattle.machine_laws.specs.Places.{GuardPlace, TakesAddress, AddsIndex, ComparesLow, JumpsIfLow, ComparesHigh, JumpsIfHigh, StoreFails, StoreRestores, Stores, ComparesLimit, JumpsIfRoom, GrowthFails, GrowthRestores, Grows, ComparesTop, JumpsIfFilled, PopFails, PopRestores, Pops, ComparesNewLow, JumpsIfNewLow, ComparesNewHigh, JumpsIfNewHigh, SpFails, SpRestores, SetsSp, place_offset, keeps_status, place_fact}
+use Rattle.kernel_model.specs.declared.map.TheConstants.{STACK_LIMIT, STACK_TOP}
+use Rattle.kernel_model.specs.declared.entries.TheConstants.{STACK_FAULT, STORE_FAULT}
 
 -- a guard in memory: the address of its first word, and the source and the index of a store guard
 pub record GuardAt : Type 0 where
@@ -38,21 +40,21 @@ IsOwn ComparesLow g b i n = (i ≡ instr.Two Cmp Wide (src.Immediate b.lo) (dst.
 IsOwn JumpsIfLow g b i n = (i ≡ instr.Jump Nc (pos 3)) × (n ≡ 1)
 IsOwn ComparesHigh g b i n = (i ≡ instr.Two Cmp Wide (src.Immediate b.hi) (dst.Reg 4)) × (n ≡ 2)
 IsOwn JumpsIfHigh g b i n = (i ≡ instr.Jump Nc (pos 2)) × (n ≡ 1)
-IsOwn StoreFails g b i n = (i ≡ instr.Two Mov Wide (src.Immediate 0xF000) (dst.Reg 0)) × (n ≡ 2)
+IsOwn StoreFails g b i n = (i ≡ instr.Two Mov Wide (src.Immediate STORE_FAULT) (dst.Reg 0)) × (n ≡ 2)
 IsOwn StoreRestores g b i n = (i ≡ instr.Two Mov Wide (src.Reg 5) (dst.Reg 2)) × (n ≡ 1)
-IsOwn ComparesLimit g b i n = (i ≡ instr.Two Cmp Wide (src.Absolute 0x0200) (dst.Reg 1)) × (n ≡ 2)
+IsOwn ComparesLimit g b i n = (i ≡ instr.Two Cmp Wide (src.Absolute STACK_LIMIT) (dst.Reg 1)) × (n ≡ 2)
 IsOwn JumpsIfRoom g b i n = (i ≡ instr.Jump C (pos 2)) × (n ≡ 1)
-IsOwn GrowthFails g b i n = (i ≡ instr.Two Mov Wide (src.Immediate 0xF002) (dst.Reg 0)) × (n ≡ 2)
+IsOwn GrowthFails g b i n = (i ≡ instr.Two Mov Wide (src.Immediate STACK_FAULT) (dst.Reg 0)) × (n ≡ 2)
 IsOwn GrowthRestores g b i n = (i ≡ instr.Two Mov Wide (src.Reg 5) (dst.Reg 2)) × (n ≡ 1)
-IsOwn ComparesTop g b i n = (i ≡ instr.Two Cmp Wide (src.Reg 1) (dst.Absolute 0x0202)) × (n ≡ 2)
+IsOwn ComparesTop g b i n = (i ≡ instr.Two Cmp Wide (src.Reg 1) (dst.Absolute STACK_TOP)) × (n ≡ 2)
 IsOwn JumpsIfFilled g b i n = (i ≡ instr.Jump Ne (pos 2)) × (n ≡ 1)
-IsOwn PopFails g b i n = (i ≡ instr.Two Mov Wide (src.Immediate 0xF002) (dst.Reg 0)) × (n ≡ 2)
+IsOwn PopFails g b i n = (i ≡ instr.Two Mov Wide (src.Immediate STACK_FAULT) (dst.Reg 0)) × (n ≡ 2)
 IsOwn PopRestores g b i n = (i ≡ instr.Two Mov Wide (src.Reg 5) (dst.Reg 2)) × (n ≡ 1)
-IsOwn ComparesNewLow g b i n = (i ≡ instr.Two Cmp Wide (src.Absolute 0x0200) (dst.Reg 4)) × (n ≡ 2)
+IsOwn ComparesNewLow g b i n = (i ≡ instr.Two Cmp Wide (src.Absolute STACK_LIMIT) (dst.Reg 4)) × (n ≡ 2)
 IsOwn JumpsIfNewLow g b i n = (i ≡ instr.Jump Nc (pos 3)) × (n ≡ 1)
-IsOwn ComparesNewHigh g b i n = (i ≡ instr.Two Cmp Wide (src.Reg 4) (dst.Absolute 0x0202)) × (n ≡ 2)
+IsOwn ComparesNewHigh g b i n = (i ≡ instr.Two Cmp Wide (src.Reg 4) (dst.Absolute STACK_TOP)) × (n ≡ 2)
 IsOwn JumpsIfNewHigh g b i n = (i ≡ instr.Jump C (pos 2)) × (n ≡ 1)
-IsOwn SpFails g b i n = (i ≡ instr.Two Mov Wide (src.Immediate 0xF002) (dst.Reg 0)) × (n ≡ 2)
+IsOwn SpFails g b i n = (i ≡ instr.Two Mov Wide (src.Immediate STACK_FAULT) (dst.Reg 0)) × (n ≡ 2)
 IsOwn SpRestores g b i n = (i ≡ instr.Two Mov Wide (src.Reg 5) (dst.Reg 2)) × (n ≡ 1)
 IsOwn _ g b i n = ⊥
 
@@ -82,21 +84,21 @@ Next ComparesLow g b kb e = GoesTo JumpsIfLow g b kb e
 Next JumpsIfLow g b kb e = GoesTo StoreFails g b kb e ⊎ GoesTo ComparesHigh g b kb e
 Next ComparesHigh g b kb e = GoesTo JumpsIfHigh g b kb e
 Next JumpsIfHigh g b kb e = GoesTo StoreFails g b kb e ⊎ GoesTo StoreRestores g b kb e
-Next StoreFails g b kb e = Faults 0xF000 b kb e
+Next StoreFails g b kb e = Faults STORE_FAULT b kb e
 Next StoreRestores g b kb e = GoesTo Stores g b kb e
 Next ComparesLimit g b kb e = GoesTo JumpsIfRoom g b kb e
 Next JumpsIfRoom g b kb e = GoesTo GrowthFails g b kb e ⊎ GoesTo GrowthRestores g b kb e
-Next GrowthFails g b kb e = Faults 0xF002 b kb e
+Next GrowthFails g b kb e = Faults STACK_FAULT b kb e
 Next GrowthRestores g b kb e = GoesTo Grows g b kb e
 Next ComparesTop g b kb e = GoesTo JumpsIfFilled g b kb e
 Next JumpsIfFilled g b kb e = GoesTo PopFails g b kb e ⊎ GoesTo PopRestores g b kb e
-Next PopFails g b kb e = Faults 0xF002 b kb e
+Next PopFails g b kb e = Faults STACK_FAULT b kb e
 Next PopRestores g b kb e = GoesTo Pops g b kb e
 Next ComparesNewLow g b kb e = GoesTo JumpsIfNewLow g b kb e
 Next JumpsIfNewLow g b kb e = GoesTo SpFails g b kb e ⊎ GoesTo ComparesNewHigh g b kb e
 Next ComparesNewHigh g b kb e = GoesTo JumpsIfNewHigh g b kb e
 Next JumpsIfNewHigh g b kb e = GoesTo SpFails g b kb e ⊎ GoesTo SpRestores g b kb e
-Next SpFails g b kb e = Faults 0xF002 b kb e
+Next SpFails g b kb e = Faults STACK_FAULT b kb e
 Next SpRestores g b kb e = GoesTo SetsSp g b kb e
 Next _ g b kb e = Unit {0}
 

@@ -2,6 +2,7 @@
 use Rattle.std.specs.Prelude.{◌≡◌, ℕ, ◌+◌, ◌/◌, ◌%◌, ◌<◌, ◌≤◌, List}
 use Rattle.machine_model.specs.Memory.{word_at}
 use Rattle.machine_model.specs.Context.{reg, IsContext}
+use Rattle.kernel_model.specs.declared.map.TheConstants.{STACK_LIMIT, STACK_TOP}
 
 -- a possible SR: no bit outside 010F, and these control bits (bits 3 to 7): 1 for an application, 0 for a module
 pub record IsStatus (kb sr : ℕ) : Type 0 where
@@ -30,8 +31,8 @@ pub record IsSteady (kb low top : ℕ) (r : List ℕ) : Type 0 where
 
 -- the words for the current limit and the current top are those of the stack
 pub record Limits (m : List ℕ) (low top : ℕ) : Type 0 where
-  pub limit : word_at m 0x0200 ≡ low + 6
-  pub last : word_at m 0x0202 ≡ top
+  pub limit : word_at m STACK_LIMIT ≡ low + 6
+  pub last : word_at m STACK_TOP ≡ top
   pub low_even : low % 2 ≡ 0
   pub top_even : top % 2 ≡ 0
   pub order : low + 16 ≤ top

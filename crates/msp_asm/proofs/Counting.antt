@@ -7,16 +7,17 @@ use Rattle.asm_model.specs.declared.piece.DataUnit.TheVariants as unit
 use Rattle.asm_model.specs.declared.progress.Progress.{Progress}
 use Rattle.asm_model.specs.Drafts.{grown}
 use Rattle.asm_model.specs.Directives.{unit_size}
+use Rattle.code_model.specs.declared.object.TheConstants.{STATIC_BYTES_MAX}
 
-too_much : (a z m : ℕ) → 16384 < m → nat_le ((a + m) + (z + 0)) 16384 ≡ false
+too_much : (a z m : ℕ) → STATIC_BYTES_MAX < m → nat_le ((a + m) + (z + 0)) STATIC_BYTES_MAX ≡ false
 too_much a z m h = grind (arith, nat_tests)
 
 -- two growths that pass the limit
-both_large : (p : Progress) (m n : ℕ) → 16384 < m → 16384 < n → grown p 0 m 0 ≡ grown p 0 n 0
+both_large : (p : Progress) (m n : ℕ) → STATIC_BYTES_MAX < m → STATIC_BYTES_MAX < n → grown p 0 m 0 ≡ grown p 0 n 0
 unfolding grown
 both_large p m n h k = rw (too_much p.initialised p.zeroed m h) (rw (too_much p.initialised p.zeroed n k) refl)
 
-large : (u : DataUnit) (n : ℕ) → 32768 ≤ n → 16384 < unit_size u * n
+large : (u : DataUnit) (n : ℕ) → 32768 ≤ n → STATIC_BYTES_MAX < unit_size u * n
 large unit.Word n h = omega arith
 large unit.Byte n h = omega arith
 

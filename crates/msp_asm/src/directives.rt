@@ -16,6 +16,7 @@ use asm_model::fault::AsmKind;
 use asm_model::name::Name;
 use asm_model::piece::Piece;
 use asm_model::progress::{Header, Progress, Section, Version};
+use code_model::object::STATIC_BYTES_MAX;
 
 /// With a header, where there is none yet.
 pub(crate) fn head(p: Progress, header: Result<Header, AsmKind>) -> Result<Progress, AsmKind>
@@ -205,7 +206,7 @@ fn spaced(p: Progress, n: Option<Numeral>) -> Result<Progress, AsmKind>
 {
     match n {
         None => Err(AsmKind::BadDirective),
-        Some(n) if between(0, 16384, n) => grow(p, 0, 0, n.size),
+        Some(n) if between(0, STATIC_BYTES_MAX as u32, n) => grow(p, 0, 0, n.size),
         Some(_) => Err(AsmKind::NumberRange),
     }
 }

@@ -9,15 +9,10 @@ use asm_model::fault::AsmKind;
 use asm_model::name::Value;
 use asm_model::piece::{Piece, Placed};
 use asm_model::progress::{Progress, Section, Version};
+use code_model::object::{CODE_WORDS_MAX, STATIC_BYTES_MAX};
 use msp_encode::instr::{Dst, Instr, Src};
 use std::alloc::{AllocError, Global};
 use std::marker::Model;
-
-/// The largest number of code words.
-const CODE_WORDS_MAX: u32 = 8192;
-
-/// The largest static part, initialised and zeroed bytes together.
-const STATIC_BYTES_MAX: u32 = 16384;
 
 /// Why the assembler stops at a line.
 #[derive(Clone, Copy, Drop)]
@@ -169,7 +164,7 @@ pub(crate) fn grow(
     let code = p.code as u32 + code;
     let initialised = p.initialised as u32 + initialised;
     let zeroed = p.zeroed as u32 + zeroed;
-    if code > CODE_WORDS_MAX || initialised + zeroed > STATIC_BYTES_MAX {
+    if code > CODE_WORDS_MAX as u32 || initialised + zeroed > STATIC_BYTES_MAX as u32 {
         return Err(AsmKind::TooLarge);
     }
     Ok(Progress {

@@ -9,6 +9,7 @@ ghost use Rattle.asm_model.specs.Instructions.{is_legal};
 ghost use Rattle.asm_model.specs.Drafts.{code_words, initialised_bytes};
 ghost use Rattle.asm_model.specs.SecondPass.{behind_source, settled, settle, instr_suits, in_reach, jump_offset, with_instr, with_data, with_entry, with_export, code_end, bytes_of, put_operation, code_place, put_jump_to, put_jump, put_word, below_end, start_of, enter_at, export_at, put_piece, second_pass, known_from};
 ghost use Rattle.msp_asm.specs.Given.{IsLegalPiece, Puts, output_of};
+ghost use Rattle.code_model.specs.declared.object.TheConstants.{CODE_BYTES_MAX, CODE_WORDS_MAX, STATIC_BYTES_MAX};
 
 use crate::built::Built;
 use crate::drafts::{Stop, source_words};
@@ -145,9 +146,9 @@ fn instr_suit(names: &Names, source: Base, destination: Base, i: &Instr) -> bool
 
 /// The offset of the code's end.
 fn end(out: &Built) -> u32
-    requires { length out.now.code ≤ 8192 }
+    requires { length out.now.code ≤ CODE_WORDS_MAX }
     ensures value { result ≡ code_end (output_of out.now) }
-    ensures small { result ≤ 16384 }
+    ensures small { result ≤ CODE_BYTES_MAX }
 {
     2 * out.code.len() as u32
 }
@@ -163,7 +164,7 @@ fn operation(
     destination: Base,
 ) -> Result<(), Stop>
     requires legal { is_legal i.now ≡ true }
-    requires room { length out.old.code ≤ 8192 }
+    requires room { length out.old.code ≤ CODE_WORDS_MAX }
     ensures output { Puts result (put_operation (known_from names.now p) (output_of out.old) i.now source destination) (output_of out.new) }
     ensures code { OnOk result (length out.new.code ≡ length out.old.code + (1 + length (words_after i.now))) }
     ensures initialised { OnOk result (length out.new.initialised ≡ length out.old.initialised) }
@@ -200,7 +201,7 @@ fn place_of_code(value: Option<Value>) -> Result<u32, AsmKind>
 /// A jump's offset in words, from an even offset to another.
 fn offset_words(at: u32, target: u32) -> i16
     requires reach { in_reach at target ≡ true }
-    requires at { at ≤ 16384 }
+    requires at { at ≤ CODE_BYTES_MAX }
     ensures value { result ≡ jump_offset at target }
     ensures legal { (negsuc 511 ≤ℤ result) × (result <ℤ pos 512) }
 {
@@ -210,7 +211,7 @@ fn offset_words(at: u32, target: u32) -> i16
 /// A jump from an offset to another in its reach.
 fn jump_between(cond: Cond, at: u32, target: u32) -> Instr
     requires reach { in_reach at target ≡ true }
-    requires at { at ≤ 16384 }
+    requires at { at ≤ CODE_BYTES_MAX }
     ensures value { result ≡ jumps.Jump cond (jump_offset at target) }
     ensures legal { Legal result }
 {
@@ -232,7 +233,7 @@ fn reaches(at: u32, target: u32) -> bool
 /// Appends a jump to a place.
 fn jump_to(out: &mut Built, cond: Cond, target: Result<u32, AsmKind>) -> Result<(), Stop>
     requires target { IfOk target (λ at. at < 2 ^ 17) }
-    requires room { length out.old.code ≤ 8192 }
+    requires room { length out.old.code ≤ CODE_WORDS_MAX }
     ensures output { Puts result (put_jump_to (output_of out.old) cond target) (output_of out.new) }
     ensures code { OnOk result (length out.new.code ≡ length out.old.code + 1) }
     ensures initialised { OnOk result (length out.new.initialised ≡ length out.old.initialised) }
@@ -252,7 +253,7 @@ fn jump_to(out: &mut Built, cond: Cond, target: Result<u32, AsmKind>) -> Result<
 /// Appends a jump.
 #[tactic(auto, unfolding(asm_model::specs::SecondPass::put_jump))]
 fn jump(names: &Names, p: Progress, out: &mut Built, cond: Cond, target: Name) -> Result<(), Stop>
-    requires { length out.old.code ≤ 8192 }
+    requires { length out.old.code ≤ CODE_WORDS_MAX }
     ensures output { Puts result (put_jump (known_from names.now p) (output_of out.old) cond target) (output_of out.new) }
     ensures code { OnOk result (length out.new.code ≡ length out.old.code + 1) }
     ensures initialised { OnOk result (length out.new.initialised ≡ length out.old.initialised) }
@@ -263,7 +264,7 @@ fn jump(names: &Names, p: Progress, out: &mut Built, cond: Cond, target: Name) -
 /// Appends an initialised word.
 #[tactic(auto, unfolding(asm_model::specs::SecondPass::put_word))]
 fn word(names: &Names, p: Progress, out: &mut Built, base: Base, word: u16) -> Result<(), Stop>
-    requires { length out.old.initialised ≤ 16384 }
+    requires { length out.old.initialised ≤ STATIC_BYTES_MAX }
     ensures output { Puts result (put_word (known_from names.now p) (output_of out.old) base word) (output_of out.new) }
     ensures code { OnOk result (length out.new.code ≡ length out.old.code) }
     ensures initialised { OnOk result (length out.new.initialised ≡ length out.old.initialised + 2) }
@@ -332,9 +333,9 @@ fn export(out: &mut Built, number: u8, at: Result<u32, AsmKind>) -> Result<(), S
 #[tactic(auto, unfolding(asm_model::specs::SecondPass::put_piece))]
 pub(crate) fn put(names: &Names, p: Progress, out: &mut Built, piece: &Piece) -> Result<(), Stop>
     requires legal { IsLegalPiece piece.now }
-    requires code { length out.old.code ≤ 8192 }
-    requires initialised { length out.old.initialised ≤ 16384 }
-    requires total { p.code ≤ 8192 }
+    requires code { length out.old.code ≤ CODE_WORDS_MAX }
+    requires initialised { length out.old.initialised ≤ STATIC_BYTES_MAX }
+    requires total { p.code ≤ CODE_WORDS_MAX }
     ensures output { Puts result (put_piece (known_from names.now p) (output_of out.old) piece.now) (output_of out.new) }
     ensures code { OnOk result (length out.new.code ≡ length out.old.code + code_words piece.now) }
     ensures initialised { OnOk result (length out.new.initialised ≡ length out.old.initialised + initialised_bytes piece.now) }

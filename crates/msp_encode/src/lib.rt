@@ -10,6 +10,7 @@ pub mod encoder;
 pub mod instr;
 pub mod laws;
 pub mod legality;
+pub mod registers;
 
 pub use encoder::encode;
 pub use legality::legal;

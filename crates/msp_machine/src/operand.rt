@@ -9,6 +9,7 @@ use crate::regs::{PC, Regs, SP};
 use flat_mem::FlatMem;
 use machine_model::place::Place;
 use msp_encode::instr::{Cg, Dst, Src, Width};
+use msp_encode::registers::CONSTANTS;
 
 /// `a + b` modulo 65,536.
 pub(crate) fn sum(a: u16, b: u16) -> u16
@@ -140,8 +141,8 @@ pub(crate) fn place_of(src: Src, at: u16, r: &Regs) -> Place
         Src::Absolute(x) => Place::At(x),
         Src::Indirect(n) => Place::At(r.get(n)),
         Src::AutoInc(n) => Place::At(r.get(n)),
-        Src::Immediate(_) => Place::InReg(3),
-        Src::Const(_) => Place::InReg(3),
+        Src::Immediate(_) => Place::InReg(CONSTANTS),
+        Src::Const(_) => Place::InReg(CONSTANTS),
     }
 }
 

@@ -3,19 +3,9 @@
 ghost use Rattle.std.specs.Prelude.{◌≡◌, ◌<◌, replicate};
 ghost use Rattle.machine_model.specs.Context.{IsContext, reg, set_reg};
 
+use msp_encode::registers::CONSTANTS;
+pub use msp_encode::registers::{CHECKED, PC, SP, SR};
 use std::marker::Model;
-
-/// The number of PC, the program counter.
-pub const PC: u8 = 0;
-
-/// The number of SP, the stack pointer.
-pub const SP: u8 = 1;
-
-/// The number of SR, the status register.
-pub const SR: u8 = 2;
-
-/// The register that only generates constants, and always holds 0.
-const CONSTANTS: u8 = 3;
 
 /// Sixteen words, with bit 0 of PC and of SP clear and register 3 zero.
 #[derive(Drop)]

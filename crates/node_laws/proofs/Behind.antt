@@ -1,7 +1,8 @@
 -- What a node's memory shows behind each part of a step.
-use Rattle.std.proofs.Common.{◌≡◌, ◌≢◌, ℕ, ◌+◌, ◌<◌, List, inl, inr, refl, sym, ap, ◌∙◌, subst, arith, Option, None, Some}
+use Rattle.std.proofs.Common.{◌≡◌, ◌≢◌, ℕ, ◌+◌, ◌-◌, ◌<◌, List, inl, inr, refl, sym, ap, ◌∙◌, subst, arith, Option, None, Some}
 use Rattle.std.specs.List.{AllByRecursion}
 use Rattle.std.specs.Int.Bits.{or_zero_r}
+use Rattle.kernel_model.specs.declared.map.TheConstants.{KERNEL_TOP}
 use Rattle.kernel_model.specs.declared.kinds.Kind.{Kind}
 use Rattle.kernel_model.specs.declared.kinds.Kind.TheVariants.{App, Module}
 use Rattle.msp_encode.specs.declared.instr.Instr.{Instr}
@@ -178,7 +179,7 @@ stack-pools s ws h r all =
 
 own-pools : (s : System) (ws : List (ℕ × ℕ)) → IsSound s → IsInOwnStack s ws → AllByRecursion IsInPools ws
 own-pools s ws h (inl i) = stack-pools s ws h i.0 i.1
-own-pools s ws h (inr i) = all-map (Within 0x10FC 0x1100) IsInPools (λ w x. inl (omega (arith, x.0), x.1)) ws i.1
+own-pools s ws h (inr i) = all-map (Within (KERNEL_TOP - 4) KERNEL_TOP) IsInPools (λ w x. inl (omega (arith, x.0), x.1)) ws i.1
 
 accepted-pooled : Given → (s : System) (pick : Option ℕ) (line : ℕ) → IsSound s → s.steps < most_steps
     → case_of s.kernel s.context ≡ Accepts line → IsPooled s (accepted line (seen s) s.context)

@@ -6,6 +6,7 @@ use Rattle.machine_model.specs.Memory.{word_at}
 use Rattle.machine_model.specs.Context.{reg, set_reg}
 use Rattle.machine_laws.specs.Steady.{IsSteady}
 use Rattle.machine_laws.proofs.Registers.{reg_other, steady-reg}
+use Rattle.kernel_model.specs.declared.entries.TheConstants.{CALLS, FIRST_ENTRY, YIELD}
 use Rattle.kernel_model.specs.Kernel.{Kernel, thread_at, with_thread}
 use Rattle.kernel_model.specs.Words.{none, running, app_of, ready_row, with_running}
 use Rattle.kernel_model.specs.Queues.{to_ready_front, to_ready_end}
@@ -39,13 +40,13 @@ pub record IsCalling (s : System) (d : Domain) (entry : ℕ) : Type 0 where
   pub facts : IsThread s d
   pub good : IsGood d (low_in s.kernel.apps (running s.kernel)) (top_in s.kernel.apps (running s.kernel)) s.context
   pub at : reg s.context 0 ≡ entry
-  pub high : 0xF000 ≤ reg s.context 0
+  pub high : FIRST_ENTRY ≤ reg s.context 0
 
 abbrev pub own_of : System → Own
 own_of s = of_app (app_of (running s.kernel))
 
 pub calling : {entry : ℕ} → Given → (s : System) → IsSeen s → IsSound s → ThreadRuns s.kernel
-    → (good : IsGoodFor s.kernel.apps s.placed (running s.kernel) s.context) → (reg s.context 0 ≡ entry) × (0xF000 ≤ entry)
+    → (good : IsGoodFor s.kernel.apps s.placed (running s.kernel) s.context) → (reg s.context 0 ≡ entry) × (FIRST_ENTRY ≤ entry)
     → IsCalling s good.domain entry
 calling laws s see h r good l =
     record {
@@ -177,7 +178,7 @@ pub record IsReturned (s : System) (d : Domain) (c : List ℕ) : Type 0 where
   pub steady : IsSteady (bits d) (low_in s.kernel.apps (running s.kernel)) (top_in s.kernel.apps (running s.kernel)) c
   pub mark : IsMark d (reg c 0)
 
-pub returns-to : {entry : ℕ} → Given → (s : System) (d : Domain) (at : ℕ) → IsCalling s d entry → 0xF006 ≤ reg s.context 0
+pub returns-to : {entry : ℕ} → Given → (s : System) (d : Domain) (at : ℕ) → IsCalling s d entry → CALLS ≤ reg s.context 0
     → at < 65536 → is_mark s.placed (running_domain s.kernel) at ≡ true → IsReturned s d (returned s.context at)
 returns-to laws s d at x l small e =
     let low : ℕ = low_in s.kernel.apps (running s.kernel) in
@@ -191,7 +192,7 @@ returns-to laws s d at x l small e =
       mark = subst (IsMark d) (sym (pc-returned (bits d) low top s.context at x.good.steady room word mark.even_at)) mark;
     }
 
-pub pc-behind : {entry : ℕ} → Given → (s : System) (d : Domain) (at : ℕ) → IsCalling s d entry → 0xF006 ≤ reg s.context 0
+pub pc-behind : {entry : ℕ} → Given → (s : System) (d : Domain) (at : ℕ) → IsCalling s d entry → CALLS ≤ reg s.context 0
     → is_mark s.placed (running_domain s.kernel) at ≡ true → reg (returned s.context at) 0 ≡ at
 pc-behind laws s d at x l e =
     let low : ℕ = low_in s.kernel.apps (running s.kernel) in
@@ -234,7 +235,7 @@ told-safe laws s d k pick e x rest =
       spelled = tt;
     }
 
-pub yields-safe : Given → (s : System) (d : Domain) (pick : Option ℕ) → IsCalling s d 0xF00C → 0xF006 ≤ reg s.context 0
+pub yields-safe : Given → (s : System) (d : Domain) (pick : Option ℕ) → IsCalling s d YIELD → CALLS ≤ reg s.context 0
     → is_mark s.placed (running_domain s.kernel) (word_at (seen s) (reg s.context 1)) ≡ true
     → IsSafe s (by_turn s (row Yield (returning (work s pick))))
 yields-safe laws s d pick x l e =
@@ -242,6 +243,6 @@ yields-safe laws s d pick x l e =
     let c : List ℕ = set_reg (returned s.context at) 12 0 in
     let r : IsReturned s d c = with-register s d (returned s.context at) 12 0 (omega arith) (omega arith)
     (returns-to laws s d at x l (word-small (seen s) (reg s.context 1) x.see.memory) e) in
-    told-safe laws s d (moved_to_end (saved s.kernel c)) pick 0xF00C x
+    told-safe laws s d (moved_to_end (saved s.kernel c)) pick YIELD x
     (rests-end (own_of s) s.kernel s.kernel s.placed s.steps c x.sound.kernel x.runs (own-thread s)
     (untouched-all (own_of s) s.kernel) (good-returned s d c x r))

@@ -3,6 +3,8 @@ use Rattle.std.proofs.Common.{◌≡◌, ℕ, ◌+◌, ◌*◌, ◌%◌, ◌<◌
 use Rattle.std.specs.Prelude.{◌&&◌}
 use Rattle.std.specs.List.{find}
 use Rattle.std.proofs.lemmas.Bool.{cases_eq, cond-false, cond_both, ne_eqb, and_left}
+use Rattle.kernel_model.specs.declared.map.TheConstants.{FIRST_ROUTINE, IDLE}
+use Rattle.kernel_model.specs.declared.entries.TheConstants.{BROADCAST, CALLS, EMITS, EXITS, FIRST_ENTRY, IDENTITY, LAST_ENTRY, LINE, LOCK, MODULE_CALL, PRIORITY, SIGNAL, SLEEP, SPAWN, TICKS, UNLOCK, WAIT, YIELD}
 use Rattle.kernel_model.specs.declared.kinds.Kind.{Kind}
 use Rattle.kernel_model.specs.declared.kinds.Kind.TheVariants.{App, Module}
 use Rattle.code_model.specs.Rules.{IsJumpEntry, IsCallEntry}
@@ -30,7 +32,7 @@ pub find-none : {X : Type 0} (p : X → Bool) (xs : List X) → ((x : X) → p x
 find-none p [] h = refl
 find-none p (x ∷ xs) h = cond-false (p x) (Some x) (find p xs) (h x) ∙ find-none p xs h
 
-pub entry-least : (e : Call) → (0xF000 ≤ entry_address e) × (entry_address e ≤ 0xF026)
+pub entry-least : (e : Call) → (FIRST_ENTRY ≤ entry_address e) × (entry_address e ≤ LAST_ENTRY)
 entry-least StoreFault = (omega arith, omega arith)
 entry-least StackFault = (omega arith, omega arith)
 entry-least Goes = (omega arith, omega arith)
@@ -96,7 +98,7 @@ entry-row ModuleCall = refl
 entry-row Emits = refl
 entry-row Leave = refl
 
-not-idle : (e : Call) → eqb (entry_address e) 0xF07E ≡ false
+not-idle : (e : Call) → eqb (entry_address e) IDLE ≡ false
 not-idle StoreFault = refl
 not-idle StackFault = refl
 not-idle Goes = refl
@@ -124,59 +126,59 @@ pub record StandsAt (pc : ℕ) : Type 0 where
   pub at : pc ≡ entry_address entry
   pub for_app : is_for_app entry ≡ true
 
-call-named : (x : ℕ) → 0xF006 ≤ x → x ≤ 0xF024 → x % 2 ≡ 0 → StandsAt x
+call-named : (x : ℕ) → CALLS ≤ x → x ≤ EMITS → x % 2 ≡ 0 → StandsAt x
 call-named x l u e =
-    elim (cases_eq x 0xF006) [
+    elim (cases_eq x CALLS) [
       | inl h ↦ record { entry = Calls; at = h; for_app = refl }
       | inr nf006 ↦
-          elim (cases_eq x 0xF008) [
+          elim (cases_eq x EXITS) [
             | inl h ↦ record { entry = Exits; at = h; for_app = refl }
             | inr nf008 ↦
-                elim (cases_eq x 0xF00A) [
+                elim (cases_eq x SPAWN) [
                   | inl h ↦ record { entry = Spawn; at = h; for_app = refl }
                   | inr nf00a ↦
-                      elim (cases_eq x 0xF00C) [
+                      elim (cases_eq x YIELD) [
                         | inl h ↦ record { entry = Yield; at = h; for_app = refl }
                         | inr nf00c ↦
-                            elim (cases_eq x 0xF00E) [
+                            elim (cases_eq x SLEEP) [
                               | inl h ↦ record { entry = Sleep; at = h; for_app = refl }
                               | inr nf00e ↦
-                                  elim (cases_eq x 0xF010) [
+                                  elim (cases_eq x PRIORITY) [
                                     | inl h ↦ record { entry = Priority; at = h; for_app = refl }
                                     | inr nf010 ↦
-                                        elim (cases_eq x 0xF012) [
+                                        elim (cases_eq x IDENTITY) [
                                           | inl h ↦ record { entry = Self; at = h; for_app = refl }
                                           | inr nf012 ↦
-                                              elim (cases_eq x 0xF014) [
+                                              elim (cases_eq x TICKS) [
                                                 | inl h ↦ record { entry = Ticks; at = h; for_app = refl }
                                                 | inr nf014 ↦
-                                                    elim (cases_eq x 0xF016) [
+                                                    elim (cases_eq x LOCK) [
                                                       | inl h ↦ record { entry = Lock; at = h; for_app = refl }
                                                       | inr nf016 ↦
-                                                          elim (cases_eq x 0xF018) [
+                                                          elim (cases_eq x UNLOCK) [
                                                             | inl h ↦ record { entry = Unlock; at = h; for_app = refl }
                                                             | inr nf018 ↦
-                                                                elim (cases_eq x 0xF01A) [
+                                                                elim (cases_eq x WAIT) [
                                                                   | inl h ↦ record { entry = Wait; at = h; for_app = refl }
                                                                   | inr nf01a ↦
-                                                                      elim (cases_eq x 0xF01C) [
+                                                                      elim (cases_eq x SIGNAL) [
                                                                         | inl h ↦ record { entry = Signal; at = h; for_app = refl }
                                                                         | inr nf01c ↦
-                                                                            elim (cases_eq x 0xF01E) [
+                                                                            elim (cases_eq x BROADCAST) [
                                                                               | inl h ↦ record {
                                                                                 entry = Broadcast;
                                                                                 at = h;
                                                                                 for_app = refl;
                                                                               }
                                                                               | inr nf01e ↦
-                                                                                  elim (cases_eq x 0xF020) [
+                                                                                  elim (cases_eq x LINE) [
                                                                                     | inl h ↦ record {
                                                                                       entry = Line;
                                                                                       at = h;
                                                                                       for_app = refl;
                                                                                     }
                                                                                     | inr nf020 ↦
-                                                                                        elim (cases_eq x 0xF022) [
+                                                                                        elim (cases_eq x MODULE_CALL) [
                                                                                           | inl h ↦ record {
                                                                                             entry = ModuleCall;
                                                                                             at = h;
@@ -217,19 +219,19 @@ named Module x e h = absurd (cc)
 pub in-code : (k : Kernel) → ThreadRuns k → case_in_code k ≡ Runs
 in-code k r = cond-false (is_over_budget k) OverBudget Runs (and_left (module_runs k) _ (no-module k r))
 
-pub runs-below : (k : Kernel) (pc : ℕ) → ThreadRuns k → pc < 0xF000 → case_by_line k pc None ≡ Runs
+pub runs-below : (k : Kernel) (pc : ℕ) → ThreadRuns k → pc < FIRST_ENTRY → case_by_line k pc None ≡ Runs
 runs-below k pc r l =
-    cond-false (eqb pc 0xF07E) IsIdle _ (ne_eqb pc 0xF07E (λ e. omega arith))
+    cond-false (eqb pc IDLE) IsIdle _ (ne_eqb pc IDLE (λ e. omega arith))
     ∙ ap (λ (o : Option Call). case_at k o (routine_at pc))
     (find-none (λ c. eqb (entry_address c) pc) calls (λ c. ne_eqb (entry_address c) pc (λ e. omega (arith, (entry-least c).0))))
     ∙ ap (λ (o : Option ℕ). case_at k None o)
-    (find-none (λ n. eqb (0xF080 + 2 * n) pc) lines_down (λ n. ne_eqb (0xF080 + 2 * n) pc (λ e. omega arith)))
+    (find-none (λ n. eqb (FIRST_ROUTINE + 2 * n) pc) lines_down (λ n. ne_eqb (FIRST_ROUTINE + 2 * n) pc (λ e. omega arith)))
     ∙ in-code k r
 
 pub enters-at : (k : Kernel) (pc : ℕ) (e : Call) → pc ≡ entry_address e → case_by_line k pc None ≡ Enters e
 enters-at k pc e h =
     ap (λ (x : ℕ). case_by_line k x None) h
-    ∙ cond-false (eqb (entry_address e) 0xF07E) IsIdle _ (not-idle e)
+    ∙ cond-false (eqb (entry_address e) IDLE) IsIdle _ (not-idle e)
     ∙ ap (λ (o : Option Call). case_at k o (routine_at (entry_address e))) (entry-found e)
 
 -- ---- the step

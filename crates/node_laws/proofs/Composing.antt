@@ -5,6 +5,8 @@ use Rattle.std.specs.Int.{bit_at}
 use Rattle.std.proofs.lemmas.Bool.{cases_lt, cond-false, ne_eqb}
 use Rattle.msp_encode.specs.declared.instr.Instr.{Instr}
 use Rattle.machine_model.specs.Context.{reg}
+use Rattle.kernel_model.specs.declared.map.TheConstants.{FIRST_ROUTINE, IDLE}
+use Rattle.kernel_model.specs.declared.entries.TheConstants.{FIRST_ENTRY}
 use Rattle.kernel_model.specs.Kernel.{Kernel}
 use Rattle.kernel_model.specs.Words.{running}
 use Rattle.kernel_model.specs.Running.{ThreadRuns, NoneRuns, idle_context}
@@ -76,7 +78,7 @@ accepted-below k false n e = absurd (cc)
 
 -- ---- the routine that PC is at
 
-pub routine-found : (l : ℕ) → l < 14 → routine_at (0xF080 + 2 * l) ≡ Some l
+pub routine-found : (l : ℕ) → l < 14 → routine_at (FIRST_ROUTINE + 2 * l) ≡ Some l
 routine-found zero h = refl
 routine-found (suc zero) h = refl
 routine-found (suc (suc zero)) h = refl
@@ -93,17 +95,17 @@ routine-found (suc (suc (suc (suc (suc (suc (suc (suc (suc (suc (suc (suc zero))
 routine-found (suc (suc (suc (suc (suc (suc (suc (suc (suc (suc (suc (suc (suc zero))))))))))))) h = refl
 routine-found (suc (suc (suc (suc (suc (suc (suc (suc (suc (suc (suc (suc (suc (suc l)))))))))))))) h = absurd (omega arith)
 
-no-entry : (l : ℕ) → entry_at (0xF080 + 2 * l) ≡ None
-no-entry l = find-none (λ c. eqb (entry_address c) (0xF080 + 2 * l)) calls
-    (λ c. ne_eqb (entry_address c) (0xF080 + 2 * l) (λ e. omega (arith, (entry-least c).1)))
+no-entry : (l : ℕ) → entry_at (FIRST_ROUTINE + 2 * l) ≡ None
+no-entry l = find-none (λ c. eqb (entry_address c) (FIRST_ROUTINE + 2 * l)) calls
+    (λ c. ne_eqb (entry_address c) (FIRST_ROUTINE + 2 * l) (λ e. omega (arith, (entry-least c).1)))
 
 serves-at : (k : Kernel) (c : List ℕ) (s : IsServing c) → case_of k c ≡ Serves s.line
 unfolding case_of
 serves-at k c s =
     ap (λ (r : ℕ). case_by_line k (reg c 0) (cond (allows_interrupts r) (highest_line k) None)) s.cleared
     ∙ ap (λ (pc : ℕ). case_by_line k pc None) s.at
-    ∙ cond-false (eqb (0xF080 + 2 * s.line) 0xF07E) IsIdle _ (ne_eqb (0xF080 + 2 * s.line) 0xF07E (λ e. omega arith))
-    ∙ ap (λ (o : Option Call). case_at k o (routine_at (0xF080 + 2 * s.line))) (no-entry s.line)
+    ∙ cond-false (eqb (FIRST_ROUTINE + 2 * s.line) IDLE) IsIdle _ (ne_eqb (FIRST_ROUTINE + 2 * s.line) IDLE (λ e. omega arith))
+    ∙ ap (λ (o : Option Call). case_at k o (routine_at (FIRST_ROUTINE + 2 * s.line))) (no-entry s.line)
     ∙ ap (λ (o : Option ℕ). case_at k None o) (routine-found s.line s.number)
 
 by-line : (k : Kernel) (c : List ℕ)
@@ -120,13 +122,13 @@ thread-by : Given → TurnLaws → (s : System) (pick : Option ℕ) → IsSeen s
     → IsSafe s (step_of s pick)
 thread-by laws turns s pick see h few r good (Some n) below e =
     subst (λ (c : Case). IsSafe s (by_case s pick c)) (sym e) (accept-safe laws s n see h r good (below n refl))
-thread-by laws turns s pick see h few r good None below e = elim (cases_lt (reg s.context 0) 0xF000) [
+thread-by laws turns s pick see h few r good None below e = elim (cases_lt (reg s.context 0) FIRST_ENTRY) [
   | inl l ↦ subst (λ (c : Case). IsSafe s (by_case s pick c)) (sym (e ∙ runs-below s.kernel (reg s.context 0) r l))
       (thread-steps laws s see h r good l)
   | inr u ↦ entry u
 ]
   where
-    entry : 0xF000 ≤ reg s.context 0 → IsSafe s (step_of s pick)
+    entry : FIRST_ENTRY ≤ reg s.context 0 → IsSafe s (step_of s pick)
     entry u =
         let f : IsThread s good.domain = thread-facts laws s good.domain see h r good.placed in
         let at : StandsAt (reg s.context 0) =

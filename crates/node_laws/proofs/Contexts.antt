@@ -2,6 +2,7 @@
 use Rattle.std.proofs.Common.{◌≡◌, ℕ, ◌+◌, ◌-◌, ◌/◌, ◌%◌, ◌<◌, ◌≤◌, ◌⊎◌, true, eqb, List, ◌∙◌, subst, inl, inr, arith, Option, Some}
 use Rattle.std.specs.Prelude.{nat_lt, nat_le, ◌&&◌}
 use Rattle.std.proofs.lemmas.Bool.{and_parts, ltb-true, leb-true, eqb-true}
+use Rattle.kernel_model.specs.declared.entries.TheConstants.{CALLS, FIRST_ENTRY}
 use Rattle.kernel_model.specs.declared.kinds.Kind.{Kind}
 use Rattle.kernel_model.specs.declared.kinds.Kind.TheVariants.{App, Module}
 use Rattle.code_model.specs.Guards.{UnitStart}
@@ -56,11 +57,11 @@ good-mark d low top c steady well mark = record {
 -- ---- entries
 
 -- where an application's context stands that is above the code
-pub at-entry : Given → (d : Domain) (low top : ℕ) (m c : List ℕ) → StandsIn d m → IsGood d low top c → 0xF000 ≤ reg c 0
+pub at-entry : Given → (d : Domain) (low top : ℕ) (m c : List ℕ) → StandsIn d m → IsGood d low top c → FIRST_ENTRY ≤ reg c 0
     → IsJumpEntry d.object.kind (reg c 0) ⊎ IsCallEntry d.object.kind (reg c 0)
 at-entry laws d low top m c s good h = elim (laws.entries d low top m c s good h) [ inl j ↦ inl j | inr e ↦ inr e.0 ]
 
-not-jump : (k : Kind) (pc : ℕ) → k ≡ App → 0xF006 ≤ pc → IsJumpEntry k pc → ⊥
+not-jump : (k : Kind) (pc : ℕ) → k ≡ App → CALLS ≤ pc → IsJumpEntry k pc → ⊥
 not-jump App pc e l (inl x) = omega arith
 not-jump App pc e l (inr (inl x)) = omega arith
 not-jump App pc e l (inr (inr x)) = omega arith
@@ -68,7 +69,7 @@ not-jump Module pc e l j = absurd (cc)
 
 -- at an entry of calls a word is on the stack
 pub at-call : Given → (d : Domain) (low top : ℕ) (m c : List ℕ) → StandsIn d m → IsGood d low top c → d.object.kind ≡ App
-    → 0xF006 ≤ reg c 0 → reg c 1 + 2 ≤ top
+    → CALLS ≤ reg c 0 → reg c 1 + 2 ≤ top
 at-call laws d low top m c s good app h =
     elim (laws.entries d low top m c s good (omega arith))
     [ inl j ↦ absurd (not-jump d.object.kind (reg c 0) app h j) | inr e ↦ e.1 ]

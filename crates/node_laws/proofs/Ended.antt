@@ -3,6 +3,7 @@ use Rattle.std.proofs.Common.{◌≡◌, ◌≢◌, ℕ, ◌+◌, ◌*◌, ◌<�
 use Rattle.std.proofs.lemmas.Bool.{cases_eq, cases_lt, cond-true, eqb-false}
 use Rattle.std.proofs.lemmas.List.{length-map, get_or-map, get_or_past, get_or-set_same, get_or-set_other}
 use Rattle.std.proofs.lemmas.List.Elements.{Contains-get_or}
+use Rattle.kernel_model.specs.declared.states.TheConstants.{FAULTED}
 use Rattle.kernel_model.specs.declared.kinds.Kind.{Kind}
 use Rattle.kernel_model.specs.declared.kinds.Kind.TheVariants.{App, Module}
 use Rattle.kernel_model.specs.Kernel.{Kernel, app_at, thread_at, line_at, free_app, free_thread, free_mutex, empty_row}
@@ -48,7 +49,7 @@ not-free : (how : AppEnd) → end_state how ≢ free
 not-free Done = omega arith
 not-free Faulted = omega arith
 
-known : (how : AppEnd) → end_state how ≤ 3
+known : (how : AppEnd) → end_state how ≤ FAULTED
 known Done = omega arith
 known Faulted = omega arith
 

@@ -2,6 +2,7 @@
 use Rattle.std.proofs.Common.{◌≡◌, ◌≢◌, ℕ, ◌+◌, ◌<◌, ◌≤◌, ◌⊎◌, Bool, true, false, cond, List, length, get_or, set, refl, sym, ap, ◌∙◌, subst, inl, inr, arith, Option, Some, length-set}
 use Rattle.std.proofs.lemmas.Bool.{cases_eq, cond-true, eq-eqb, eqb-false}
 use Rattle.std.proofs.lemmas.List.{get_or-set_same, get_or-set_other}
+use Rattle.kernel_model.specs.declared.entries.TheConstants.{LEAVE}
 use Rattle.kernel_model.specs.declared.kinds.Kind.{Kind}
 use Rattle.kernel_model.specs.declared.kinds.Kind.TheVariants.{App, Module}
 use Rattle.code_model.specs.Rules.{IsJumpEntry, IsCallEntry}
@@ -177,7 +178,7 @@ some-module : (k : Kernel) → running_module k < 4 → running_module k ≢ non
 some-module k l e = omega arith
 
 pub leave-safe : (s : System) (d : Domain) (pick : Option ℕ) → IsInModule s d → IsJumpEntry d.object.kind (reg s.context 0)
-    ⊎ IsCallEntry d.object.kind (reg s.context 0) → reg s.context 0 ≡ 0xF026
+    ⊎ IsCallEntry d.object.kind (reg s.context 0) → reg s.context 0 ≡ LEAVE
     → IsSafe s (by_turn s (after_leaving Leave (work s pick) (moved_to_front (left s.kernel s.context))))
 leave-safe s d pick m at here =
     let k : Kernel = s.kernel in

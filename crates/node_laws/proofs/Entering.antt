@@ -4,6 +4,9 @@ use Rattle.std.specs.Prelude.{nat_lt, ◌||◌}
 use Rattle.std.specs.List.{AllByRecursion}
 use Rattle.std.proofs.lemmas.Bool.{cases_lt, ltb-false, eqb-false}
 use Rattle.std.proofs.lemmas.List.{get_or_past}
+use Rattle.kernel_model.specs.declared.states.TheConstants.{ENDED}
+use Rattle.kernel_model.specs.declared.map.TheConstants.{KERNEL_STACK, KERNEL_TOP}
+use Rattle.kernel_model.specs.declared.entries.TheConstants.{MODULE_CALL}
 use Rattle.kernel_model.specs.declared.kinds.Kind.{Kind}
 use Rattle.kernel_model.specs.declared.kinds.Kind.TheVariants.{App, Module}
 use Rattle.machine_model.specs.Memory.{word_at}
@@ -126,7 +129,7 @@ status-module App e = absurd (cc)
 
 first-good : (s : System) (c : List ℕ) → IsSoundKernel s.kernel s.placed s.steps → IsContext c → reg c 12 < 64
     → (function_at s.kernel (reg c 12)).module < 4 → (module_at s.kernel (function_at s.kernel (reg c 12)).module).state ≢ free
-    → IsGoodIn s.placed (8 + (function_at s.kernel (reg c 12)).module) 0x1000 0x1100 (entered_context s.kernel c)
+    → IsGoodIn s.placed (8 + (function_at s.kernel (reg c 12)).module) KERNEL_STACK KERNEL_TOP (entered_context s.kernel c)
 first-good s c h ctx lf li used =
     let k : Kernel = s.kernel in
     let i : ℕ = (function_at k (reg c 12)).module in
@@ -139,7 +142,7 @@ first-good s c h ctx lf li used =
     record {
       domain = d;
       placed = has.1;
-      good = good-mark d 0x1000 0x1100 (entered_context k c) (record {
+      good = good-mark d KERNEL_STACK KERNEL_TOP (entered_context k c) (record {
         context = first-context k c mark.even_at (omega (arith, mark.to, well.code_high)) ctx;
         room = omega arith;
         within = omega arith;
@@ -149,12 +152,12 @@ first-good s c h ctx lf li used =
 
 -- ---- the call
 
-enters : Given → (s : System) (d : Domain) (pick : Option ℕ) (c : List ℕ) → IsCalling s d 0xF022 → IsReturned s d c
+enters : Given → (s : System) (d : Domain) (pick : Option ℕ) (c : List ℕ) → IsCalling s d MODULE_CALL → IsReturned s d c
     → is_mark s.placed (app_of (running s.kernel)) (reg c 0) ≡ true → reg c 12 < 64
     → (function_at s.kernel (reg c 12)).module ≢ none
     → (module_at s.kernel (function_at s.kernel (reg c 12)).module).state ≢ ended_module
     → IsSafe s (by_turn s (goes_straight (entered s.kernel c) (entered_context s.kernel c)
-    (called (record (work s pick) { context = c }) 0xF022)))
+    (called (record (work s pick) { context = c }) MODULE_CALL)))
 enters laws s d pick c x is m lf some on =
     let k : Kernel = s.kernel in
     let i : ℕ = (function_at k (reg c 12)).module in
@@ -162,7 +165,7 @@ enters laws s d pick c x is m lf some on =
     let used : (module_at k i).state ≢ free = h.settled.orderly.functions (reg c 12) lf some in
     let li : i < 4 = within i used in
     let has : HasDomain s.placed (8 + i) = h.domains.modules_used i li used in
-    let known : (module_at k i).state ≤ 2 = (of-module k i has.0 (h.domains.placed (8 + i) has.0 has.1)).1.known in
+    let known : (module_at k i).state ≤ ENDED = (of-module k i has.0 (h.domains.placed (8 + i) has.0 has.1)).1.known in
     let alive : (module_at k i).state ≡ live = omega arith in
     let good : IsGoodFor k.apps s.placed (running k) c = good-returned s d c x is in
     record {
@@ -188,13 +191,13 @@ enters laws s d pick c x is m lf some on =
           (let size = x.sound.kernel.settled.orderly.shape.module_rows in omega arith))))
     ]
 
-enter-by : Given → (s : System) (d : Domain) (pick : Option ℕ) (c : List ℕ) → IsCalling s d 0xF022 → IsReturned s d c
+enter-by : Given → (s : System) (d : Domain) (pick : Option ℕ) (c : List ℕ) → IsCalling s d MODULE_CALL → IsReturned s d c
     → is_mark s.placed (app_of (running s.kernel)) (reg c 0) ≡ true
     → (a : Bool) → nat_lt 63 (reg c 12) ≡ a → (b : Bool) → eqb (function_at s.kernel (reg c 12)).module none ≡ b → (e : Bool)
     → eqb (module_at s.kernel (function_at s.kernel (reg c 12)).module).state ended_module ≡ e
     → IsSafe s (by_turn s (unless ModuleCall (record (work s pick) { context = c })
     (cond (a || b) (Some NoFunction) (cond e (Some ModuleEnded) None))
-    (goes_straight (entered s.kernel c) (entered_context s.kernel c) (called (record (work s pick) { context = c }) 0xF022))))
+    (goes_straight (entered s.kernel c) (entered_context s.kernel c) (called (record (work s pick) { context = c }) MODULE_CALL))))
 enter-by laws s d pick c x is m true ea b eb e ee = code-safe laws s d pick ModuleCall NoFunction c x is
 enter-by laws s d pick c x is m false ea true eb e ee = code-safe laws s d pick ModuleCall NoFunction c x is
 enter-by laws s d pick c x is m false ea false eb true ee = code-safe laws s d pick ModuleCall ModuleEnded c x is
@@ -204,7 +207,7 @@ enter-by laws s d pick c x is m false ea false eb false ee =
 
 pub enter-turn : Given → TurnLaw ModuleCall
 enter-turn laws s pick see h few r good at =
-    let x : IsCalling s good.domain 0xF022 = calling-so laws s see h r good (omega arith, omega arith) in
+    let x : IsCalling s good.domain MODULE_CALL = calling-so laws s see h r good (omega arith, omega arith) in
     let c : List ℕ = returned s.context (word_at (seen s) (reg s.context 1)) in
     call-safe laws s good.domain pick ModuleCall x (omega arith)
     (λ e. enter-by laws s good.domain pick c x (behind-return laws s good.domain x (omega arith) e)

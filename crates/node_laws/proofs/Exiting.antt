@@ -5,6 +5,7 @@ use Rattle.std.specs.List.{list_all}
 use Rattle.std.proofs.lemmas.Bool.{cases_eq, eqb-false}
 use Rattle.std.proofs.lemmas.List.{get_or-set_other}
 use Rattle.std.proofs.lemmas.List.FromFn.{get_or-map-range_with_len, length-map-range_with_len}
+use Rattle.kernel_model.specs.declared.entries.TheConstants.{EXITS}
 use Rattle.kernel_model.specs.Kernel.{Kernel, thread_at, with_thread, app_at, free_thread, empty_row}
 use Rattle.kernel_model.specs.Words.{none, free, live, running, app_of, identity, none_running}
 use Rattle.kernel_model.specs.declared.rows.ThreadRow.{ThreadRow}
@@ -113,7 +114,7 @@ sound-left k ds n h r settled e = record {
 
 -- ---- the exit
 
-pub told-exit : Given → (s : System) (d : Domain) (pick : Option ℕ) (k : Kernel) (b : Bool) → IsCalling s d 0xF008
+pub told-exit : Given → (s : System) (d : Domain) (pick : Option ℕ) (k : Kernel) (b : Bool) → IsCalling s d EXITS
     → IsSoundKernel k s.placed s.steps → NoneRuns k → IsUntouched (own_of s) s.kernel k
     → IsSafe s (by_turn s (record {
       kernel = dispatched k pick;

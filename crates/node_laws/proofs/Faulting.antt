@@ -8,6 +8,7 @@ use Rattle.machine_laws.specs.Steady.{IsSteady}
 use Rattle.machine_model.specs.Operands.{sum_of}
 use Rattle.machine_model.specs.Does.{raised}
 use Rattle.machine_laws.proofs.Registers.{reg_other, steady-reg, pc_same}
+use Rattle.kernel_model.specs.declared.entries.TheConstants.{CALLS, EMITS, GOES, IDENTITY, PRIORITY, SPAWN}
 use Rattle.kernel_model.specs.Kernel.{Kernel, thread_at}
 use Rattle.kernel_model.specs.Words.{running, app_of, number_of}
 use Rattle.kernel_model.specs.Running.{ThreadRuns, running_domain}
@@ -129,7 +130,7 @@ jumps-on laws s d to e x small is =
 
 -- an entry of jumps or one of calls
 abbrev pub IsJump : System → (entry : ℕ) → Type 0
-IsJump s e = IsAtEntry s (who_runs s.kernel) e → IsAtEntry s (who_runs s.kernel) 0xF004 ⊎ IsAtEntry s (who_runs s.kernel) 0xF006
+IsJump s e = IsAtEntry s (who_runs s.kernel) e → IsAtEntry s (who_runs s.kernel) GOES ⊎ IsAtEntry s (who_runs s.kernel) CALLS
 
 jump-by : Given → (s : System) (d : Domain) (pick : Option ℕ) (e : Call) → IsCalling s d (entry_address e)
     → IsJump s (entry_address e) → (b : Bool) → is_mark s.placed (running_domain s.kernel) (reg s.context 4) ≡ b
@@ -148,7 +149,7 @@ jump-safe laws s d pick e x here =
 
 -- the registers behind the return, or the fault
 call-by : Given → (s : System) (d : Domain) (pick : Option ℕ) (e : Call) → IsCalling s d (entry_address e)
-    → 0xF00A ≤ entry_address e → (is_mark s.placed (running_domain s.kernel) (word_at (seen s) (reg s.context 1)) ≡ true
+    → SPAWN ≤ entry_address e → (is_mark s.placed (running_domain s.kernel) (word_at (seen s) (reg s.context 1)) ≡ true
     → IsSafe s (by_turn s (row e (returning (work s pick)))))
     → (b : Bool) → is_mark s.placed (running_domain s.kernel) (word_at (seen s) (reg s.context 1)) ≡ b
     → IsSafe s (by_turn s (cond b (row e (returning (work s pick)))
@@ -159,7 +160,7 @@ call-by laws s d pick e x high goes false is =
     (λ a. record { entry = (entry_address e, high, a); value_is = refl; no_mark = is })
 
 pub call-safe : Given → (s : System) (d : Domain) (pick : Option ℕ) (e : Call) → IsCalling s d (entry_address e)
-    → 0xF00A ≤ entry_address e → (is_mark s.placed (running_domain s.kernel) (word_at (seen s) (reg s.context 1)) ≡ true
+    → SPAWN ≤ entry_address e → (is_mark s.placed (running_domain s.kernel) (word_at (seen s) (reg s.context 1)) ≡ true
     → IsSafe s (by_turn s (row e (returning (work s pick)))))
     → IsSafe s (by_turn s (by_call e (work s pick)))
 call-safe laws s d pick e x high goes =
@@ -208,7 +209,7 @@ pub entered-by : (s : System) (e : ℕ) → IsEntered s e (Entry (s.steps + 1) (
 entered-by s e = record { confined = λ a. a; keeps = λ t k. k; spelled = λ t. tt }
 
 -- the registers behind the return of a call
-pub behind-return : {entry : ℕ} → Given → (s : System) (d : Domain) → IsCalling s d entry → 0xF006 ≤ reg s.context 0
+pub behind-return : {entry : ℕ} → Given → (s : System) (d : Domain) → IsCalling s d entry → CALLS ≤ reg s.context 0
     → is_mark s.placed (running_domain s.kernel) (word_at (seen s) (reg s.context 1)) ≡ true
     → IsReturned s d (returned s.context (word_at (seen s) (reg s.context 1)))
 behind-return laws s d x l is =
@@ -234,7 +235,7 @@ code-safe laws s d pick e c r x is =
 
 -- ---- emit, self
 
-pub emits-safe : Given → (s : System) (d : Domain) (pick : Option ℕ) → IsCalling s d 0xF024 → 0xF006 ≤ reg s.context 0
+pub emits-safe : Given → (s : System) (d : Domain) (pick : Option ℕ) → IsCalling s d EMITS → CALLS ≤ reg s.context 0
     → is_mark s.placed (running_domain s.kernel) (word_at (seen s) (reg s.context 1)) ≡ true
     → IsSafe s (by_turn s (row Emits (returning (work s pick))))
 emits-safe laws s d pick x l is =
@@ -251,7 +252,7 @@ emits-safe laws s d pick x l is =
       spelled = λ t. tt;
     }
 
-pub self-safe : Given → (s : System) (d : Domain) (pick : Option ℕ) → IsCalling s d 0xF012 → 0xF006 ≤ reg s.context 0
+pub self-safe : Given → (s : System) (d : Domain) (pick : Option ℕ) → IsCalling s d IDENTITY → CALLS ≤ reg s.context 0
     → is_mark s.placed (running_domain s.kernel) (word_at (seen s) (reg s.context 1)) ≡ true
     → IsSafe s (by_turn s (row Self (returning (work s pick))))
 self-safe laws s d pick x l is =
@@ -260,7 +261,7 @@ self-safe laws s d pick x l is =
     (256 * app_of (running s.kernel) + number_of (running s.kernel))) 12 0) _ x (nothing-done s x.sound x.runs)
     (good-returned s d _ x (with-register s d _ 12 0 (omega arith) (omega arith)
     (with-register s d _ 13 _ (omega arith) (let t = x.runs.thread in omega arith) (behind-return laws s d x l is))))
-    (entered-by s 0xF012)
+    (entered-by s IDENTITY)
 
 -- ---- priority
 
@@ -280,7 +281,7 @@ sound-priority k ds n r h run p =
       bounded = h.bounded;
     }
 
-priority-by : Given → (s : System) (d : Domain) (pick : Option ℕ) (r : List ℕ) → IsCalling s d 0xF010 → IsReturned s d r
+priority-by : Given → (s : System) (d : Domain) (pick : Option ℕ) (r : List ℕ) → IsCalling s d PRIORITY → IsReturned s d r
     → (b : Bool) → nat_lt 7 (get_or r 12 0) ≡ b
     → IsSafe s (by_turn s (unless Priority (record (work s pick) { context = r }) (cond b (Some BadArgument) None)
     (after Priority (record (work s pick) { context = r }) (with_priority s.kernel r))))
@@ -295,9 +296,9 @@ priority-by laws s d pick r x is false e =
       untouched =
           untouched-row (own_of s) s.kernel (running s.kernel) _ (own-thread s);
     }
-    (good-returned s d _ x (with-register s d r 12 0 (omega arith) (omega arith) is)) (entered-by s 0xF010)
+    (good-returned s d _ x (with-register s d r 12 0 (omega arith) (omega arith) is)) (entered-by s PRIORITY)
 
-pub priority-safe : Given → (s : System) (d : Domain) (pick : Option ℕ) → IsCalling s d 0xF010 → 0xF006 ≤ reg s.context 0
+pub priority-safe : Given → (s : System) (d : Domain) (pick : Option ℕ) → IsCalling s d PRIORITY → CALLS ≤ reg s.context 0
     → is_mark s.placed (running_domain s.kernel) (word_at (seen s) (reg s.context 1)) ≡ true
     → IsSafe s (by_turn s (row Priority (returning (work s pick))))
 priority-safe laws s d pick x l is =

@@ -3,6 +3,7 @@ use Rattle.std.proofs.Common.{◌≡◌, ℕ, zero, suc, ◌<◌, List, [], ◌�
 use Rattle.std.specs.List.{AllByRecursion}
 use Rattle.std.proofs.lemmas.List.{length-replicate}
 use Rattle.flat_mem.specs.Bytes.{patch}
+use Rattle.kernel_model.specs.declared.map.TheConstants.{VECTORS}
 use Rattle.kernel_model.specs.Kernel.{free_thread, free_app, free_module, free_function, empty_row}
 use Rattle.kernel_model.specs.Words.{free}
 use Rattle.kernel_model.specs.Layout.{empty}
@@ -109,13 +110,13 @@ free-row (suc n) (suc i) = free-row n i
 nobody-placed : (n : ℕ) (d : Domain) → domain_in (replicate 12 None) n ≡ Some d → ⊥
 nobody-placed n d e = (let clash : None ≡ Some d = sym (same_row 12 n None) ∙ e in cc clash)
 
-in-place : (m : List ℕ) → length m ≡ 65536 → SmallAll m → IsCodeInPlace (patch m 0xFFE0 vectors) (replicate 12 None)
+in-place : (m : List ℕ) → length m ≡ 65536 → SmallAll m → IsCodeInPlace (patch m VECTORS vectors) (replicate 12 None)
 unfolding SmallAll
 in-place m e small = record {
   memory = record {
-    bytes = length-patch m vectors 0xFFE0 28 refl (omega arith) ∙ e;
+    bytes = length-patch m vectors VECTORS 28 refl (omega arith) ∙ e;
     small =
-        small-patch m vectors 0xFFE0 small small-vectors;
+        small-patch m vectors VECTORS small small-vectors;
   };
   code = λ n d f. absurd (nobody-placed n d f);
   vectors = λ n l. vectors-stand m n e l;

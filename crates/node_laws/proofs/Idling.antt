@@ -5,6 +5,7 @@ use Rattle.std.proofs.lemmas.Bool.{cond-true, cond_both, eq-eqb}
 use Rattle.machine_model.specs.Memory.{word_at, put_all, IsMemory}
 use Rattle.machine_model.specs.Context.{reg, IsContext}
 use Rattle.machine_model.specs.Does.{Effect}
+use Rattle.kernel_model.specs.declared.map.TheConstants.{FIRST_ROUTINE, KERNEL_TOP}
 use Rattle.kernel_model.specs.Kernel.{Kernel}
 use Rattle.kernel_model.specs.Words.{none, running}
 use Rattle.kernel_model.specs.Running.{NoneRuns, idle_context}
@@ -51,7 +52,7 @@ idle-is = record { words = refl; pc_even = refl; sp_even = refl; zero = refl; sm
 
 -- from a system whose registers are those
 accept-from : (s : System) (n : ℕ) → IsSeen s → IsSound s → NoneRuns s.kernel → (c : List ℕ) → c ≡ s.context → IsContext c
-    → reg c 1 ≡ 0x1100 → reg c 2 / 64 % 2 ≡ 0 → c ≡ idle_context → n < 14 → IsSafe s (acceptance s n)
+    → reg c 1 ≡ KERNEL_TOP → reg c 2 / 64 % 2 ≡ 0 → c ≡ idle_context → n < 14 → IsSafe s (acceptance s n)
 accept-from s n see h r c is ctx sp bit idle l =
     subst (λ (x : List ℕ). IsSafe (record s { context = x }) (acceptance (record s { context = x }) n)) is here
   where
@@ -61,7 +62,7 @@ accept-from s n see h r c is ctx sp bit idle l =
     vector : word_at (seen s) (vector_address n) ≡ word_at s.memory (vector_address n)
     vector = same-word s n see
 
-    at : word_at (seen s) (vector_address n) ≡ 0xF080 + 2 * n
+    at : word_at (seen s) (vector_address n) ≡ FIRST_ROUTINE + 2 * n
     at = vector ∙ h.code.vectors n l
 
     room : 4 ≤ reg c 1
@@ -76,13 +77,15 @@ accept-from s n see h r c is ctx sp bit idle l =
     pc : reg c 0 < 65536
     pc = ctx.small 0
 
-    top : AllByRecursion (Within 0x10FC 0x1100) e.written
-    top = subst (AllByRecursion (Within 0x10FC 0x1100)) (sym written)
-        (all-four (Within 0x10FC 0x1100) (reg c 1 - 4) (reg c 2 % 256) (reg c 2 / 256) (reg c 1 - 2) (reg c 0 % 256) (reg c 0 / 256)
+    top : AllByRecursion (Within (KERNEL_TOP - 4) KERNEL_TOP) e.written
+    top = subst (AllByRecursion (Within (KERNEL_TOP - 4) KERNEL_TOP)) (sym written)
+        (all-four (Within (KERNEL_TOP - 4) KERNEL_TOP) (reg c 1 - 4) (reg c 2 % 256) (reg c 2 / 256)
+        (reg c 1 - 2) (reg c 0 % 256) (reg c 0 / 256)
         (omega arith, omega arith) (omega arith, omega arith) (omega arith, omega arith) (omega arith, omega arith))
 
     pools : AllByRecursion IsInPools e.written
-    pools = all-map (Within 0x10FC 0x1100) IsInPools (λ w i. inl (omega (arith, i.0), omega (arith, i.1))) e.written top
+    pools =
+        all-map (Within (KERNEL_TOP - 4) KERNEL_TOP) IsInPools (λ w i. inl (omega (arith, i.0), omega (arith, i.1))) e.written top
 
     small : AllByRecursion (λ (w : ℕ × ℕ). w.1 < 256) e.written
     small = subst (AllByRecursion (λ (w : ℕ × ℕ). w.1 < 256)) (sym written)
@@ -149,7 +152,7 @@ sound-idle k ds n l c below h r =
     none-still k j s r = record { no_thread = s.running ∙ r.no_thread; no_module = s.in_module ∙ r.no_module }
 
 pub serve-idle : (s : System) (pick : Option ℕ) (l : ℕ) → IsSound s → NoneRuns s.kernel → IsServing s.context
-    → IsIdleInterrupted s.memory s.context → l < 14 → reg s.context 0 ≡ 0xF080 + 2 * l
+    → IsIdleInterrupted s.memory s.context → l < 14 → reg s.context 0 ≡ FIRST_ROUTINE + 2 * l
     → IsSafe s (by_turn s (vector_turn l (seen s) (work s pick)))
 serve-idle s pick l h r serving i below at =
     let c : List ℕ = interrupted (seen s) s.context in

@@ -7,6 +7,7 @@ use Rattle.load_model.specs.Images.{code_image, region_image}
 use Rattle.load_model.specs.Standing.{HasBytes}
 use Rattle.load_model.specs.Loading.{with_images}
 use Rattle.node_laws.proofs.Seeing.{SmallAll, length-patch, small-patch, above-patch, below-patch, in-patch}
+use Rattle.kernel_model.specs.declared.map.TheConstants.{CODE_POOL, CODE_POOL_END, DATA_POOL, DATA_POOL_END, VECTORS}
 
 -- a placed object's images, as long as its places, which lie in the pools
 pub record IsImaged (d : Domain) : Type 0 where
@@ -14,11 +15,11 @@ pub record IsImaged (d : Domain) : Type 0 where
   pub region_size : length (region_image d) ≡ d.hi - d.lo
   pub code_small : (k : ℕ) → get_or (code_image d) k 0 < 256
   pub region_small : (k : ℕ) → get_or (region_image d) k 0 < 256
-  pub code_low : 0x6000 ≤ d.code_lo
-  pub code_high : d.code_lo + code_length d.object ≤ 0xE000
-  pub lo_low : 0x2000 ≤ d.lo
+  pub code_low : CODE_POOL ≤ d.code_lo
+  pub code_high : d.code_lo + code_length d.object ≤ CODE_POOL_END
+  pub lo_low : DATA_POOL ≤ d.lo
   pub up : d.lo ≤ d.hi
-  pub hi_high : d.hi ≤ 0x6000
+  pub hi_high : d.hi ≤ DATA_POOL_END
 
 with-code : (m : List ℕ) (d : Domain) → length m ≡ 65536 → IsImaged d → length (patch m d.code_lo (code_image d)) ≡ 65536
 with-code m d e h = length-patch m (code_image d) d.code_lo (code_length d.object) h.code_size (omega (arith, h.code_high)) ∙ e
@@ -62,17 +63,17 @@ beside-both m d a e i h g = region g ∙ code h
     code (inr u) = above-patch m (code_image d) d.code_lo (code_length d.object) a i.code_size (omega (arith, i.code_high)) u
 
 -- at and above the code pool's start that is outside of the code
-pub beside-images : (m : List ℕ) (d : Domain) (a : ℕ) → length m ≡ 65536 → IsImaged d → 0x6000 ≤ a
+pub beside-images : (m : List ℕ) (d : Domain) (a : ℕ) → length m ≡ 65536 → IsImaged d → CODE_POOL ≤ a
     → (a < d.code_lo) ⊎ (d.code_lo + code_length d.object ≤ a) → get_or (with_images m d) a 0 ≡ get_or m a 0
 beside-images m d a e i u h = beside-both m d a e i h (inr (omega (arith, i.hi_high)))
 
 -- so are the words above the code pool
 pub high-words : (m : List ℕ) (d : Domain) (n : ℕ) → length m ≡ 65536 → IsImaged d → n < 14
-    → word_at (with_images m d) (0xFFE0 + 2 * n) ≡ word_at m (0xFFE0 + 2 * n)
+    → word_at (with_images m d) (VECTORS + 2 * n) ≡ word_at m (VECTORS + 2 * n)
 unfolding word_at
 high-words m d n e i l =
-    let low : get_or (with_images m d) ((0xFFE0 + 2 * n) / 2 * 2) 0 ≡ get_or m ((0xFFE0 + 2 * n) / 2 * 2) 0 =
-    beside-images m d ((0xFFE0 + 2 * n) / 2 * 2) e i (omega arith) (inr (omega (arith, i.code_high))) in
-    let high : get_or (with_images m d) ((0xFFE0 + 2 * n) / 2 * 2 + 1) 0 ≡ get_or m ((0xFFE0 + 2 * n) / 2 * 2 + 1) 0 =
-    beside-images m d ((0xFFE0 + 2 * n) / 2 * 2 + 1) e i (omega arith) (inr (omega (arith, i.code_high))) in
+    let low : get_or (with_images m d) ((VECTORS + 2 * n) / 2 * 2) 0 ≡ get_or m ((VECTORS + 2 * n) / 2 * 2) 0 =
+    beside-images m d ((VECTORS + 2 * n) / 2 * 2) e i (omega arith) (inr (omega (arith, i.code_high))) in
+    let high : get_or (with_images m d) ((VECTORS + 2 * n) / 2 * 2 + 1) 0 ≡ get_or m ((VECTORS + 2 * n) / 2 * 2 + 1) 0 =
+    beside-images m d ((VECTORS + 2 * n) / 2 * 2 + 1) e i (omega arith) (inr (omega (arith, i.code_high))) in
     omega (arith, low, high)

@@ -7,6 +7,7 @@ use Rattle.machine_model.specs.Does.{Effect, lowered}
 use Rattle.machine_model.specs.Operands.{sum_of}
 use Rattle.machine_laws.proofs.Words.{as_words, set-context}
 use Rattle.machine_laws.proofs.Registers.{reg_other, pc_same, sp_same, sr_same}
+use Rattle.kernel_model.specs.declared.map.TheConstants.{FIRST_ROUTINE}
 use Rattle.kernel_model.specs.declared.kinds.Kind.{Kind}
 use Rattle.kernel_model.specs.declared.kinds.Kind.TheVariants.{App, Module}
 use Rattle.kernel_model.specs.Kernel.{Kernel, with_word}
@@ -125,7 +126,7 @@ lowered-is c h l = (
 )
 
 pub serving : (n : ℕ) (m c : List ℕ) → n < 14 → IsContext c → 4 ≤ reg c 1 → reg c 2 / 64 % 2 ≡ 0
-    → word_at m (vector_address n) ≡ 0xF080 + 2 * n → IsServing (accepted n m c).context
+    → word_at m (vector_address n) ≡ FIRST_ROUTINE + 2 * n → IsServing (accepted n m c).context
     × (reg (accepted n m c).context 1 ≡ reg c 1 - 4)
 unfolding accepted
 serving n m c l h s bit v =
@@ -178,7 +179,7 @@ accept-safe laws s n see h r good l =
     let sp_top : reg c 1 ≤ top = good.good.steady.within in
     let bit : reg c 2 / 64 % 2 ≡ 0 = scg0 d.object.kind f.kind good.good.steady.status.control in
     let vector : word_at (seen s) (vector_address n) ≡ word_at s.memory (vector_address n) = same-word s n see in
-    let at : word_at (seen s) (vector_address n) ≡ 0xF080 + 2 * n = vector ∙ h.code.vectors n l in
+    let at : word_at (seen s) (vector_address n) ≡ FIRST_ROUTINE + 2 * n = vector ∙ h.code.vectors n l in
     let e : Effect = accepted n (seen s) c in
     let is : e.written ≡ four (reg c 1 - 4) (reg c 2 % 256) (reg c 2 / 256) (reg c 1 - 2) (reg c 0 % 256) (reg c 0 / 256) =
     written-is n (seen s) c ctx (omega arith) in

@@ -1,6 +1,7 @@
 -- A running thread that exits, and hands over the mutexes that it owns.
 use Rattle.std.proofs.Common.{◌≡◌, ◌≢◌, ℕ, ◌+◌, ◌<◌, Bool, true, false, cond, refl, sym, ap, ◌∙◌, subst, arith, Option}
 use Rattle.std.proofs.lemmas.Bool.{cond-false}
+use Rattle.kernel_model.specs.declared.entries.TheConstants.{EXITS}
 use Rattle.kernel_model.specs.Kernel.{Kernel, with_thread, empty_row}
 use Rattle.kernel_model.specs.Words.{none, running, app_of, number_of, owner_of, waiters_of}
 use Rattle.place_model.specs.Settled.{IsSettledKernel}
@@ -55,7 +56,7 @@ shifted-all-handed own k o h r =
 
 -- ---- the exit
 
-exit-by : Given → (s : System) (d : Domain) (pick : Option ℕ) (j : Kernel) → IsCalling s d 0xF008 → IsShifted (own_of s) s.kernel j
+exit-by : Given → (s : System) (d : Domain) (pick : Option ℕ) (j : Kernel) → IsCalling s d EXITS → IsShifted (own_of s) s.kernel j
     → IsSoundKernel j s.placed s.steps → ThreadRuns j → IsSettledKernel (exited j) → (b : Bool) → is_last j ≡ b
     → IsSafe s (by_turn s (record {
       kernel = dispatched (cond b (ended j (app_of (running j)) Done) (left j)) pick;
@@ -87,7 +88,7 @@ exit-by laws s d pick j x shift sound r settled false e =
     (untouched-row (own_of s) j (running j) empty_row (ap (own_of s).threads shift.words.running ∙ own-thread s))
     (untouched-runs (own_of s) (with_thread j (running j) empty_row) none)))
 
-pub exit-owning : Given → (s : System) (d : Domain) (pick : Option ℕ) → IsCalling s d 0xF008
+pub exit-owning : Given → (s : System) (d : Domain) (pick : Option ℕ) → IsCalling s d EXITS
     → IsSafe s (by_turn s (exits (work s pick)))
 unfolding exited
 exit-owning laws s d pick x =

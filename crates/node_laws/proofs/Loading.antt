@@ -2,6 +2,7 @@
 use Rattle.std.proofs.Common.{◌≡◌, ◌≢◌, ℕ, ◌+◌, ◌-◌, ◌<◌, ◌≤◌, List, length, set, refl, sym, ◌∙◌, subst, inl, inr, arith, Option, Some}
 use Rattle.std.specs.Prelude.{slice_index}
 use Rattle.std.proofs.lemmas.Bool.{cases_eq}
+use Rattle.kernel_model.specs.declared.map.TheConstants.{CODE_POOL, CODE_POOL_END}
 use Rattle.kernel_model.specs.declared.kinds.Kind.{Kind}
 use Rattle.kernel_model.specs.declared.kinds.Kind.TheVariants.{App, Module}
 use Rattle.kernel_model.specs.Kernel.{Kernel}
@@ -61,7 +62,7 @@ code-in-place laws m j ds dom d size h domains i c = record {
     left : (n : ℕ) (x : Domain) → domain_in (set ds dom (Some d)) n ≡ Some x → n ≢ dom
         → HasBytes (with_images m d) x.code_lo (code_image x)
     left n x e ne k l =
-        let pool : (0x6000 ≤ x.code_lo) × (x.code_lo + code_length x.object ≤ 0xE000) =
+        let pool : (CODE_POOL ≤ x.code_lo) × (x.code_lo + code_length x.object ≤ CODE_POOL_END) =
         code-in-pool j n x h (domains.placed n x e) in
         beside-images m d (x.code_lo + k) c.memory.bytes i (omega (arith, pool.0))
         (code-apart j (set ds dom (Some d)) n dom x d h domains e (domain-put ds dom dom d size refl) ne (x.code_lo + k)

@@ -5,6 +5,7 @@ use Rattle.std.proofs.lemmas.Bool.{cond-true, ltb-false, eqb-true, eqb-false}
 use Rattle.machine_model.specs.Memory.{word_at}
 use Rattle.machine_model.specs.Context.{reg, set_reg}
 use Rattle.machine_laws.proofs.Registers.{reg_other}
+use Rattle.kernel_model.specs.declared.entries.TheConstants.{BROADCAST, LOCK, SIGNAL, UNLOCK, WAIT}
 use Rattle.kernel_model.specs.Kernel.{Kernel, thread_at, with_thread, condition_at, with_condition, with_mutex}
 use Rattle.kernel_model.specs.Words.{none, free, on_mutex, on_condition, running, app_of, identity, none_running, owner_of, waiters_of}
 use Rattle.kernel_model.specs.declared.rows.AppRow.{AppRow}
@@ -71,7 +72,7 @@ own-below s r = let l = r.thread in omega arith
 
 -- ---- unlock
 
-unlock-by : Given → (s : System) (d : Domain) (pick : Option ℕ) (r : List ℕ) → IsCalling s d 0xF018 → IsReturned s d r → (a : Bool)
+unlock-by : Given → (s : System) (d : Domain) (pick : Option ℕ) (r : List ℕ) → IsCalling s d UNLOCK → IsReturned s d r → (a : Bool)
     → nat_lt 3 (get_or r 12 0) ≡ a → (b : Bool) → owns s.kernel (get_or r 12 0) ≡ b
     → IsSafe s (by_turn s (unless Unlock (record (work s pick) { context = r })
     (cond a (Some BadArgument) (cond (not b) (Some NotOwner) None))
@@ -89,7 +90,7 @@ unlock-by laws s d pick r x is false ea true eb =
 
 pub unlock-turn : Given → TurnLaw Unlock
 unlock-turn laws s pick see h few r good at =
-    let x : IsCalling s good.domain 0xF018 = calling laws s see h r good (omega arith, omega arith) in
+    let x : IsCalling s good.domain UNLOCK = calling laws s see h r good (omega arith, omega arith) in
     let c : List ℕ = returned s.context (word_at (seen s) (reg s.context 1)) in
     call-safe laws s good.domain pick Unlock x (omega arith)
     (λ e. unlock-by laws s good.domain pick c x (behind-return laws s good.domain x (omega arith) e) (nat_lt 3 (get_or c 12 0))
@@ -124,7 +125,7 @@ woken-safe laws s d pick e count r x is false eb =
 
 pub signal-turn : Given → TurnLaw Signal
 signal-turn laws s pick see h few r good at =
-    let x : IsCalling s good.domain 0xF01C = calling laws s see h r good (omega arith, omega arith) in
+    let x : IsCalling s good.domain SIGNAL = calling laws s see h r good (omega arith, omega arith) in
     let c : List ℕ = returned s.context (word_at (seen s) (reg s.context 1)) in
     call-safe laws s good.domain pick Signal x (omega arith)
     (λ e. woken-safe laws s good.domain pick Signal 1 c x (behind-return laws s good.domain x (omega arith) e)
@@ -132,7 +133,7 @@ signal-turn laws s pick see h few r good at =
 
 pub broadcast-turn : Given → TurnLaw Broadcast
 broadcast-turn laws s pick see h few r good at =
-    let x : IsCalling s good.domain 0xF01E = calling laws s see h r good (omega arith, omega arith) in
+    let x : IsCalling s good.domain BROADCAST = calling laws s see h r good (omega arith, omega arith) in
     let c : List ℕ = returned s.context (word_at (seen s) (reg s.context 1)) in
     call-safe laws s good.domain pick Broadcast x (omega arith)
     (λ e. woken-safe laws s good.domain pick Broadcast (length (condition_at s.kernel (own_app s.kernel) (get_or c 12 0))) c x
@@ -171,7 +172,7 @@ marked-still s r m = ap (is_mark s.placed (app_of (running s.kernel))) (reg_othe
 
 -- ---- lock
 
-queues : Given → (s : System) (d : Domain) (pick : Option ℕ) (r : List ℕ) → IsCalling s d 0xF016 → IsReturned s d r
+queues : Given → (s : System) (d : Domain) (pick : Option ℕ) (r : List ℕ) → IsCalling s d LOCK → IsReturned s d r
     → is_mark s.placed (app_of (running s.kernel)) (reg r 0) ≡ true → (i : ℕ) → i < 4
     → owner_of s.kernel (own_app s.kernel) i ≢ none → owner_of s.kernel (own_app s.kernel) i ≢ own_number s.kernel
     → IsSafe s (by_turn s (after_leaving Lock (record (work s pick) { context = r })
@@ -196,7 +197,7 @@ queues laws s d pick r x is m i li some other =
     let regs : (thread_at k1 t).regs ≡ c = ap (λ (u : ℕ). (thread_at k1 u).regs) here ∙ ap (λ (w : ThreadRow). w.regs) put in
     let own : (own_of s).threads t ≡ true = ap (own_of s).threads here ∙ own-thread s in
     let k2 : Kernel = with_mutex k1 a i owner in
-    told-safe laws s d (rests-with k1 t row (set k.mutexes (4 * a + i) owner) k.conditions) pick 0xF016 x record {
+    told-safe laws s d (rests-with k1 t row (set k.mutexes (4 * a + i) owner) k.conditions) pick LOCK x record {
       sound = sound-rests k1 s.placed s.steps t row (set k.mutexes (4 * a + i) owner) k.conditions h1 r1 here
           (queued_settled k1 i h1.settled r1 li some other) (omega arith)
           (subst (λ (v : List ℕ). IsGoodFor k.apps s.placed (running k) v) (sym regs) good)
@@ -213,7 +214,7 @@ abbrev taken : Kernel → (i : ℕ) → Kernel
 taken k i = with_mutex_row k (own_app k) i (own_number k) (waiters_of k (own_app k) i)
 
 -- the mutex is free, or isn't
-locks-by : Given → (s : System) (d : Domain) (pick : Option ℕ) (r : List ℕ) → IsCalling s d 0xF016 → IsReturned s d r
+locks-by : Given → (s : System) (d : Domain) (pick : Option ℕ) (r : List ℕ) → IsCalling s d LOCK → IsReturned s d r
     → is_mark s.placed (app_of (running s.kernel)) (reg r 0) ≡ true → (i : ℕ) → i < 4
     → owner_of s.kernel (own_app s.kernel) i ≢ own_number s.kernel → (b : Bool) → is_free_mutex s.kernel (own_app s.kernel) i ≡ b
     → IsSafe s (by_turn s (cond b
@@ -231,13 +232,13 @@ locks-by laws s d pick r x is m i li other true e =
     sound-shifted (own_of s) k (taken k i) s.placed s.steps x.sound.kernel shift
     (subst IsSettledKernel (cond-true (is_free_mutex k (own_app k) i) (taken k i) _ e)
     (locked_stays_settled k i x.sound.kernel.settled x.runs li other)) in
-    told-safe laws s d (moved_to_front (saved (taken k i) c)) pick 0xF016 x
+    told-safe laws s d (moved_to_front (saved (taken k i) c)) pick LOCK x
     (rests-front (own_of s) k (taken k i) s.placed s.steps c sound (record { thread = x.runs.thread; no_module = x.runs.no_module })
     (own-thread s) shift.untouched (good-returned s d c x (with-register s d r 12 0 (omega arith) (omega arith) is)))
 locks-by laws s d pick r x is m i li other false e =
     queues laws s d pick r x is m i li (eqb-false (owner_of s.kernel (own_app s.kernel) i) none e) other
 
-lock-by : Given → (s : System) (d : Domain) (pick : Option ℕ) (r : List ℕ) → IsCalling s d 0xF016 → IsReturned s d r
+lock-by : Given → (s : System) (d : Domain) (pick : Option ℕ) (r : List ℕ) → IsCalling s d LOCK → IsReturned s d r
     → is_mark s.placed (app_of (running s.kernel)) (reg r 0) ≡ true
     → (a : Bool) → nat_lt 3 (get_or r 12 0) ≡ a → (b : Bool) → owns s.kernel (get_or r 12 0) ≡ b
     → IsSafe s (by_turn s (unless Lock (record (work s pick) { context = r })
@@ -252,7 +253,7 @@ lock-by laws s d pick r x is m false ea false eb =
 
 pub lock-turn : Given → TurnLaw Lock
 lock-turn laws s pick see h few r good at =
-    let x : IsCalling s good.domain 0xF016 = calling laws s see h r good (omega arith, omega arith) in
+    let x : IsCalling s good.domain LOCK = calling laws s see h r good (omega arith, omega arith) in
     let c : List ℕ = returned s.context (word_at (seen s) (reg s.context 1)) in
     call-safe laws s good.domain pick Lock x (omega arith)
     (λ e. lock-by laws s good.domain pick c x (behind-return laws s good.domain x (omega arith) e)
@@ -265,7 +266,7 @@ own-row : (own : Own) (k j : Kernel) → IsSettledKernel k → ThreadRuns k → 
     → thread_at j (running k) ≡ thread_at k (running k)
 own-row own k j h r s = elim (s.rows (running k)) [ inl e ↦ e | inr m ↦ absurd (m.rested (running_is k h.orderly r).state) ]
 
-waits : Given → (s : System) (d : Domain) (pick : Option ℕ) (r : List ℕ) → IsCalling s d 0xF01A → IsReturned s d r
+waits : Given → (s : System) (d : Domain) (pick : Option ℕ) (r : List ℕ) → IsCalling s d WAIT → IsReturned s d r
     → is_mark s.placed (app_of (running s.kernel)) (reg r 0) ≡ true → (c i : ℕ) → c < 4 → i < 4
     → owner_of s.kernel (own_app s.kernel) i ≡ own_number s.kernel
     → IsSafe s (by_turn s (after_leaving Wait (record (work s pick) { context = r })
@@ -296,7 +297,7 @@ waits laws s d pick r x is m c i lc li mine =
     ap (λ (u : ℕ). is_mark s.placed (app_of u) (reg v 0)) shift.words.running ∙ marked-still s r m in
     let list : List ℕ = condition_at j a c ++ n ∷ [] in
     let k2 : Kernel = with_condition j a c list in
-    told-safe laws s d (rests-with j t row j.mutexes (set j.conditions (4 * a + c) list)) pick 0xF01A x record {
+    told-safe laws s d (rests-with j t row j.mutexes (set j.conditions (4 * a + c) list)) pick WAIT x record {
       sound = sound-rests j s.placed s.steps t row j.mutexes (set j.conditions (4 * a + c) list) hj rj (sym shift.words.running)
           (waited_stays_settled k1 c i h1.settled r1 lc li mine) (omega arith)
           (subst (λ (w : List ℕ). IsGoodFor j.apps s.placed (running j) w) (sym regs) goodj)
@@ -309,7 +310,7 @@ waits laws s d pick r x is m c i lc li mine =
           (untouched-runs (own_of s) (with_thread k2 t row) none))));
     }
 
-wait-by : Given → (s : System) (d : Domain) (pick : Option ℕ) (r : List ℕ) → IsCalling s d 0xF01A → IsReturned s d r
+wait-by : Given → (s : System) (d : Domain) (pick : Option ℕ) (r : List ℕ) → IsCalling s d WAIT → IsReturned s d r
     → is_mark s.placed (app_of (running s.kernel)) (reg r 0) ≡ true
     → (a : Bool) → nat_lt 3 (get_or r 12 0) ≡ a → (b : Bool) → nat_lt 3 (get_or r 13 0) ≡ b → (o : Bool)
     → owns s.kernel (get_or r 13 0) ≡ o
@@ -328,7 +329,7 @@ wait-by laws s d pick r x is m false ea false eb true eo =
 
 pub wait-turn : Given → TurnLaw Wait
 wait-turn laws s pick see h few r good at =
-    let x : IsCalling s good.domain 0xF01A = calling laws s see h r good (omega arith, omega arith) in
+    let x : IsCalling s good.domain WAIT = calling laws s see h r good (omega arith, omega arith) in
     let c : List ℕ = returned s.context (word_at (seen s) (reg s.context 1)) in
     call-safe laws s good.domain pick Wait x (omega arith)
     (λ e. wait-by laws s good.domain pick c x (behind-return laws s good.domain x (omega arith) e)

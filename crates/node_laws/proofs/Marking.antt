@@ -6,6 +6,7 @@ use Rattle.std.specs.Int.{bit_at}
 use Rattle.std.proofs.lemmas.Bool.{cases_eq}
 use Rattle.std.proofs.lemmas.List.Folds.{list_any_at}
 use Rattle.std.proofs.lemmas.List.FromFn.{get_or-map-range_with_len}
+use Rattle.kernel_model.specs.declared.map.TheConstants.{BITMAP, CODE_POOL, CODE_POOL_END, TABLES}
 use Rattle.kernel_model.specs.Kernel.{Kernel}
 use Rattle.place_model.specs.Marking.{IsCodeWord, IsMarkOf}
 use Rattle.place_model.specs.Settled.{IsSettledKernel}
@@ -229,25 +230,25 @@ any-at p (x ∷ ds) off e = any-by p x ds off (p x) refl e (λ f. any-at p ds of
 -- ---- what is seen
 
 pub byte-seen : (m : List ℕ) (k : Kernel) (ds : List (Option Domain)) (q : ℕ) → length m ≡ 65536 → q < 2048
-    → get_or (seen_in m k ds) (0x1100 + q) 0 ≡ mark_byte ds (0x6000 + 16 * q)
+    → get_or (seen_in m k ds) (BITMAP + q) 0 ≡ mark_byte ds (CODE_POOL + 16 * q)
 unfolding seen_in mark_bytes
 byte-seen m k ds q e l =
-    in-patch (patch m 0x0200 (bytes_in 3584 (layout k))) (mark_bytes ds) 0x1100 q (omega (arith, over-length m k e))
+    in-patch (patch m TABLES (bytes_in 3584 (layout k))) (mark_bytes ds) BITMAP q (omega (arith, over-length m k e))
     (omega (arith, marks-length ds))
-    ∙ get_or-map-range_with_len {X = ℕ} (λ b. mark_byte ds (0x6000 + 16 * b)) 0 2048 q q 0 l (omega arith)
+    ∙ get_or-map-range_with_len {X = ℕ} (λ b. mark_byte ds (CODE_POOL + 16 * b)) 0 2048 q q 0 l (omega arith)
 
 unfoldable pub some-unit : List (Option Domain) → (at : ℕ) → Bool
 some-unit ds at = list_any (λ d. is_mark_in d at) ds
 
 pub bit-seen : (m : List ℕ) (k : Kernel) (ds : List (Option Domain)) (at : ℕ) → length m ≡ 65536 → IsCodeWord at
-    → bit_at (get_or (seen_in m k ds) (0x1100 + (at - 0x6000) / 16) 0) ((at - 0x6000) / 2 % 8) ≡ weight (some-unit ds at)
+    → bit_at (get_or (seen_in m k ds) (BITMAP + (at - CODE_POOL) / 16) 0) ((at - CODE_POOL) / 2 % 8) ≡ weight (some-unit ds at)
 unfolding some-unit
 bit-seen m k ds at e w =
-    let q : ℕ = (at - 0x6000) / 16 in
-    let j : ℕ = (at - 0x6000) / 2 % 8 in
-    let here : 0x6000 + 16 * q + 2 * j ≡ at = omega (arith, w.even, w.above) in
+    let q : ℕ = (at - CODE_POOL) / 16 in
+    let j : ℕ = (at - CODE_POOL) / 2 % 8 in
+    let here : CODE_POOL + 16 * q + 2 * j ≡ at = omega (arith, w.even, w.above) in
     ap (λ (x : ℕ). bit_at x j) (byte-seen m k ds q e (omega (arith, w.above, w.below)))
-    ∙ bit-of (λ i. list_any (λ d. is_mark_in d (0x6000 + 16 * q + 2 * i)) ds) j (omega arith)
+    ∙ bit-of (λ i. list_any (λ d. is_mark_in d (CODE_POOL + 16 * q + 2 * i)) ds) j (omega arith)
     ∙ ap (λ (x : ℕ). weight (list_any (λ d. is_mark_in d x) ds)) here
 
 -- a unit at an address of a domain's code is its own
@@ -282,7 +283,7 @@ mark-seen s n d at h e = (to, fro)
     fro is =
         let domain : IsDomain s.kernel.apps s.kernel.modules n d = h.kernel.domains.placed n d e in
         let mark : IsMark d at = mark-of s.placed n at d e domain.accepted is in
-        let pool : (0x6000 ≤ d.code_lo) × (d.code_lo + code_length d.object ≤ 0xE000) =
+        let pool : (CODE_POOL ≤ d.code_lo) × (d.code_lo + code_length d.object ≤ CODE_POOL_END) =
         code-in-pool s.kernel n d h.kernel.settled domain in
         let word : IsCodeWord at = record {
           even = mark.even_at;

@@ -2,6 +2,8 @@
 use Rattle.std.proofs.Common.{◌≡◌, ◌≢◌, ℕ, ◌+◌, ◌*◌, ◌/◌, ◌%◌, ◌<◌, ◌≤◌, ◌⊎◌, Bool, true, false, eqb, cond, List, refl, sym, ap, ◌∙◌, subst, inl, inr, arith, Option, None}
 use Rattle.std.specs.Prelude.{◌&&◌, nat_le}
 use Rattle.std.proofs.lemmas.Bool.{cases_lt, cond-true, cond-false, cond_both, ne_eqb, leb-true, leb-false}
+use Rattle.kernel_model.specs.declared.map.TheConstants.{FIRST_ROUTINE, IDLE, KERNEL_STACK, KERNEL_TOP}
+use Rattle.kernel_model.specs.declared.entries.TheConstants.{FIRST_ENTRY, TICKS}
 use Rattle.kernel_model.specs.declared.kinds.Kind.{Kind}
 use Rattle.kernel_model.specs.declared.kinds.Kind.TheVariants.{App, Module}
 use Rattle.code_model.specs.Rules.{IsJumpEntry, IsCallEntry}
@@ -43,13 +45,14 @@ mark-here s d at m e = mark-of s.placed (8 + running_module s.kernel) at d m.pla
     (subst (λ (n : ℕ). is_mark s.placed n at ≡ true) (domain-module s.kernel m.below) e)
 
 straight-on : (s : System) (d : Domain) (c : List ℕ) (e : ℕ) → IsInModule s d → IsAtEntry s (who_runs s.kernel) e
-    → IsSteady (bits d) 0x1000 0x1100 c → IsMark d (reg c 0)
+    → IsSteady (bits d) KERNEL_STACK KERNEL_TOP c → IsMark d (reg c 0)
     → IsSafe s (by_turn s (goes_straight s.kernel c (Entry (s.steps + 1) (who_runs s.kernel) e)))
 straight-on s d c e m at steady mark = record {
   sound = record {
     code = m.sound.code;
     kernel = later s.kernel s.placed s.steps m.sound.kernel;
-    running = AModule m.below record { domain = d; placed = m.placed; good = good-mark d 0x1000 0x1100 c steady m.well mark };
+    running =
+        AModule m.below record { domain = d; placed = m.placed; good = good-mark d KERNEL_STACK KERNEL_TOP c steady m.well mark };
   };
   confined = at;
   keeps = subst (λ (w : Who). StepKeeps w s (record s { context = c; steps = s.steps + 1 })) (sym (who-module s.kernel m.below)) tt;
@@ -77,7 +80,7 @@ jump-by s d pick e m at jumps false is =
 -- ---- the tick number
 
 ticks-by : (s : System) (d : Domain) (pick : Option ℕ) → IsInModule s d → s.steps < most_steps
-    → IsAtEntry s (who_runs s.kernel) 0xF014 → reg s.context 1 + 2 ≤ 0x1100 → (b : Bool)
+    → IsAtEntry s (who_runs s.kernel) TICKS → reg s.context 1 + 2 ≤ KERNEL_TOP → (b : Bool)
     → is_mark s.placed (running_domain s.kernel) (word_at (seen s) (reg s.context 1)) ≡ b
     → IsSafe s (by_turn s (cond b (row Ticks (returning (work s pick)))
     (faults (work s pick) Return (word_at (seen s) (reg s.context 1)))))
@@ -87,27 +90,28 @@ ticks-by s d pick m few at room true is =
     let c : List ℕ = returned s.context to in
     let ticks : tick_number s.kernel ≤ s.steps = m.sound.kernel.bounded.ticks in
     let mark : IsMark d to = mark-here s d to m is in
-    let pc : reg c 0 ≡ to = pc-returned (bits d) 0x1000 0x1100 s.context to m.good.steady room (omega arith) mark.even_at in
-    let s0 : IsSteady (bits d) 0x1000 0x1100 c =
-    steady-returned (bits d) 0x1000 0x1100 s.context to m.good.steady room (omega arith)
+    let pc : reg c 0 ≡ to =
+    pc-returned (bits d) KERNEL_STACK KERNEL_TOP s.context to m.good.steady room (omega arith) mark.even_at in
+    let s0 : IsSteady (bits d) KERNEL_STACK KERNEL_TOP c =
+    steady-returned (bits d) KERNEL_STACK KERNEL_TOP s.context to m.good.steady room (omega arith)
     (word-small (seen s) (reg s.context 1) m.see.memory) in
     let v : ℕ = tick_number s.kernel % 65536 in
     let u : ℕ = tick_number s.kernel / 65536 in
-    let s1 : IsSteady (bits d) 0x1000 0x1100 (set_reg c 13 v) =
+    let s1 : IsSteady (bits d) KERNEL_STACK KERNEL_TOP (set_reg c 13 v) =
     steady-reg (bits d) _ _ c 13 v s0 (omega arith) (omega arith) (omega arith) in
-    let s2 : IsSteady (bits d) 0x1000 0x1100 (with_ticks w) =
+    let s2 : IsSteady (bits d) KERNEL_STACK KERNEL_TOP (with_ticks w) =
     steady-reg (bits d) _ _ (set_reg c 13 v) 14 u s1 (omega arith) (omega arith) (omega arith) in
-    let s3 : IsSteady (bits d) 0x1000 0x1100 (set_reg (with_ticks w) 12 0) =
+    let s3 : IsSteady (bits d) KERNEL_STACK KERNEL_TOP (set_reg (with_ticks w) 12 0) =
     steady-reg (bits d) _ _ (with_ticks w) 12 0 s2 (omega arith) (omega arith) (omega arith) in
     let there : reg (set_reg (with_ticks w) 12 0) 0 ≡ to = reg_other (with_ticks w) 12 0 0 (omega arith)
     ∙ reg_other (set_reg c 13 v) 14 u 0 (omega arith) ∙ reg_other c 13 v 0 (omega arith) ∙ pc in
-    cond_both (module_runs s.kernel) (goes_straight s.kernel (set_reg (with_ticks w) 12 0) (called w 0xF014)) _
+    cond_both (module_runs s.kernel) (goes_straight s.kernel (set_reg (with_ticks w) 12 0) (called w TICKS)) _
     (λ t. IsSafe s (by_turn s t))
-    (λ _. straight-on s d (set_reg (with_ticks w) 12 0) 0xF014 m at s3 (subst (IsMark d) (sym there) mark))
+    (λ _. straight-on s d (set_reg (with_ticks w) 12 0) TICKS m at s3 (subst (IsMark d) (sym there) mark))
     (λ f. absurd (cc (runs-module s.kernel m.below, f)))
 ticks-by s d pick m few at room false is =
     module-faults s d pick Return (word_at (seen s) (reg s.context 1)) m
-    record { entry = (0xF014, omega arith, at); value_is = refl; no_mark = is }
+    record { entry = (TICKS, omega arith, at); value_is = refl; no_mark = is }
 
 -- ---- its entries
 
@@ -123,7 +127,7 @@ entry-by s pick e l own case at safe =
 
 module-entries : (k : Kind) → k ≡ Module → (s : System) (d : Domain) (pick : Option ℕ) → IsInModule s d → s.steps < most_steps
     → IsAtEntry s (who_runs s.kernel) (reg s.context 0) → case_of s.kernel s.context ≡ case_by_line s.kernel (reg s.context 0) None
-    → (IsJumpEntry k (reg s.context 0) ⊎ (IsCallEntry k (reg s.context 0) × (reg s.context 1 + 2 ≤ 0x1100)))
+    → (IsJumpEntry k (reg s.context 0) ⊎ (IsCallEntry k (reg s.context 0) × (reg s.context 1 + 2 ≤ KERNEL_TOP)))
     → (IsJumpEntry d.object.kind (reg s.context 0) ⊎ IsCallEntry d.object.kind (reg s.context 0)) → IsSafe s (step_of s pick)
 module-entries App e s d pick m few at case st al = absurd (cc)
 module-entries Module e s d pick m few at case (inl (inl h)) al =
@@ -160,15 +164,15 @@ no-interrupt s d m = ap (case_by_line s.kernel (reg s.context 0))
     none-so Module e b q = omega arith
     none-so App e b q = absurd (cc)
 
-in-code-below : (k : Kernel) (pc : ℕ) → pc < 0xF000 → case_by_line k pc None ≡ cond (is_over_budget k) OverBudget Runs
+in-code-below : (k : Kernel) (pc : ℕ) → pc < FIRST_ENTRY → case_by_line k pc None ≡ cond (is_over_budget k) OverBudget Runs
 in-code-below k pc l =
-    cond-false (eqb pc 0xF07E) IsIdle _ (ne_eqb pc 0xF07E (λ e. omega arith))
+    cond-false (eqb pc IDLE) IsIdle _ (ne_eqb pc IDLE (λ e. omega arith))
     ∙ ap (λ (o : Option Call). case_at k o (routine_at pc))
     (find-none (λ c. eqb (entry_address c) pc) calls (λ c. ne_eqb (entry_address c) pc (λ e. omega (arith, (entry-least c).0))))
     ∙ ap (λ (o : Option ℕ). case_at k None o)
-    (find-none (λ n. eqb (0xF080 + 2 * n) pc) lines_down (λ n. ne_eqb (0xF080 + 2 * n) pc (λ e. omega arith)))
+    (find-none (λ n. eqb (FIRST_ROUTINE + 2 * n) pc) lines_down (λ n. ne_eqb (FIRST_ROUTINE + 2 * n) pc (λ e. omega arith)))
 
-code-by : Given → (s : System) (d : Domain) (pick : Option ℕ) → IsInModule s d → reg s.context 0 < 0xF000 → (b : Bool)
+code-by : Given → (s : System) (d : Domain) (pick : Option ℕ) → IsInModule s d → reg s.context 0 < FIRST_ENTRY → (b : Bool)
     → nat_le most_instructions (word_of s.kernel Budget) ≡ b → IsSafe s (by_case s pick (cond b OverBudget Runs))
 code-by laws s d pick m l true e =
     module-faults s d pick fault.Budget (reg s.context 0) m
@@ -186,7 +190,7 @@ module-step laws s pick see h few l good =
     let d : Domain = good.domain in
     let m : IsInModule s d = in-module laws s see h l good in
     let case : case_of s.kernel s.context ≡ case_by_line s.kernel (reg s.context 0) None = no-interrupt s d m in
-    elim (cases_lt (reg s.context 0) 0xF000) [
+    elim (cases_lt (reg s.context 0) FIRST_ENTRY) [
       | inl below ↦
           subst (λ (c : Case). IsSafe s (by_case s pick c))
           (sym (case ∙ in-code-below s.kernel (reg s.context 0) below
@@ -195,7 +199,7 @@ module-step laws s pick see h few l good =
           (code-by laws s d pick m below (nat_le most_instructions (word_of s.kernel Budget)) refl)
       | inr above ↦
           let al : IsJumpEntry d.object.kind (reg s.context 0) ⊎ IsCallEntry d.object.kind (reg s.context 0) =
-          at-entry laws d 0x1000 0x1100 (seen s) s.context m.stands m.good above in
+          at-entry laws d KERNEL_STACK KERNEL_TOP (seen s) s.context m.stands m.good above in
           module-entries d.object.kind m.kind s d pick m few (comes-from-module s d m al) case
-          (laws.entries d 0x1000 0x1100 (seen s) s.context m.stands m.good above) al
+          (laws.entries d KERNEL_STACK KERNEL_TOP (seen s) s.context m.stands m.good above) al
     ]

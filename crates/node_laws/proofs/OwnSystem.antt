@@ -1,5 +1,5 @@
 -- A node that stands for a sound system stands for the one that its own parts make: what is seen takes the place of memory.
-use Rattle.std.proofs.Common.{◌≡◌, ℕ, ◌+◌, ◌*◌, ◌%◌, ◌<◌, ◌≤◌, ◌≢◌, List, length, get_or, inl, inr, refl, sym, ap, ◌∙◌, subst, arith, Option}
+use Rattle.std.proofs.Common.{◌≡◌, ℕ, ◌+◌, ◌-◌, ◌*◌, ◌%◌, ◌<◌, ◌≤◌, ◌≢◌, List, length, get_or, inl, inr, refl, sym, ap, ◌∙◌, subst, arith, Option}
 use Rattle.std.proofs.lemmas.Bool.{cases_lt}
 use Rattle.std.proofs.lemmas.Grind.{same_number_lists}
 use Rattle.machine_model.specs.Memory.{word_at, even, IsMemory}
@@ -7,6 +7,7 @@ use Rattle.machine_model.specs.Context.{reg, set_reg, IsContext}
 use Rattle.machine_model.specs.Does.{raised}
 use Rattle.machine_laws.proofs.Words.{set-context}
 use Rattle.machine_laws.proofs.Registers.{reg_other, sp_same}
+use Rattle.kernel_model.specs.declared.map.TheConstants.{BITMAP, BITMAP_END, DATA_POOL, DATA_POOL_END, KERNEL_STACK, KERNEL_TOP, TABLES_END, VECTORS}
 use Rattle.kernel_model.specs.Kernel.{Kernel, app_at}
 use Rattle.kernel_model.specs.Layout.{kernel_of}
 use Rattle.kernel_model.specs.Running.{ThreadRuns, NoneRuns, idle_context}
@@ -38,11 +39,11 @@ seen-twice m k ds e = same_number_lists (seen_in m k ds) (seen_in (seen_in m k d
     each : (a : ℕ) → get_or (seen_in m k ds) a 0 ≡ get_or (seen_in (seen_in m k ds) k ds) a 0
     each a = elim (cases_lt a 512) [
       | inl l ↦ sym (seen-free (seen_in m k ds) k ds a size (inl l))
-      | inr u ↦ elim (cases_lt a 4096) [
+      | inr u ↦ elim (cases_lt a TABLES_END) [
         | inl l ↦ seen-over m (seen_in m k ds) k ds a e size (inl (u, l))
-        | inr v ↦ elim (cases_lt a 0x1100) [
+        | inr v ↦ elim (cases_lt a BITMAP) [
           | inl l ↦ sym (seen-free (seen_in m k ds) k ds a size (inr (inl (v, l))))
-          | inr x ↦ elim (cases_lt a 0x1900) [
+          | inr x ↦ elim (cases_lt a BITMAP_END) [
             | inl l ↦ seen-over m (seen_in m k ds) k ds a e size (inr (x, l))
             | inr y ↦ sym (seen-free (seen_in m k ds) k ds a size (inr (inr y)))
           ]
@@ -54,7 +55,7 @@ seen-twice m k ds e = same_number_lists (seen_in m k ds) (seen_in (seen_in m k d
 
 -- the stack of the running thread lies in the data pool
 in-data : (s : System) → IsSound s → ThreadRuns s.kernel
-    → (0x2000 ≤ low_in s.kernel.apps (running s.kernel)) × (top_in s.kernel.apps (running s.kernel) ≤ 0x6000)
+    → (DATA_POOL ≤ low_in s.kernel.apps (running s.kernel)) × (top_in s.kernel.apps (running s.kernel) ≤ DATA_POOL_END)
 in-data s h r =
     let t : ℕ = running s.kernel in
     let l : app_of t < 8 = (let x = r.thread in omega arith) in
@@ -72,8 +73,8 @@ interrupted-seen : (s : System) → IsSeen s → IsSound s → ThreadRuns s.kern
     → IsInterrupted s.memory s.context s.kernel.apps s.placed (running s.kernel)
     → IsInterrupted (seen s) s.context s.kernel.apps s.placed (running s.kernel)
 interrupted-seen s see h r serving i =
-    let pool : (0x2000 ≤ low_in s.kernel.apps (running s.kernel)) × (top_in s.kernel.apps (running s.kernel) ≤ 0x6000) = in-data s h r in
-    let low : 0x2000 ≤ reg s.context 1 = omega (arith, i.from_low, pool.0) in
+    let pool : (DATA_POOL ≤ low_in s.kernel.apps (running s.kernel)) × (top_in s.kernel.apps (running s.kernel) ≤ DATA_POOL_END) = in-data s h r in
+    let low : DATA_POOL ≤ reg s.context 1 = omega (arith, i.from_low, pool.0) in
     let same : interrupted (seen s) s.context ≡ interrupted s.memory s.context =
     interrupted-same s see serving.context low (omega (arith, i.to_top, pool.1)) (word-small s.memory (reg s.context 1) h.code.memory) in
     record {
@@ -90,7 +91,8 @@ interrupted-seen s see h r serving i =
 -- ---- what was pushed while the machine idled
 
 -- a word of the kernel's stack
-kernel-word : (s : System) (a : ℕ) → length s.memory ≡ 65536 → 0x1000 ≤ a → a < 0x1100 → word_at (seen s) a ≡ word_at s.memory a
+kernel-word : (s : System) (a : ℕ) → length s.memory ≡ 65536 → KERNEL_STACK ≤ a → a < KERNEL_TOP
+    → word_at (seen s) a ≡ word_at s.memory a
 unfolding word_at
 kernel-word s a e l u =
     ap (λ (x : ℕ). x + 256 * get_or (seen s) (even a + 1) 0)
@@ -115,9 +117,9 @@ popped-sp m c hm h =
     let e : reg (raised c3) 1 ≡ even ((reg c3 1 + 2) % 65536) = sp_same c3 ((reg c3 1 + 2) % 65536) h3 in
     e ∙ omega (arith, a, b, d, h.sp_even)
 
-idle-sp : (m c : List ℕ) → IsMemory m → IsContext c → interrupted m c ≡ idle_context → reg c 1 ≡ 0x10FC
+idle-sp : (m c : List ℕ) → IsMemory m → IsContext c → interrupted m c ≡ idle_context → reg c 1 ≡ (KERNEL_TOP - 4)
 idle-sp m c hm h e =
-    let top : reg (interrupted m c) 1 ≡ 0x1100 = ap (λ (r : List ℕ). reg r 1) e in
+    let top : reg (interrupted m c) 1 ≡ KERNEL_TOP = ap (λ (r : List ℕ). reg r 1) e in
     omega (arith, popped-sp m c hm h, top, h.small 1)
 
 idle-seen : (s : System) → IsSound s → IsServing s.context → IsIdleInterrupted s.memory s.context → IsIdleInterrupted (seen s) s.context
@@ -125,7 +127,7 @@ unfolding second
 idle-seen s h serving i =
     let c : List ℕ = s.context in
     let m : IsMemory s.memory = h.code.memory in
-    let sp : reg c 1 ≡ 0x10FC = idle-sp s.memory c m serving.context i.idle in
+    let sp : reg c 1 ≡ (KERNEL_TOP - 4) = idle-sp s.memory c m serving.context i.idle in
     let a : word_at (seen s) (reg c 1) ≡ word_at s.memory (reg c 1) = kernel-word s (reg c 1) m.bytes (omega (arith, sp)) (omega (arith, sp)) in
     let w : ℕ = word_at s.memory (reg c 1) in
     let next : reg (second c w) 1 ≡ reg c 1 + 2 = second-sp c w serving.context (word-small s.memory (reg c 1) m) (omega (arith, sp)) in
@@ -159,7 +161,7 @@ sound-seen s h =
       code = record {
         memory = see.memory;
         code = λ n d e. code-seen s n d see h.code h.kernel e;
-        vectors = λ n l. same-word s (0xFFE0 + 2 * n) see (omega arith) ∙ h.code.vectors n l;
+        vectors = λ n l. same-word s (VECTORS + 2 * n) see (omega arith) ∙ h.code.vectors n l;
       };
       kernel = h.kernel;
       running = running-seen s see h h.running;

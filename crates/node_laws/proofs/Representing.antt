@@ -5,6 +5,7 @@ use Rattle.std.proofs.lemmas.Grind.{same_number_lists}
 use Rattle.std.proofs.lemmas.List.{length-set, length-take, length-drop, length-map, get_or-set_same, get_or-set_other, get_or-take, get_or-drop, get_or-map, get_or_append_left}
 use Rattle.flat_mem.specs.Bytes.{patch}
 use Rattle.machine_model.specs.Memory.{put_all, IsMemory}
+use Rattle.kernel_model.specs.declared.map.TheConstants.{BITMAP, BITMAP_END, TABLES, TABLES_END}
 use Rattle.kernel_model.specs.Bytes.{part}
 use Rattle.kernel_model.specs.Kernel.{Kernel}
 use Rattle.kernel_model.specs.Layout.{layout, table_bytes}
@@ -18,41 +19,41 @@ use Rattle.node_laws.proofs.Seeing.{above-patch, below-patch, in-patch, length-p
 -- ---- the three parts of what is seen
 
 -- outside the tables it doesn't tell one kernel from another
-seen-outside : (m : List ℕ) (k j : Kernel) (ds : List (Option Domain)) (a : ℕ) → length m ≡ 65536 → (a < 512) ⊎ (4096 ≤ a)
+seen-outside : (m : List ℕ) (k j : Kernel) (ds : List (Option Domain)) (a : ℕ) → length m ≡ 65536 → (a < TABLES) ⊎ (TABLES_END ≤ a)
     → get_or (seen_in m k ds) a 0 ≡ get_or (seen_in m j ds) a 0
 unfolding seen_in
-seen-outside m k j ds a e h = elim (cases_lt a 0x1100) [
-  | inl l ↦ below-patch (over k) (mark_bytes ds) 0x1100 a (omega (arith, over-length m k e)) l ∙ under h
-      ∙ sym (below-patch (over j) (mark_bytes ds) 0x1100 a (omega (arith, over-length m j e)) l)
-  | inr u ↦ elim (cases_lt a 0x1900) [
+seen-outside m k j ds a e h = elim (cases_lt a BITMAP) [
+  | inl l ↦ below-patch (over k) (mark_bytes ds) BITMAP a (omega (arith, over-length m k e)) l ∙ under h
+      ∙ sym (below-patch (over j) (mark_bytes ds) BITMAP a (omega (arith, over-length m j e)) l)
+  | inr u ↦ elim (cases_lt a BITMAP_END) [
     | inl l ↦ marks k u l ∙ sym (marks j u l)
-    | inr v ↦ above-patch (over k) (mark_bytes ds) 0x1100 2048 a (marks-length ds) (omega (arith, over-length m k e)) (omega arith)
-        ∙ under h ∙ sym (above-patch (over j) (mark_bytes ds) 0x1100 2048 a (marks-length ds) (omega (arith, over-length m j e))
+    | inr v ↦ above-patch (over k) (mark_bytes ds) BITMAP 2048 a (marks-length ds) (omega (arith, over-length m k e)) (omega arith)
+        ∙ under h ∙ sym (above-patch (over j) (mark_bytes ds) BITMAP 2048 a (marks-length ds) (omega (arith, over-length m j e))
         (omega arith))
   ]
 ]
   where
     over : Kernel → List ℕ
-    over i = patch m 0x0200 (bytes_in 3584 (layout i))
+    over i = patch m TABLES (bytes_in 3584 (layout i))
 
-    memory : (i : Kernel) → (a < 512) ⊎ (4096 ≤ a) → get_or (over i) a 0 ≡ get_or m a 0
-    memory i (inl l) = below-patch m (bytes_in 3584 (layout i)) 0x0200 a (omega arith) l
-    memory i (inr u) = above-patch m (bytes_in 3584 (layout i)) 0x0200 3584 a (tables-length i) (omega arith) (omega arith)
+    memory : (i : Kernel) → (a < TABLES) ⊎ (TABLES_END ≤ a) → get_or (over i) a 0 ≡ get_or m a 0
+    memory i (inl l) = below-patch m (bytes_in 3584 (layout i)) TABLES a (omega arith) l
+    memory i (inr u) = above-patch m (bytes_in 3584 (layout i)) TABLES 3584 a (tables-length i) (omega arith) (omega arith)
 
-    under : (a < 512) ⊎ (4096 ≤ a) → get_or (over k) a 0 ≡ get_or (over j) a 0
+    under : (a < TABLES) ⊎ (TABLES_END ≤ a) → get_or (over k) a 0 ≡ get_or (over j) a 0
     under x = memory k x ∙ sym (memory j x)
 
-    marks : (i : Kernel) → 0x1100 ≤ a → a < 0x1900
-        → get_or (patch (over i) 0x1100 (mark_bytes ds)) a 0 ≡ get_or (mark_bytes ds) (a - 0x1100) 0
+    marks : (i : Kernel) → BITMAP ≤ a → a < BITMAP_END
+        → get_or (patch (over i) BITMAP (mark_bytes ds)) a 0 ≡ get_or (mark_bytes ds) (a - BITMAP) 0
     marks i u l =
-        let here : a ≡ 0x1100 + (a - 0x1100) = omega arith in
-        ap (λ (x : ℕ). get_or (patch (over i) 0x1100 (mark_bytes ds)) x 0) here
-        ∙ in-patch (over i) (mark_bytes ds) 0x1100 (a - 0x1100) (omega (arith, over-length m i e))
+        let here : a ≡ BITMAP + (a - BITMAP) = omega arith in
+        ap (λ (x : ℕ). get_or (patch (over i) BITMAP (mark_bytes ds)) x 0) here
+        ∙ in-patch (over i) (mark_bytes ds) BITMAP (a - BITMAP) (omega (arith, over-length m i e))
         (omega (arith, marks-length ds))
 
 pub seen-length : (m : List ℕ) (k : Kernel) (ds : List (Option Domain)) → length m ≡ 65536 → length (seen_in m k ds) ≡ 65536
 unfolding seen_in
-seen-length m k ds e = length-patch (patch m 0x0200 (bytes_in 3584 (layout k))) (mark_bytes ds) 0x1100 2048 (marks-length ds)
+seen-length m k ds e = length-patch (patch m TABLES (bytes_in 3584 (layout k))) (mark_bytes ds) BITMAP 2048 (marks-length ds)
     (omega (arith, over-length m k e)) ∙ over-length m k e
 
 -- ---- calls of the kernel
@@ -89,7 +90,7 @@ seen-leaves m before after k j ds hm hb ha laid is left =
     tables-are : table_bytes after ≡ layout j
     tables-are = layout_from_laid_out after (left.laid_out laid) ∙ ap layout left.kernel
 
-    beside : (a : ℕ) → (a < 512) ⊎ (4096 ≤ a) → get_or after a 0 ≡ get_or (seen_in m j ds) a 0
+    beside : (a : ℕ) → (a < TABLES) ⊎ (TABLES_END ≤ a) → get_or after a 0 ≡ get_or (seen_in m j ds) a 0
     beside a h = outside_byte after before ha.bytes hb.bytes left.others a h ∙ ap (λ (xs : List ℕ). get_or xs a 0) is
         ∙ seen-outside m k j ds a hm.bytes h
 
@@ -100,7 +101,7 @@ seen-leaves m before after k j ds hm hb ha laid is left =
     each : (a : ℕ) → a < length after → get_or after a 0 ≡ get_or (seen_in m j ds) a 0
     each a l = elim (cases_lt a 512) [
       | inl x ↦ beside a (inl x)
-      | inr y ↦ elim (cases_lt a 4096) [
+      | inr y ↦ elim (cases_lt a TABLES_END) [
         | inl z ↦ (let here : 512 + (a - 512) ≡ a = omega arith in
             subst (λ (b : ℕ). get_or after b 0 ≡ get_or (seen_in m j ds) b 0) here (inside (a - 512) (omega arith)))
         | inr w ↦ beside a (inr w)
@@ -111,33 +112,33 @@ seen-leaves m before after k j ds hm hb ha laid is left =
 
 -- what is seen where bytes may be written
 pub seen-free : (m : List ℕ) (k : Kernel) (ds : List (Option Domain)) (a : ℕ) → length m ≡ 65536 → (a < 512)
-    ⊎ (((4096 ≤ a) × (a < 0x1100)) ⊎ (0x1900 ≤ a)) → get_or (seen_in m k ds) a 0 ≡ get_or m a 0
+    ⊎ (((TABLES_END ≤ a) × (a < BITMAP)) ⊎ (BITMAP_END ≤ a)) → get_or (seen_in m k ds) a 0 ≡ get_or m a 0
 unfolding seen_in
 seen-free m k ds a e (inl l) =
-    below-patch (patch m 0x0200 (bytes_in 3584 (layout k))) (mark_bytes ds) 0x1100 a (omega (arith, over-length m k e))
-    (omega arith) ∙ below-patch m (bytes_in 3584 (layout k)) 0x0200 a (omega arith) l
+    below-patch (patch m TABLES (bytes_in 3584 (layout k))) (mark_bytes ds) BITMAP a (omega (arith, over-length m k e))
+    (omega arith) ∙ below-patch m (bytes_in 3584 (layout k)) TABLES a (omega arith) l
 seen-free m k ds a e (inr (inl h)) =
-    below-patch (patch m 0x0200 (bytes_in 3584 (layout k))) (mark_bytes ds) 0x1100 a (omega (arith, over-length m k e)) h.1
-    ∙ above-patch m (bytes_in 3584 (layout k)) 0x0200 3584 a (tables-length k) (omega arith) (omega (arith, h.0))
+    below-patch (patch m TABLES (bytes_in 3584 (layout k))) (mark_bytes ds) BITMAP a (omega (arith, over-length m k e)) h.1
+    ∙ above-patch m (bytes_in 3584 (layout k)) TABLES 3584 a (tables-length k) (omega arith) (omega (arith, h.0))
 seen-free m k ds a e (inr (inr u)) =
-    above-patch (patch m 0x0200 (bytes_in 3584 (layout k))) (mark_bytes ds) 0x1100 2048 a (marks-length ds)
+    above-patch (patch m TABLES (bytes_in 3584 (layout k))) (mark_bytes ds) BITMAP 2048 a (marks-length ds)
     (omega (arith, over-length m k e)) (omega arith)
-    ∙ above-patch m (bytes_in 3584 (layout k)) 0x0200 3584 a (tables-length k) (omega arith) (omega arith)
+    ∙ above-patch m (bytes_in 3584 (layout k)) TABLES 3584 a (tables-length k) (omega arith) (omega arith)
 
 -- what is seen in the tables and in the marks isn't memory's
 pub seen-over : (m n : List ℕ) (k : Kernel) (ds : List (Option Domain)) (a : ℕ) → length m ≡ 65536 → length n ≡ 65536
-    → ((512 ≤ a) × (a < 4096)) ⊎ ((0x1100 ≤ a) × (a < 0x1900)) → get_or (seen_in m k ds) a 0 ≡ get_or (seen_in n k ds) a 0
+    → ((512 ≤ a) × (a < TABLES_END)) ⊎ ((BITMAP ≤ a) × (a < BITMAP_END)) → get_or (seen_in m k ds) a 0 ≡ get_or (seen_in n k ds) a 0
 unfolding seen_in
 seen-over m n k ds a e f (inl h) =
     let here : 512 + (a - 512) ≡ a = omega (arith, h.0) in
     subst (λ (b : ℕ). get_or (seen_in m k ds) b 0 ≡ get_or (seen_in n k ds) b 0) here
     (seen-tables m k ds (a - 512) e (omega (arith, h.1)) ∙ sym (seen-tables n k ds (a - 512) f (omega (arith, h.1))))
 seen-over m n k ds a e f (inr h) =
-    let here : 0x1100 + (a - 0x1100) ≡ a = omega (arith, h.0) in
+    let here : BITMAP + (a - BITMAP) ≡ a = omega (arith, h.0) in
     subst (λ (b : ℕ). get_or (seen_in m k ds) b 0 ≡ get_or (seen_in n k ds) b 0) here
-    (in-patch (patch m 0x0200 (bytes_in 3584 (layout k))) (mark_bytes ds) 0x1100 (a - 0x1100) (omega (arith, over-length m k e))
+    (in-patch (patch m TABLES (bytes_in 3584 (layout k))) (mark_bytes ds) BITMAP (a - BITMAP) (omega (arith, over-length m k e))
     (omega (arith, marks-length ds, h.1))
-    ∙ sym (in-patch (patch n 0x0200 (bytes_in 3584 (layout k))) (mark_bytes ds) 0x1100 (a - 0x1100)
+    ∙ sym (in-patch (patch n TABLES (bytes_in 3584 (layout k))) (mark_bytes ds) BITMAP (a - BITMAP)
     (omega (arith, over-length n k f)) (omega (arith, marks-length ds, h.1))))
 
 seen-set : (m : List ℕ) (k : Kernel) (ds : List (Option Domain)) (w : ℕ × ℕ) → length m ≡ 65536 → IsInPools w
@@ -149,31 +150,31 @@ seen-set m k ds w e h =
     size : length (set m w.0 w.1) ≡ 65536
     size = length-set m w.0 w.1 ∙ e
 
-    free : ((4096 ≤ w.0) × (w.0 < 0x1100)) ⊎ ((0x1900 ≤ w.0) × (w.0 < 65536))
+    free : ((TABLES_END ≤ w.0) × (w.0 < BITMAP)) ⊎ ((BITMAP_END ≤ w.0) × (w.0 < 65536))
     free = elim h [ inl i ↦ inl (omega (arith, i.0), omega (arith, i.1)) | inr i ↦ inr (omega (arith, i.0), omega (arith, i.1)) ]
 
     room : w.0 < 65536
     room = elim free [ inl i ↦ omega (arith, i.1) | inr i ↦ omega (arith, i.1) ]
 
-    open-at : (w.0 < 512) ⊎ (((4096 ≤ w.0) × (w.0 < 0x1100)) ⊎ (0x1900 ≤ w.0))
+    open-at : (w.0 < 512) ⊎ (((TABLES_END ≤ w.0) × (w.0 < BITMAP)) ⊎ (BITMAP_END ≤ w.0))
     open-at = elim free [ inl i ↦ inr (inl i) | inr i ↦ inr (inr i.0) ]
 
     written : get_or (set (seen_in m k ds) w.0 w.1) w.0 0 ≡ get_or (seen_in (set m w.0 w.1) k ds) w.0 0
     written = get_or-set_same (seen_in m k ds) w.0 w.1 0 (omega (arith, seen-length m k ds e, room))
         ∙ sym (seen-free (set m w.0 w.1) k ds w.0 size open-at ∙ get_or-set_same m w.0 w.1 0 (omega (arith, room)))
 
-    kept : (a : ℕ) → a ≢ w.0 → (a < 512) ⊎ (((4096 ≤ a) × (a < 0x1100)) ⊎ (0x1900 ≤ a))
+    kept : (a : ℕ) → a ≢ w.0 → (a < TABLES) ⊎ (((TABLES_END ≤ a) × (a < BITMAP)) ⊎ (BITMAP_END ≤ a))
         → get_or (seen_in m k ds) a 0 ≡ get_or (seen_in (set m w.0 w.1) k ds) a 0
     kept a n o = seen-free m k ds a e o ∙ sym (seen-free (set m w.0 w.1) k ds a size o ∙ get_or-set_other m w.0 a w.1 0 n)
 
     other : (a : ℕ) → a ≢ w.0 → get_or (seen_in m k ds) a 0 ≡ get_or (seen_in (set m w.0 w.1) k ds) a 0
     other a n = elim (cases_lt a 512) [
       | inl l ↦ kept a n (inl l)
-      | inr u ↦ elim (cases_lt a 4096) [
+      | inr u ↦ elim (cases_lt a TABLES_END) [
         | inl l ↦ seen-over m (set m w.0 w.1) k ds a e size (inl (u, l))
-        | inr v ↦ elim (cases_lt a 0x1100) [
+        | inr v ↦ elim (cases_lt a BITMAP) [
           | inl l ↦ kept a n (inr (inl (v, l)))
-          | inr x ↦ elim (cases_lt a 0x1900)
+          | inr x ↦ elim (cases_lt a BITMAP_END)
               [ inl l ↦ seen-over m (set m w.0 w.1) k ds a e size (inr (x, l)) | inr y ↦ kept a n (inr (inr y)) ]
         ]
       ]

@@ -8,6 +8,7 @@ use Rattle.machine_model.specs.Context.{reg, set_reg, IsContext}
 use Rattle.machine_model.specs.Does.{raised}
 use Rattle.machine_laws.proofs.Words.{set-context}
 use Rattle.machine_laws.proofs.Registers.{reg_other, sp_same}
+use Rattle.kernel_model.specs.declared.map.TheConstants.{DATA_POOL, FIRST_ROUTINE}
 use Rattle.kernel_model.specs.Kernel.{Kernel, thread_at, free_thread}
 use Rattle.kernel_model.specs.Words.{none, running, ready_row, running_state}
 use Rattle.kernel_model.specs.Queues.{to_ready_end}
@@ -33,7 +34,7 @@ use Rattle.kernel_model.specs.declared.rows.AppRow.{AppRow}
 
 -- ---- what was pushed is read alike from memory and from what is seen
 
-pub same-word : (s : System) (a : ℕ) → IsSeen s → 0x2000 ≤ a → word_at (seen s) a ≡ word_at s.memory a
+pub same-word : (s : System) (a : ℕ) → IsSeen s → DATA_POOL ≤ a → word_at (seen s) a ≡ word_at s.memory a
 unfolding word_at
 same-word s a see l =
     ap (λ (x : ℕ). x + 256 * get_or (seen s) (even a + 1) 0) (see.above (even a) (omega arith))
@@ -48,7 +49,7 @@ second-sp c sr h small l =
     let sp : reg (set_reg c 2 sr) 1 ≡ reg c 1 = reg_other c 2 sr 1 (omega arith) in
     sp_same (set_reg c 2 sr) _ (set-context c 2 sr h small) ∙ omega (arith, sp, h.sp_even)
 
-pub interrupted-same : (s : System) → IsSeen s → IsContext s.context → 0x2000 ≤ reg s.context 1 → reg s.context 1 + 2 < 65536
+pub interrupted-same : (s : System) → IsSeen s → IsContext s.context → DATA_POOL ≤ reg s.context 1 → reg s.context 1 + 2 < 65536
     → word_at s.memory (reg s.context 1) < 65536 → interrupted (seen s) s.context ≡ interrupted s.memory s.context
 unfolding second
 interrupted-same s see h low high small =
@@ -152,7 +153,7 @@ sound-served k ds n l c below h r good =
 
 pub serve-safe : Given → (s : System) (pick : Option ℕ) (l : ℕ) → IsSeen s → IsSound s → (r : ThreadRuns s.kernel)
     → IsServing s.context → IsInterrupted s.memory s.context s.kernel.apps s.placed (running s.kernel) → l < 14
-    → reg s.context 0 ≡ 0xF080 + 2 * l
+    → reg s.context 0 ≡ FIRST_ROUTINE + 2 * l
     → IsSafe s (by_turn s (vector_turn l (seen s) (work s pick)))
 serve-safe laws s pick l see h r serving i below at =
     let f : IsThread s i.good.domain = thread-facts laws s i.good.domain see h r i.good.placed in

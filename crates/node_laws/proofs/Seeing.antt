@@ -6,6 +6,7 @@ use Rattle.std.proofs.lemmas.List.{get_or-drop, get_or-take, get_or-map, get_or_
 use Rattle.std.proofs.lemmas.List.FromFn.{length-map-range_with_len, get_or-map-range_with_len}
 use Rattle.flat_mem.specs.Bytes.{patch}
 use Rattle.machine_model.specs.Memory.{word_at, IsMemory}
+use Rattle.kernel_model.specs.declared.map.TheConstants.{BITMAP, BITMAP_END, CODE_POOL, KERNEL_LIMIT, KERNEL_TOP, TABLES}
 use Rattle.kernel_model.specs.Kernel.{Kernel, app_at}
 use Rattle.kernel_model.specs.Words.{none, running, running_module, app_of, thread_runs, stack_low, stack_high}
 use Rattle.kernel_model.specs.Layout.{layout}
@@ -51,7 +52,7 @@ length-patch m bs from size e l =
 
 pub marks-length : (ds : List (Option Domain)) → length (mark_bytes ds) ≡ 2048
 unfolding mark_bytes
-marks-length ds = length-map-range_with_len {X = ℕ} (λ b. mark_byte ds (0x6000 + 16 * b)) 0 2048
+marks-length ds = length-map-range_with_len {X = ℕ} (λ b. mark_byte ds (CODE_POOL + 16 * b)) 0 2048
 
 -- ---- bytes
 
@@ -130,37 +131,37 @@ mark-small ds at =
 marks-small : (ds : List (Option Domain)) → SmallAll (mark_bytes ds)
 unfolding mark_bytes SmallAll
 marks-small ds k = elim (cases_lt k 2048) [
-  | inl l ↦ rw (get_or-map-range_with_len {X = ℕ} (λ b. mark_byte ds (0x6000 + 16 * b)) 0 2048 k k 0 l (omega arith))
-      (mark-small ds (0x6000 + 16 * k))
-  | inr u ↦ rw (get_or_past {X = ℕ} (map (λ b. mark_byte ds (0x6000 + 16 * b)) (range_with_len 0 2048)) k 0
-      (omega (arith, length-map-range_with_len {X = ℕ} (λ b. mark_byte ds (0x6000 + 16 * b)) 0 2048))) (omega arith)
+  | inl l ↦ rw (get_or-map-range_with_len {X = ℕ} (λ b. mark_byte ds (CODE_POOL + 16 * b)) 0 2048 k k 0 l (omega arith))
+      (mark-small ds (CODE_POOL + 16 * k))
+  | inr u ↦ rw (get_or_past {X = ℕ} (map (λ b. mark_byte ds (CODE_POOL + 16 * b)) (range_with_len 0 2048)) k 0
+      (omega (arith, length-map-range_with_len {X = ℕ} (λ b. mark_byte ds (CODE_POOL + 16 * b)) 0 2048))) (omega arith)
 ]
 
 -- ---- what is seen is a memory
 
-pub over-length : (m : List ℕ) (k : Kernel) → length m ≡ 65536 → length (patch m 0x0200 (bytes_in 3584 (layout k))) ≡ 65536
-over-length m k e = length-patch m (bytes_in 3584 (layout k)) 0x0200 3584 (tables-length k) (omega arith) ∙ e
+pub over-length : (m : List ℕ) (k : Kernel) → length m ≡ 65536 → length (patch m TABLES (bytes_in 3584 (layout k))) ≡ 65536
+over-length m k e = length-patch m (bytes_in 3584 (layout k)) TABLES 3584 (tables-length k) (omega arith) ∙ e
 
 pub seen-memory : (m : List ℕ) (k : Kernel) (ds : List (Option Domain)) → IsMemory m → IsMemory (seen_in m k ds)
 unfolding seen_in SmallAll
 seen-memory m k ds h =
-    let size : length (patch m 0x0200 (bytes_in 3584 (layout k))) ≡ 65536 = over-length m k h.bytes in
+    let size : length (patch m TABLES (bytes_in 3584 (layout k))) ≡ 65536 = over-length m k h.bytes in
     record {
-      bytes = length-patch (patch m 0x0200 (bytes_in 3584 (layout k))) (mark_bytes ds) 0x1100 2048 (marks-length ds) (omega arith)
+      bytes = length-patch (patch m TABLES (bytes_in 3584 (layout k))) (mark_bytes ds) BITMAP 2048 (marks-length ds) (omega arith)
           ∙ size;
-      small = small-patch (patch m 0x0200 (bytes_in 3584 (layout k))) (mark_bytes ds) 0x1100
-          (small-patch m (bytes_in 3584 (layout k)) 0x0200 h.small (tables-small k)) (marks-small ds);
+      small = small-patch (patch m TABLES (bytes_in 3584 (layout k))) (mark_bytes ds) BITMAP
+          (small-patch m (bytes_in 3584 (layout k)) TABLES h.small (tables-small k)) (marks-small ds);
     }
 
 -- memory is seen as it is above the marks
-seen-above : (m : List ℕ) (k : Kernel) (ds : List (Option Domain)) (a : ℕ) → length m ≡ 65536 → 0x1900 ≤ a
+seen-above : (m : List ℕ) (k : Kernel) (ds : List (Option Domain)) (a : ℕ) → length m ≡ 65536 → BITMAP_END ≤ a
     → get_or (seen_in m k ds) a 0 ≡ get_or m a 0
 unfolding seen_in
 seen-above m k ds a e l =
-    let size : length (patch m 0x0200 (bytes_in 3584 (layout k))) ≡ 65536 = over-length m k e in
-    above-patch (patch m 0x0200 (bytes_in 3584 (layout k))) (mark_bytes ds) 0x1100 2048 a (marks-length ds) (omega arith)
+    let size : length (patch m TABLES (bytes_in 3584 (layout k))) ≡ 65536 = over-length m k e in
+    above-patch (patch m TABLES (bytes_in 3584 (layout k))) (mark_bytes ds) BITMAP 2048 a (marks-length ds) (omega arith)
     (omega arith)
-    ∙ above-patch m (bytes_in 3584 (layout k)) 0x0200 3584 a (tables-length k) (omega arith) (omega arith)
+    ∙ above-patch m (bytes_in 3584 (layout k)) TABLES 3584 a (tables-length k) (omega arith) (omega arith)
 
 -- and the tables are seen in their place
 pub below-patch : (m bs : List ℕ) (from a : ℕ) → from ≤ length m → a < from → get_or (patch m from bs) a 0 ≡ get_or m a 0
@@ -177,12 +178,12 @@ in-patch m bs from a l u =
     ∙ get_or_append_left bs (drop (from + length bs) m) 0 a u
 
 pub seen-tables : (m : List ℕ) (k : Kernel) (ds : List (Option Domain)) (a : ℕ) → length m ≡ 65536 → a < 3584
-    → get_or (seen_in m k ds) (0x0200 + a) 0 ≡ get_or (bytes_in 3584 (layout k)) a 0
+    → get_or (seen_in m k ds) (TABLES + a) 0 ≡ get_or (bytes_in 3584 (layout k)) a 0
 unfolding seen_in
 seen-tables m k ds a e l =
-    let size : length (patch m 0x0200 (bytes_in 3584 (layout k))) ≡ 65536 = over-length m k e in
-    below-patch (patch m 0x0200 (bytes_in 3584 (layout k))) (mark_bytes ds) 0x1100 (0x0200 + a) (omega arith) (omega arith)
-    ∙ in-patch m (bytes_in 3584 (layout k)) 0x0200 a (omega arith) (omega (arith, tables-length k))
+    let size : length (patch m TABLES (bytes_in 3584 (layout k))) ≡ 65536 = over-length m k e in
+    below-patch (patch m TABLES (bytes_in 3584 (layout k))) (mark_bytes ds) BITMAP (TABLES + a) (omega arith) (omega arith)
+    ∙ in-patch m (bytes_in 3584 (layout k)) TABLES a (omega arith) (omega (arith, tables-length k))
 
 pub first-bytes : (k : Kernel) (i : ℕ) → i < 3584
     → get_or (bytes_in 3584 (layout k)) i 0 ≡ get_or (map (λ b. b % 256) (layout k) ++ replicate 3584 0) i 0
@@ -206,12 +207,12 @@ limit-with : (k : Kernel) → IsOrderly k → (b : Bool) → thread_runs k ≡ b
     × (k.cur_top < 65536)
 limit-with k o true e h =
     let w : (stack_low k (running k) + 6 < 65536) × (stack_high k (running k) < 65536) = h refl in (
-      subst (λ (x : ℕ). x < 65536) (sym (o.limit ∙ cond-true (thread_runs k) _ 0x1006 e)) w.0,
-      subst (λ (x : ℕ). x < 65536) (sym (o.top ∙ cond-true (thread_runs k) _ 0x1100 e)) w.1,
+      subst (λ (x : ℕ). x < 65536) (sym (o.limit ∙ cond-true (thread_runs k) _ KERNEL_LIMIT e)) w.0,
+      subst (λ (x : ℕ). x < 65536) (sym (o.top ∙ cond-true (thread_runs k) _ KERNEL_TOP e)) w.1,
     )
 limit-with k o false e h = (
-  subst (λ (x : ℕ). x < 65536) (sym (o.limit ∙ cond-false (thread_runs k) _ 0x1006 e)) (omega arith),
-  subst (λ (x : ℕ). x < 65536) (sym (o.top ∙ cond-false (thread_runs k) _ 0x1100 e)) (omega arith),
+  subst (λ (x : ℕ). x < 65536) (sym (o.limit ∙ cond-false (thread_runs k) _ KERNEL_LIMIT e)) (omega arith),
+  subst (λ (x : ℕ). x < 65536) (sym (o.top ∙ cond-false (thread_runs k) _ KERNEL_TOP e)) (omega arith),
 )
 
 -- the running thread's stack lies in its application's region
@@ -298,8 +299,8 @@ pub limits-seen : (s : System) (d : Domain) → IsSeen s → IsOrderly s.kernel 
     → IsStack d (low_in s.kernel.apps (running s.kernel)) (top_in s.kernel.apps (running s.kernel))
     → Limits (seen s) (low_in s.kernel.apps (running s.kernel)) (top_in s.kernel.apps (running s.kernel))
 limits-seen s d h o r well stack = record {
-  limit = h.limit ∙ o.limit ∙ cond-true (thread_runs s.kernel) _ 0x1006 (runs s.kernel r);
-  last = h.top ∙ o.top ∙ cond-true (thread_runs s.kernel) _ 0x1100 (runs s.kernel r);
+  limit = h.limit ∙ o.limit ∙ cond-true (thread_runs s.kernel) _ KERNEL_LIMIT (runs s.kernel r);
+  last = h.top ∙ o.top ∙ cond-true (thread_runs s.kernel) _ KERNEL_TOP (runs s.kernel r);
   low_even = stack.low_even;
   top_even = stack.top_even;
   order = stack.room;

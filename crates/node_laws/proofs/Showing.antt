@@ -5,6 +5,7 @@ use Rattle.std.proofs.lemmas.Grind.{same_number_lists}
 use Rattle.std.proofs.lemmas.List.{get_or_past}
 use Rattle.std.proofs.lemmas.List.Elements.{All-from_get_or}
 use Rattle.machine_model.specs.Memory.{IsMemory}
+use Rattle.kernel_model.specs.declared.states.TheConstants.{ENDED}
 use Rattle.kernel_model.specs.Kernel.{Kernel, module_at}
 use Rattle.kernel_model.specs.Layout.{kernel_in, kernel_of, layout, written, table_bytes, Fits, IsLaidOut}
 use Rattle.kernel_model.specs.Queues.{Leaves}
@@ -126,7 +127,7 @@ leaves-bytes before after s j w h a left =
 
 -- ---- modules
 
-known-state : (s : System) (i : ℕ) → IsSound s → i < 4 → (module_at s.kernel i).state ≢ free → (module_at s.kernel i).state ≤ 2
+known-state : (s : System) (i : ℕ) → IsSound s → i < 4 → (module_at s.kernel i).state ≢ free → (module_at s.kernel i).state ≤ ENDED
 known-state s i h l u =
     let has : HasDomain s.placed (8 + i) = h.kernel.domains.modules_used i l u in
     let is : IsDomain s.kernel.apps s.kernel.modules (8 + i) has.0 = h.kernel.domains.placed (8 + i) has.0 has.1 in

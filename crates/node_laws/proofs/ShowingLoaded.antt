@@ -7,6 +7,7 @@ use Rattle.std.proofs.lemmas.Grind.{same_number_lists}
 use Rattle.std.proofs.lemmas.List.Folds.{list_any_at}
 use Rattle.std.proofs.lemmas.Nat.Bits.{bit_at-lt, same_from_bits_below}
 use Rattle.machine_model.specs.Memory.{IsMemory}
+use Rattle.kernel_model.specs.declared.map.TheConstants.{BITMAP, BITMAP_END, CODE_POOL, TABLES, TABLES_END}
 use Rattle.kernel_model.specs.Bitmap.{Has}
 use Rattle.kernel_model.specs.Kernel.{Kernel}
 use Rattle.kernel_model.specs.Words.{free}
@@ -43,17 +44,17 @@ weight-is x false l f g = elim (cases_eq x 1) [ inl e ↦ absurd (let clash : fa
 
 -- the bit of the word at an address
 abbrev mark-bit : List ℕ → (at : ℕ) → ℕ
-mark-bit m at = bit_at (get_or m (0x1100 + (at - 0x6000) / 16) 0) ((at - 0x6000) / 2 % 8)
+mark-bit m at = bit_at (get_or m (BITMAP + (at - CODE_POOL) / 16) 0) ((at - CODE_POOL) / 2 % 8)
 
 same-bit : (xs ys : List ℕ) (q i : ℕ) → q < 2048 → i < 8 → ((at : ℕ) → IsCodeWord at → mark-bit xs at ≡ mark-bit ys at)
-    → bit_at (get_or xs (0x1100 + q) 0) i ≡ bit_at (get_or ys (0x1100 + q) 0) i
+    → bit_at (get_or xs (BITMAP + q) 0) i ≡ bit_at (get_or ys (BITMAP + q) 0) i
 same-bit xs ys q i lq li f =
-    let at : ℕ = 0x6000 + (16 * q + 2 * i) in
-    let byte : (at - 0x6000) / 16 ≡ q = omega arith in
-    let bit : (at - 0x6000) / 2 % 8 ≡ i = omega arith in
+    let at : ℕ = CODE_POOL + (16 * q + 2 * i) in
+    let byte : (at - CODE_POOL) / 16 ≡ q = omega arith in
+    let bit : (at - CODE_POOL) / 2 % 8 ≡ i = omega arith in
     let word : IsCodeWord at = record { even = omega arith; above = omega arith; below = omega arith } in
-    subst (λ (x : ℕ). bit_at (get_or xs (0x1100 + q) 0) x ≡ bit_at (get_or ys (0x1100 + q) 0) x) bit
-    (subst (λ (x : ℕ). bit_at (get_or xs (0x1100 + x) 0) ((at - 0x6000) / 2 % 8) ≡ bit_at (get_or ys (0x1100 + x) 0) ((at - 0x6000) / 2 % 8)) byte
+    subst (λ (x : ℕ). bit_at (get_or xs (BITMAP + q) 0) x ≡ bit_at (get_or ys (BITMAP + q) 0) x) bit
+    (subst (λ (x : ℕ). bit_at (get_or xs (BITMAP + x) 0) ((at - CODE_POOL) / 2 % 8) ≡ bit_at (get_or ys (BITMAP + x) 0) ((at - CODE_POOL) / 2 % 8)) byte
     (f at word))
 
 -- ---- units of a domain
@@ -225,16 +226,16 @@ loaded-bytes before after s n o r h =
     same-mark : (at : ℕ) → IsCodeWord at → mark-bit after at ≡ mark-bit (seen_in m j ds) at
     same-mark at w = mark-word before after s n o r at h w ∙ sym (bit-seen m j ds at size w)
 
-    marks : (a : ℕ) → 0x1100 ≤ a → a < 0x1900 → get_or after a 0 ≡ get_or (seen_in m j ds) a 0
+    marks : (a : ℕ) → BITMAP ≤ a → a < BITMAP_END → get_or after a 0 ≡ get_or (seen_in m j ds) a 0
     marks a g l =
-        let here : 0x1100 + (a - 0x1100) ≡ a = omega arith in
+        let here : BITMAP + (a - BITMAP) ≡ a = omega arith in
         subst (λ (x : ℕ). get_or after x 0 ≡ get_or (seen_in m j ds) x 0) here
-        (same_from_bits_below 8 (get_or after (0x1100 + (a - 0x1100)) 0) (get_or (seen_in m j ds) (0x1100 + (a - 0x1100)) 0)
-        (h.memory.small (0x1100 + (a - 0x1100)))
-        ((seen-memory m j ds h.loads.code.memory).small (0x1100 + (a - 0x1100)))
-        (λ i li. same-bit after (seen_in m j ds) (a - 0x1100) i (omega arith) li same-mark))
+        (same_from_bits_below 8 (get_or after (BITMAP + (a - BITMAP)) 0) (get_or (seen_in m j ds) (BITMAP + (a - BITMAP)) 0)
+        (h.memory.small (BITMAP + (a - BITMAP)))
+        ((seen-memory m j ds h.loads.code.memory).small (BITMAP + (a - BITMAP)))
+        (λ i li. same-bit after (seen_in m j ds) (a - BITMAP) i (omega arith) li same-mark))
 
-    tables : (a : ℕ) → 512 ≤ a → a < 4096 → get_or after a 0 ≡ get_or (seen_in m j ds) a 0
+    tables : (a : ℕ) → 512 ≤ a → a < TABLES_END → get_or after a 0 ≡ get_or (seen_in m j ds) a 0
     tables a g l =
         let here : 512 + (a - 512) ≡ a = omega arith in
         subst (λ (x : ℕ). get_or after x 0 ≡ get_or (seen_in m j ds) x 0) here
@@ -242,8 +243,8 @@ loaded-bytes before after s n o r h =
         (h.loaded.laid_out (laid-shown before s h.shows h.loading.code.memory)) h.loaded.kernel size (omega arith))
 
     -- outside of tables, marks and images
-    others : (a : ℕ) → (a < 512) ⊎ (((4096 ≤ a) × (a < 0x1100)) ⊎ (0x1900 ≤ a)) → (a < 0x0200) ⊎ (0x1000 ≤ a)
-        → (a < 0x1100) ⊎ (0x1900 ≤ a) → IsBeside r a → (a < d.code_lo) ⊎ (d.code_lo + code_length d.object ≤ a)
+    others : (a : ℕ) → (a < TABLES) ⊎ (((TABLES_END ≤ a) × (a < BITMAP)) ⊎ (BITMAP_END ≤ a)) → (a < TABLES) ⊎ (TABLES_END ≤ a)
+        → (a < BITMAP) ⊎ (BITMAP_END ≤ a) → IsBeside r a → (a < d.code_lo) ⊎ (d.code_lo + code_length d.object ≤ a)
         → get_or after a 0 ≡ get_or (seen_in m j ds) a 0
     others a f t b beside out =
         h.loaded.others a t b beside
@@ -251,7 +252,8 @@ loaded-bytes before after s n o r h =
         ∙ seen-free s.memory s.kernel s.placed a old-size f
         ∙ sym (seen-free m j ds a size f ∙ beside-both s.memory d a old-size h.imaged out beside.region)
 
-    below : (a : ℕ) → (a < 512) ⊎ (((4096 ≤ a) × (a < 0x1100)) ⊎ (0x1900 ≤ a)) → (a < 0x0200) ⊎ (0x1000 ≤ a) → a < 0x1100
+    below : (a : ℕ) → (a < TABLES) ⊎ (((TABLES_END ≤ a) × (a < BITMAP)) ⊎ (BITMAP_END ≤ a)) → (a < TABLES) ⊎ (TABLES_END ≤ a)
+        → a < BITMAP
         → get_or after a 0 ≡ get_or (seen_in m j ds) a 0
     below a f t l = others a f t (inl l)
         record { code = inl (omega (arith, h.imaged.code_low)); region = inl (omega (arith, h.imaged.lo_low)) }
@@ -278,7 +280,7 @@ loaded-bytes before after s n o r h =
         ∙ sym (seen-free m j ds a size (inr (inr (omega (arith, h.imaged.code_low)))))
 
     -- above the marks, by the code
-    by-code : (a : ℕ) → 0x1900 ≤ a → (a < r.lo) ⊎ (r.hi ≤ a) → get_or after a 0 ≡ get_or (seen_in m j ds) a 0
+    by-code : (a : ℕ) → BITMAP_END ≤ a → (a < r.lo) ⊎ (r.hi ≤ a) → get_or after a 0 ≡ get_or (seen_in m j ds) a 0
     by-code a g out = elim (cases_lt a r.code_lo) [
       | inl l ↦ others a (inr (inr g)) (inr (omega arith)) (inr g) record { code = inl l; region = out } (inl l)
       | inr u ↦ elim (cases_lt a r.code_hi) [
@@ -288,7 +290,7 @@ loaded-bytes before after s n o r h =
       ]
     ]
 
-    above : (a : ℕ) → 0x1900 ≤ a → get_or after a 0 ≡ get_or (seen_in m j ds) a 0
+    above : (a : ℕ) → BITMAP_END ≤ a → get_or after a 0 ≡ get_or (seen_in m j ds) a 0
     above a g = elim (cases_lt a r.lo) [
       | inl l ↦ by-code a g (inl l)
       | inr u ↦ elim (cases_lt a r.hi) [ inl l ↦ region a u l | inr v ↦ by-code a g (inr v) ]
@@ -297,11 +299,11 @@ loaded-bytes before after s n o r h =
     each : (a : ℕ) → get_or after a 0 ≡ get_or (seen_in m j ds) a 0
     each a = elim (cases_lt a 512) [
       | inl l ↦ below a (inl l) (inl l) (omega arith)
-      | inr u ↦ elim (cases_lt a 4096) [
+      | inr u ↦ elim (cases_lt a TABLES_END) [
         | inl l ↦ tables a u l
-        | inr v ↦ elim (cases_lt a 0x1100) [
+        | inr v ↦ elim (cases_lt a BITMAP) [
           | inl l ↦ below a (inr (inl (v, l))) (inr v) l
-          | inr w ↦ elim (cases_lt a 0x1900) [ inl l ↦ marks a w l | inr x ↦ above a x ]
+          | inr w ↦ elim (cases_lt a BITMAP_END) [ inl l ↦ marks a w l | inr x ↦ above a x ]
         ]
       ]
     ]

@@ -9,6 +9,7 @@ use Rattle.std.proofs.lemmas.List.FromFn.{get_or-map-range_with_len, length-map-
 use Rattle.machine_model.specs.Memory.{word_at}
 use Rattle.machine_model.specs.Context.{reg, set_reg, IsContext}
 use Rattle.machine_laws.specs.Steady.{IsSteady, IsStatus}
+use Rattle.kernel_model.specs.declared.entries.TheConstants.{CALLS, SPAWN}
 use Rattle.kernel_model.specs.declared.kinds.Kind.{Kind}
 use Rattle.kernel_model.specs.declared.kinds.Kind.TheVariants.{App, Module}
 use Rattle.kernel_model.specs.Kernel.{Kernel, thread_at, with_thread, app_at, free_thread}
@@ -170,7 +171,7 @@ untouched-begun s t pc p r12 e =
 
 -- ---- the call
 
-spawns : Given → (s : System) (d : Domain) (pick : Option ℕ) (c : List ℕ) → IsCalling s d 0xF00A → IsReturned s d c
+spawns : Given → (s : System) (d : Domain) (pick : Option ℕ) (c : List ℕ) → IsCalling s d SPAWN → IsReturned s d c
     → is_mark s.placed (running_domain s.kernel) (reg c 12) ≡ true → reg c 13 ≤ 7
     → length (free_threads s.kernel (app_of (running s.kernel))) ≢ 0
     → IsSafe s (by_turn s (after_giving Spawn (record (work s pick) { context = c }) (spawned s.kernel c)
@@ -212,9 +213,9 @@ spawns laws s d pick c x is e p some =
       untouched = untouched-begun s t (reg c 12) (reg c 13) (reg c 14) next.app;
     }
     (good-returned s d _ x (with-register s d _ 12 0 (omega arith) (omega arith)
-    (with-register s d c 13 (number_of t) (omega arith) (omega arith) is))) (entered-by s 0xF00A)
+    (with-register s d c 13 (number_of t) (omega arith) (omega arith) is))) (entered-by s SPAWN)
 
-spawn-by : Given → (s : System) (d : Domain) (pick : Option ℕ) (c : List ℕ) → IsCalling s d 0xF00A → IsReturned s d c
+spawn-by : Given → (s : System) (d : Domain) (pick : Option ℕ) (c : List ℕ) → IsCalling s d SPAWN → IsReturned s d c
     → (m : Bool) → is_mark s.placed (running_domain s.kernel) (reg c 12) ≡ m → (p : Bool) → nat_lt 7 (reg c 13) ≡ p → (f : Bool)
     → eqb (length (free_threads s.kernel (app_of (running s.kernel)))) 0 ≡ f
     → IsSafe s (by_turn s (unless Spawn (record (work s pick) { context = c })
@@ -226,7 +227,7 @@ spawn-by laws s d pick c x is true em false ep true ef = code-safe laws s d pick
 spawn-by laws s d pick c x is true em false ep false ef =
     spawns laws s d pick c x is em (ltb-false 7 (reg c 13) ep) (eqb-false _ 0 ef)
 
-pub spawn-safe : Given → (s : System) (d : Domain) (pick : Option ℕ) → IsCalling s d 0xF00A → 0xF006 ≤ reg s.context 0
+pub spawn-safe : Given → (s : System) (d : Domain) (pick : Option ℕ) → IsCalling s d SPAWN → CALLS ≤ reg s.context 0
     → is_mark s.placed (running_domain s.kernel) (word_at (seen s) (reg s.context 1)) ≡ true
     → IsSafe s (by_turn s (row Spawn (returning (work s pick))))
 spawn-safe laws s d pick x l is =

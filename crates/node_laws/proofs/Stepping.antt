@@ -10,6 +10,8 @@ use Rattle.machine_model.specs.Context.{reg}
 use Rattle.machine_model.specs.Does.{does, Effect}
 use Rattle.machine_laws.proofs.Memory.{part-stays, word-stays}
 use Rattle.machine_laws.specs.Steady.{Limits}
+use Rattle.kernel_model.specs.declared.map.TheConstants.{CODE_POOL, CODE_POOL_END, KERNEL_STACK, KERNEL_TOP, VECTORS}
+use Rattle.kernel_model.specs.declared.entries.TheConstants.{FIRST_ENTRY}
 use Rattle.kernel_model.specs.declared.kinds.Kind.{Kind}
 use Rattle.kernel_model.specs.declared.kinds.Kind.TheVariants.{App, Module}
 use Rattle.kernel_model.specs.Kernel.{Kernel, app_at, module_at}
@@ -76,8 +78,8 @@ places-of k n d h = elim (cases_lt n 8) [ inl l ↦ app l | inr l ↦ of-module 
         record { used = row.2.used; code_from = row.2.code_lo; code_to = row.2.code_hi; from = row.2.lo; to = row.2.hi })
 
 -- code lies in the code pool
-pub code-in-pool : (k : Kernel) (n : ℕ) (d : Domain) → IsSettledKernel k → IsDomain k.apps k.modules n d → (0x6000 ≤ d.code_lo)
-    × (d.code_lo + code_length d.object ≤ 0xE000)
+pub code-in-pool : (k : Kernel) (n : ℕ) (d : Domain) → IsSettledKernel k → IsDomain k.apps k.modules n d → (CODE_POOL ≤ d.code_lo)
+    × (d.code_lo + code_length d.object ≤ CODE_POOL_END)
 code-in-pool k n d h is =
     let p : HasPlaces (domain_at k n) d = places-of k n d is in
     let i : IsInPool (pool_range Code) (domain_at k n).code = h.inside Code n is.below p.used in
@@ -137,7 +139,7 @@ of-module k i d h =
 
 -- ---- writes
 
-avoids : (from to : ℕ) (ws : List (ℕ × ℕ)) → 0x6000 ≤ from → AllByRecursion IsInPools ws
+avoids : (from to : ℕ) (ws : List (ℕ × ℕ)) → CODE_POOL ≤ from → AllByRecursion IsInPools ws
     → AllByRecursion (λ w. (w.0 < from) ⊎ (to ≤ w.0)) ws
 avoids from to ws l h = all-map IsInPools (λ w. (w.0 < from) ⊎ (to ≤ w.0)) each ws h
   where
@@ -149,13 +151,13 @@ pub writes : WritesLaw
 writes s ws h k inside memory = record {
   memory = memory;
   code = λ n d e j l.
-      let pool : (0x6000 ≤ d.code_lo) × (d.code_lo + code_length d.object ≤ 0xE000) =
+      let pool : (CODE_POOL ≤ d.code_lo) × (d.code_lo + code_length d.object ≤ CODE_POOL_END) =
       code-in-pool s.kernel n d k.settled (k.domains.placed n d e) in
       part-stays d.code_lo (d.code_lo + j + 1) s.memory ws (avoids d.code_lo (d.code_lo + j + 1) ws pool.0 inside) (d.code_lo + j)
       (omega arith) (omega arith) ∙ h.code n d e j l;
   vectors = λ n l.
-      word-stays 65504 65536 s.memory (put_all s.memory ws) (65504 + 2 * n)
-      (part-stays 65504 65536 s.memory ws (avoids 65504 65536 ws (omega arith) inside)) (omega arith) (omega arith)
+      word-stays VECTORS 65536 s.memory (put_all s.memory ws) (VECTORS + 2 * n)
+      (part-stays VECTORS 65536 s.memory ws (avoids VECTORS 65536 ws (omega arith) inside)) (omega arith) (omega arith)
       ∙ h.vectors n l;
 }
 
@@ -164,7 +166,7 @@ writes s ws h k inside memory = record {
 pub code-seen : (s : System) (n : ℕ) (d : Domain) → IsSeen s → IsCodeInPlace s.memory s.placed
     → IsSoundKernel s.kernel s.placed s.steps → domain_in s.placed n ≡ Some d → HasBytes (seen s) d.code_lo (code_image d)
 code-seen s n d see h k e j l =
-    let pool : (0x6000 ≤ d.code_lo) × (d.code_lo + code_length d.object ≤ 0xE000) =
+    let pool : (CODE_POOL ≤ d.code_lo) × (d.code_lo + code_length d.object ≤ CODE_POOL_END) =
     code-in-pool s.kernel n d k.settled (k.domains.placed n d e) in
     see.above (d.code_lo + j) (omega (arith, pool.0)) ∙ h.code n d e j l
 
@@ -308,7 +310,7 @@ memory-kept : (s : System) (a : ℕ) (d : Domain) (ws : List (ℕ × ℕ)) → I
     → MemoryKept (of_app a) s.placed s.memory (put_all s.memory ws)
 memory-kept s a d ws h da inside pools = record {
   code = λ n e other here k l u.
-      let pool : (0x6000 ≤ e.code_lo) × (e.code_lo + code_length e.object ≤ 0xE000) =
+      let pool : (CODE_POOL ≤ e.code_lo) × (e.code_lo + code_length e.object ≤ CODE_POOL_END) =
       code-in-pool s.kernel n e h.kernel.settled (h.kernel.domains.placed n e here) in
       part-stays e.code_lo (e.code_lo + code_length e.object) s.memory ws
       (avoids e.code_lo (e.code_lo + code_length e.object) ws pool.0 pools) k l u;
@@ -328,9 +330,9 @@ pub own-stack : (k : Kernel) (c : List ℕ) (i : Instr) (e : Effect) → ThreadR
     → StaysInStack (stack_low_in k) (stack_top_in k) c i e
 own-stack k c i e r h =
     subst (λ (l : ℕ). StaysInStack l (stack_top_in k) c i e)
-    (sym (cond-false (module_runs k) 0x1000 (low_in k.apps (running k)) (no-module k r)))
+    (sym (cond-false (module_runs k) KERNEL_STACK (low_in k.apps (running k)) (no-module k r)))
     (subst (λ (u : ℕ). StaysInStack (low_in k.apps (running k)) u c i e)
-    (sym (cond-false (module_runs k) 0x1100 (top_in k.apps (running k)) (no-module k r))) h)
+    (sym (cond-false (module_runs k) KERNEL_TOP (top_in k.apps (running k)) (no-module k r))) h)
 
 -- by the kernel that is as it was, and by who runs
 by-thread : (s : System) (d : Domain) → IsSeen s → IsSound s → (r : ThreadRuns s.kernel)
@@ -388,7 +390,7 @@ same-counted s e told r h = subst (λ (k : Kernel). IsSafe s (by_effect s k e to
 
 -- the instruction that a thread stands at
 pub thread-steps : Given → (s : System) → IsSeen s → IsSound s → (r : ThreadRuns s.kernel)
-    → IsGoodFor s.kernel.apps s.placed (running s.kernel) s.context → reg s.context 0 < 0xF000
+    → IsGoodFor s.kernel.apps s.placed (running s.kernel) s.context → reg s.context 0 < FIRST_ENTRY
     → IsSafe s (instruction s (fetched (seen s) (reg s.context 0)))
 thread-steps laws s see h r good l =
     let d : Domain = good.domain in

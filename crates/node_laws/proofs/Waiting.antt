@@ -6,6 +6,7 @@ use Rattle.std.proofs.lemmas.List.{get_or-set_same, get_or-set_other}
 use Rattle.machine_model.specs.Memory.{word_at}
 use Rattle.machine_model.specs.Context.{reg, set_reg}
 use Rattle.machine_laws.proofs.Registers.{reg_other}
+use Rattle.kernel_model.specs.declared.entries.TheConstants.{CALLS, LINE, SLEEP, TICKS}
 use Rattle.kernel_model.specs.Kernel.{Kernel, thread_at, with_thread, with_line, with_sleepers, line_at}
 use Rattle.kernel_model.specs.Words.{none, asleep, on_line, running, app_of, tick_number}
 use Rattle.kernel_model.specs.Queues.{among_sleepers}
@@ -119,7 +120,7 @@ pub saved-mark : {entry : ℕ} → (s : System) (d : Domain) (c : List ℕ) → 
 saved-mark s d c x e = subst (λ (row : ThreadRow). is_mark s.placed (app_of (running s.kernel)) (reg row.regs 0) ≡ true)
     (sym (saved-row s.kernel c x.runs x.sound.kernel.settled.orderly.shape.thread_rows)) e
 
-sleeps : Given → (s : System) (d : Domain) (pick : Option ℕ) (r : List ℕ) → IsCalling s d 0xF00E → IsReturned s d r
+sleeps : Given → (s : System) (d : Domain) (pick : Option ℕ) (r : List ℕ) → IsCalling s d SLEEP → IsReturned s d r
     → is_mark s.placed (app_of (running s.kernel)) (reg r 0) ≡ true → get_or r 12 0 ≢ 0
     → IsSafe s (by_turn s (after_leaving Sleep (record (work s pick) { context = r }) (slept (saved s.kernel (set_reg r 12 0)) r)))
 sleeps laws s d pick r x is m some =
@@ -130,7 +131,7 @@ sleeps laws s d pick r x is m some =
     let runs : ThreadRuns (saved k c) = record { thread = x.runs.thread; no_module = x.runs.no_module } in
     let mark : is_mark s.placed (app_of (running k)) (reg c 0) ≡ true =
     ap (is_mark s.placed (app_of (running k))) (reg_other r 12 0 0 (omega arith)) ∙ m in
-    told-safe laws s d (slept (saved k c) r) pick 0xF00E x record {
+    told-safe laws s d (slept (saved k c) r) pick SLEEP x record {
       sound = sound-slept (saved k c) s.placed s.steps r
           (sound-saved k s.placed s.steps c x.sound.kernel x.runs good.good.steady.context.words) runs some
           (good-saved k s.placed c x.runs x.sound.kernel.settled.orderly.shape.thread_rows good) (saved-mark s d c x mark);
@@ -140,12 +141,12 @@ sleeps laws s d pick r x is m some =
           (untouched-slept (own_of s) (saved k c) r (own-thread s));
     }
 
-sleep-by : Given → (s : System) (d : Domain) (pick : Option ℕ) (r : List ℕ) → IsCalling s d 0xF00E → IsReturned s d r
+sleep-by : Given → (s : System) (d : Domain) (pick : Option ℕ) (r : List ℕ) → IsCalling s d SLEEP → IsReturned s d r
     → is_mark s.placed (app_of (running s.kernel)) (reg r 0) ≡ true → (b : Bool) → eqb (get_or r 12 0) 0 ≡ b
     → IsSafe s (by_turn s (cond b (yields Sleep (record (work s pick) { context = r }))
     (after_leaving Sleep (record (work s pick) { context = r }) (slept (saved s.kernel (set_reg r 12 0)) r))))
 sleep-by laws s d pick r x is m true e =
-    told-safe laws s d _ pick 0xF00E x
+    told-safe laws s d _ pick SLEEP x
     (rests-end (own_of s) s.kernel s.kernel s.placed s.steps (set_reg r 12 0) x.sound.kernel x.runs (own-thread s)
     (untouched-all (own_of s) s.kernel) (good-returned s d _ x (with-register s d r 12 0 (omega arith) (omega arith) is)))
 sleep-by laws s d pick r x is m false e = sleeps laws s d pick r x is m (eqb-false (get_or r 12 0) 0 e)
@@ -183,7 +184,7 @@ untouched-waiting own k r size l e =
     (untouched-twice own k1 k2 (waiting_line k r) (untouched-row own k1 (running k) (line-row k1 n) e)
     (untouched-runs own k2 none))
 
-waits : Given → (s : System) (d : Domain) (pick : Option ℕ) (r : List ℕ) → IsCalling s d 0xF020 → IsReturned s d r
+waits : Given → (s : System) (d : Domain) (pick : Option ℕ) (r : List ℕ) → IsCalling s d LINE → IsReturned s d r
     → is_mark s.placed (app_of (running s.kernel)) (reg r 0) ≡ true → get_or r 12 0 ≤ 13
     → IsSafe s (by_turn s (after_leaving Line (record (work s pick) { context = r })
     (waiting_line (saved s.kernel (set_reg r 12 0)) r)))
@@ -195,7 +196,7 @@ waits laws s d pick r x is m few =
     let runs : ThreadRuns (saved k c) = record { thread = x.runs.thread; no_module = x.runs.no_module } in
     let mark : is_mark s.placed (app_of (running k)) (reg c 0) ≡ true =
     ap (is_mark s.placed (app_of (running k))) (reg_other r 12 0 0 (omega arith)) ∙ m in
-    told-safe laws s d (waiting_line (saved k c) r) pick 0xF020 x record {
+    told-safe laws s d (waiting_line (saved k c) r) pick LINE x record {
       sound = sound-waiting (saved k c) s.placed s.steps r
           (sound-saved k s.placed s.steps c x.sound.kernel x.runs good.good.steady.context.words) runs (omega arith)
           (good-saved k s.placed c x.runs x.sound.kernel.settled.orderly.shape.thread_rows good) (saved-mark s d c x mark);
@@ -205,7 +206,7 @@ waits laws s d pick r x is m few =
           (untouched-waiting (own_of s) (saved k c) r x.sound.kernel.settled.orderly.shape.line_lists (omega arith) (own-thread s));
     }
 
-line-by : Given → (s : System) (d : Domain) (pick : Option ℕ) (r : List ℕ) → IsCalling s d 0xF020 → IsReturned s d r
+line-by : Given → (s : System) (d : Domain) (pick : Option ℕ) (r : List ℕ) → IsCalling s d LINE → IsReturned s d r
     → is_mark s.placed (app_of (running s.kernel)) (reg r 0) ≡ true → (a : Bool) → eqb (get_or r 12 0) 0 ≡ a → (b : Bool)
     → nat_lt 13 (get_or r 12 0) ≡ b
     → IsSafe s (by_turn s (unless Line (record (work s pick) { context = r }) (cond (a || b) (Some BadArgument) None)
@@ -217,7 +218,7 @@ line-by laws s d pick r x is m false ea false eb = waits laws s d pick r x is m 
 -- ---- the turns
 
 -- the registers behind the return go on at the mark
-pub mark-behind : {entry : ℕ} → Given → (s : System) (d : Domain) → IsCalling s d entry → 0xF006 ≤ reg s.context 0
+pub mark-behind : {entry : ℕ} → Given → (s : System) (d : Domain) → IsCalling s d entry → CALLS ≤ reg s.context 0
     → is_mark s.placed (running_domain s.kernel) (word_at (seen s) (reg s.context 1)) ≡ true
     → is_mark s.placed (app_of (running s.kernel)) (reg (returned s.context (word_at (seen s) (reg s.context 1))) 0) ≡ true
 mark-behind laws s d x l e = marked s d (returned s.context (word_at (seen s) (reg s.context 1)))
@@ -225,7 +226,7 @@ mark-behind laws s d x l e = marked s d (returned s.context (word_at (seen s) (r
 
 pub sleep-turn : Given → TurnLaw Sleep
 sleep-turn laws s pick see h few r good at =
-    let x : IsCalling s good.domain 0xF00E = calling laws s see h r good (omega arith, omega arith) in
+    let x : IsCalling s good.domain SLEEP = calling laws s see h r good (omega arith, omega arith) in
     let c : List ℕ = returned s.context (word_at (seen s) (reg s.context 1)) in
     call-safe laws s good.domain pick Sleep x (omega arith)
     (λ e. sleep-by laws s good.domain pick c x (behind-return laws s good.domain x (omega arith) e)
@@ -233,7 +234,7 @@ sleep-turn laws s pick see h few r good at =
 
 pub line-turn : Given → TurnLaw Line
 line-turn laws s pick see h few r good at =
-    let x : IsCalling s good.domain 0xF020 = calling laws s see h r good (omega arith, omega arith) in
+    let x : IsCalling s good.domain LINE = calling laws s see h r good (omega arith, omega arith) in
     let c : List ℕ = returned s.context (word_at (seen s) (reg s.context 1)) in
     call-safe laws s good.domain pick Line x (omega arith)
     (λ e. line-by laws s good.domain pick c x (behind-return laws s good.domain x (omega arith) e)
@@ -241,22 +242,22 @@ line-turn laws s pick see h few r good at =
 
 -- ---- the tick number
 
-ticks-by : Given → (s : System) (d : Domain) (pick : Option ℕ) (r : List ℕ) → IsCalling s d 0xF014 → IsReturned s d r
+ticks-by : Given → (s : System) (d : Domain) (pick : Option ℕ) (r : List ℕ) → IsCalling s d TICKS → IsReturned s d r
     → s.steps < most_steps → IsSafe s (by_turn s (gives_ticks (record (work s pick) { context = r })))
 ticks-by laws s d pick r x is few =
     let w : Work = record (work s pick) { context = r } in
     let ticks : tick_number s.kernel ≤ s.steps = x.sound.kernel.bounded.ticks in
     subst (λ (t : Turn). IsSafe s (by_turn s t))
-    (sym (cond-false (module_runs s.kernel) (goes_straight s.kernel (set_reg (with_ticks w) 12 0) (called w 0xF014))
-    (goes_on w s.kernel (with_ticks w) 0 (called w 0xF014)) (no-module s.kernel x.runs)))
+    (sym (cond-false (module_runs s.kernel) (goes_straight s.kernel (set_reg (with_ticks w) 12 0) (called w TICKS))
+    (goes_on w s.kernel (with_ticks w) 0 (called w TICKS)) (no-module s.kernel x.runs)))
     (goes-safe laws s d pick s.kernel (set_reg (with_ticks w) 12 0) _ x (nothing-done s x.sound x.runs)
     (good-returned s d _ x (with-register s d _ 12 0 (omega arith) (omega arith)
     (with-register s d _ 14 _ (omega arith) (omega arith) (with-register s d r 13 _ (omega arith) (omega arith) is))))
-    (entered-by s 0xF014))
+    (entered-by s TICKS))
 
 pub ticks-turn : Given → TurnLaw Ticks
 ticks-turn laws s pick see h few r good at =
-    let x : IsCalling s good.domain 0xF014 = calling laws s see h r good (omega arith, omega arith) in
+    let x : IsCalling s good.domain TICKS = calling laws s see h r good (omega arith, omega arith) in
     let c : List ℕ = returned s.context (word_at (seen s) (reg s.context 1)) in
     call-safe laws s good.domain pick Ticks x (omega arith)
     (λ e. ticks-by laws s good.domain pick c x (behind-return laws s good.domain x (omega arith) e) few)

@@ -3,6 +3,8 @@ use Rattle.std.proofs.Common.{◌≡◌, ◌≢◌, ℕ, ◌+◌, ◌<◌, true,
 use Rattle.std.specs.List.{AllByRecursion}
 use Rattle.std.proofs.lemmas.Bool.{cond-true, cond-false, ne_eqb, and_left}
 use Rattle.msp_encode.specs.declared.instr.Instr.{Instr}
+use Rattle.kernel_model.specs.declared.map.TheConstants.{KERNEL_LIMIT, KERNEL_STACK, KERNEL_TOP}
+use Rattle.kernel_model.specs.declared.entries.TheConstants.{FIRST_ENTRY}
 use Rattle.kernel_model.specs.declared.kinds.Kind.{Kind}
 use Rattle.kernel_model.specs.declared.kinds.Kind.TheVariants.{Module}
 use Rattle.machine_model.specs.Memory.{word_at, put_all, IsMemory}
@@ -45,8 +47,8 @@ pub record IsInModule (s : System) (d : Domain) : Type 0 where
   pub kind : d.object.kind ≡ Module
   pub well : IsWellPlaced d
   pub stands : StandsIn d (seen s)
-  pub limits : Limits (seen s) 0x1000 0x1100
-  pub good : IsGood d 0x1000 0x1100 s.context
+  pub limits : Limits (seen s) KERNEL_STACK KERNEL_TOP
+  pub good : IsGood d KERNEL_STACK KERNEL_TOP s.context
 
 pub runs-module : (k : Kernel) → running_module k < 4 → module_runs k ≡ true
 runs-module k l = ap not (ne_eqb (running_module k) none (λ e. omega arith))
@@ -62,7 +64,7 @@ no-thread : (k : Kernel) → running_module k < 4 → thread_runs k ≡ false
 no-thread k l = and_left (eqb (running_module k) none) _ (ne_eqb (running_module k) none (λ e. omega arith))
 
 pub in-module : Given → (s : System) → IsSeen s → IsSound s → running_module s.kernel < 4
-    → (g : IsGoodIn s.placed (8 + running_module s.kernel) 0x1000 0x1100 s.context) → IsInModule s g.domain
+    → (g : IsGoodIn s.placed (8 + running_module s.kernel) KERNEL_STACK KERNEL_TOP s.context) → IsInModule s g.domain
 in-module laws s see h l g =
     let n : ℕ = 8 + running_module s.kernel in
     let d : Domain = g.domain in
@@ -84,8 +86,9 @@ in-module laws s see h l g =
             stands-so laws d (seen s) well.code_even (code-seen s n d see h.code h.kernel g.placed);
       };
       limits = record {
-        limit = see.limit ∙ h.kernel.settled.orderly.limit ∙ cond-false (thread_runs s.kernel) _ 0x1006 (no-thread s.kernel l);
-        last = see.top ∙ h.kernel.settled.orderly.top ∙ cond-false (thread_runs s.kernel) _ 0x1100 (no-thread s.kernel l);
+        limit =
+            see.limit ∙ h.kernel.settled.orderly.limit ∙ cond-false (thread_runs s.kernel) _ KERNEL_LIMIT (no-thread s.kernel l);
+        last = see.top ∙ h.kernel.settled.orderly.top ∙ cond-false (thread_runs s.kernel) _ KERNEL_TOP (no-thread s.kernel l);
         low_even = refl;
         top_even = refl;
         order = omega arith;
@@ -166,19 +169,20 @@ sound-counted k ds n l few h = record {
 -- ---- its instruction
 
 -- the kernel's stack is the running module's
-module-stack : (k : Kernel) (c : List ℕ) (i : Instr) (e : Effect) → running_module k < 4 → StaysInStack 0x1000 0x1100 c i e
+module-stack : (k : Kernel) (c : List ℕ) (i : Instr) (e : Effect) → running_module k < 4
+    → StaysInStack KERNEL_STACK KERNEL_TOP c i e
     → StaysInStack (stack_low_in k) (stack_top_in k) c i e
 module-stack k c i e l h =
     subst (λ (low : ℕ). StaysInStack low (stack_top_in k) c i e)
-    (sym (cond-true (module_runs k) 0x1000 (low_in k.apps (running k)) (runs-module k l)))
-    (subst (λ (top : ℕ). StaysInStack 0x1000 top c i e)
-    (sym (cond-true (module_runs k) 0x1100 (top_in k.apps (running k)) (runs-module k l))) h)
+    (sym (cond-true (module_runs k) KERNEL_STACK (low_in k.apps (running k)) (runs-module k l)))
+    (subst (λ (top : ℕ). StaysInStack KERNEL_STACK top c i e)
+    (sym (cond-true (module_runs k) KERNEL_TOP (top_in k.apps (running k)) (runs-module k l))) h)
 
 by-module : (s : System) (d : Domain) → IsInModule s d → word_of s.kernel Budget < most_instructions
     → (place : StepsAt d (seen s) s.context)
     → IsMemory (put_all s.memory (does (seen s) s.context place.instr place.words).written)
-    → Leads d 0x1000 0x1100 (does (seen s) s.context place.instr place.words)
-    → StaysInStack 0x1000 0x1100 s.context place.instr (does (seen s) s.context place.instr place.words)
+    → Leads d KERNEL_STACK KERNEL_TOP (does (seen s) s.context place.instr place.words)
+    → StaysInStack KERNEL_STACK KERNEL_TOP s.context place.instr (does (seen s) s.context place.instr place.words)
     → IsSafe s (by_effect s (with_word s.kernel Budget (word_of s.kernel Budget + 1))
     (does (seen s) s.context place.instr place.words)
     (record_of.Instr (s.steps + 1) (who_runs s.kernel) (reg s.context 0) (word_at (seen s) (reg s.context 0))
@@ -187,7 +191,7 @@ by-module s d m few place memory leads stays =
     let effect : Effect = does (seen s) s.context place.instr place.words in
     let ws : List (ℕ × ℕ) = effect.written in
     let pools : AllByRecursion IsInPools ws =
-    all-map (Inside d 0x1000 0x1100) IsInPools
+    all-map (Inside d KERNEL_STACK KERNEL_TOP) IsInPools
     (λ w i. elim i [
       | inl a ↦ inr (omega (arith, a.0, m.well.lo_low), omega (arith, a.1, m.well.hi_high))
       | inr a ↦
@@ -216,10 +220,10 @@ by-module s d m few place memory leads stays =
       spelled = record { instr = place.instr; words = place.words; fetched = place.fetched; context = refl; memory = refl };
     }
 
-pub module-steps : Given → (s : System) (d : Domain) → IsInModule s d → reg s.context 0 < 0xF000
+pub module-steps : Given → (s : System) (d : Domain) → IsInModule s d → reg s.context 0 < FIRST_ENTRY
     → word_of s.kernel Budget < most_instructions → IsSafe s (instruction s (fetched (seen s) (reg s.context 0)))
 module-steps laws s d m l few =
-    let place : StepsAt d (seen s) s.context = laws.fetches d 0x1000 0x1100 (seen s) s.context m.stands m.good l in
+    let place : StepsAt d (seen s) s.context = laws.fetches d KERNEL_STACK KERNEL_TOP (seen s) s.context m.stands m.good l in
     let effect : Effect = does (seen s) s.context place.instr place.words in
     let is : fetched (seen s) (reg s.context 0) ≡ Some (place.instr, place.words) =
     (laws.fetched (seen s) (reg s.context 0) place.instr place.words m.see.memory).1 place.fetched in
@@ -232,5 +236,5 @@ module-steps laws s d m l few =
     (by-module s d m few place
     (memory-after effect.written s.memory m.sound.code.memory
     (laws.written (seen s) s.context place.instr place.words m.see.memory m.good.steady.context))
-    (laws.instruction d 0x1000 0x1100 (seen s) s.context place.instr place.words m.stands m.limits m.good l place.fetched)
-    (laws.stack d 0x1000 0x1100 (seen s) s.context place.instr place.words m.stands m.limits m.good l place.fetched)))
+    (laws.instruction d KERNEL_STACK KERNEL_TOP (seen s) s.context place.instr place.words m.stands m.limits m.good l place.fetched)
+    (laws.stack d KERNEL_STACK KERNEL_TOP (seen s) s.context place.instr place.words m.stands m.limits m.good l place.fetched)))

@@ -1,6 +1,7 @@
 -- The law of a step, from the laws of its parts.
 use Rattle.std.specs.Prelude.{◌≡◌, ℕ, ◌<◌, true, Option}
 use Rattle.machine_model.specs.Context.{reg}
+use Rattle.kernel_model.specs.declared.entries.TheConstants.{FIRST_ENTRY}
 use Rattle.kernel_model.specs.Words.{running}
 use Rattle.kernel_model.specs.Running.{ThreadRuns}
 use Rattle.node_model.specs.Systems.{System, seen}
@@ -23,5 +24,5 @@ TurnLaws = (e : Call) → is_for_app e ≡ true → TurnLaw e
 -- the instruction that a thread stands at
 abbrev pub ThreadStepLaw : Type 0
 ThreadStepLaw = (s : System) → IsSeen s → IsSound s → ThreadRuns s.kernel
-    → IsGoodFor s.kernel.apps s.placed (running s.kernel) s.context → reg s.context 0 < 0xF000
+    → IsGoodFor s.kernel.apps s.placed (running s.kernel) s.context → reg s.context 0 < FIRST_ENTRY
     → IsSafe s (instruction s (fetched (seen s) (reg s.context 0)))

@@ -2,6 +2,7 @@
 use Rattle.std.proofs.Common.{◌≡◌, ℕ, Bool, cond, List, Option, None, Some, sym, subst}
 use Rattle.msp_encode.specs.declared.instr.Instr.{Instr}
 use Rattle.machine_model.specs.Context.{reg}
+use Rattle.kernel_model.specs.declared.map.TheConstants.{IDLE}
 use Rattle.kernel_model.specs.Kernel.{Kernel}
 use Rattle.node_model.specs.Entries.{turn_at, work, nothing_happens}
 use Rattle.node_model.specs.Steps.{Case, Accepts, IsIdle, Enters, Serves, OverBudget, Runs, case_of, case_by_line, by_case, by_turn, instruction}
@@ -17,12 +18,12 @@ AtIdle (Serves n) = ⊥
 AtIdle OverBudget = ⊥
 AtIdle Runs = ⊥
 
-by-line : (k : Kernel) (pc : ℕ) (o : Option ℕ) → pc ≡ 0xF07E → AtIdle (case_by_line k pc o)
+by-line : (k : Kernel) (pc : ℕ) (o : Option ℕ) → pc ≡ IDLE → AtIdle (case_by_line k pc o)
 unfolding AtIdle
 by-line k pc (Some n) e = tt
 by-line k pc None e = subst (λ (p : ℕ). AtIdle (case_by_line k p None)) (sym e) tt
 
-at-idle : (k : Kernel) (c : List ℕ) → reg c 0 ≡ 0xF07E → AtIdle (case_of k c)
+at-idle : (k : Kernel) (c : List ℕ) → reg c 0 ≡ IDLE → AtIdle (case_of k c)
 unfolding case_of
 at-idle k c e = by-line k (reg c 0) _ e
 

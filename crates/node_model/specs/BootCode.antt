@@ -3,6 +3,7 @@
 use Rattle.std.specs.Prelude.{◌≡◌, ◌≢◌, ℕ, ◌+◌, ◌*◌, ◌<◌, ◌≤◌, ◌⊎◌, ◌↔◌, List, length, drop, replicate, slice_index, slice_get, slice_set, Some, Ok, Err}
 use Rattle.flat_mem.specs.Bytes.{word_at}
 use Rattle.machine_model.specs.Memory.{IsMemory}
+use Rattle.kernel_model.specs.declared.map.TheConstants.{FIRST_ROUTINE, TABLES, TABLES_END, VECTORS, VECTORS_END}
 use Rattle.kernel_model.specs.Kernel.{Kernel, app_at}
 use Rattle.kernel_model.specs.Layout.{kernel_of, empty, IsLaidOut}
 use Rattle.kernel_model.specs.Queues.{Leaves}
@@ -29,9 +30,10 @@ pub record IsCleared (before after : List ℕ) : Type 0 where
   pub memory : IsMemory after
   pub kernel : kernel_of after ≡ empty
   pub laid_out : IsLaidOut after
-  pub vectors : (n : ℕ) → n < 14 → word_at after (0xFFE0 + 2 * n) ≡ 0xF080 + 2 * n
+  pub vectors : (n : ℕ) → n < 14 → word_at after (VECTORS + 2 * n) ≡ FIRST_ROUTINE + 2 * n
   -- outside of the tables and of the vectors
-  pub others : (a : ℕ) → (a < 0x0200) ⊎ (((0x1000 ≤ a) × (a < 0xFFE0)) ⊎ (0xFFFC ≤ a)) → slice_index after a ≡ slice_index before a
+  pub others : (a : ℕ) → (a < TABLES) ⊎ (((TABLES_END ≤ a) × (a < VECTORS)) ⊎ (VECTORS_END ≤ a))
+      → slice_index after a ≡ slice_index before a
 
 -- it is that of the system with nothing in it
 abbrev pub FirstSeenLaw : Type 0

@@ -2,6 +2,7 @@
 use Rattle.std.specs.Prelude.{ℕ, ◌+◌, ◌*◌, List, [], ◌∷◌, map, replicate, slice_set, Option, None, Some, Result, Ok, Err}
 use Rattle.std.specs.List.{fold, range_with_len}
 use Rattle.flat_mem.specs.Bytes.{patch}
+use Rattle.kernel_model.specs.declared.map.TheConstants.{FIRST_ROUTINE, VECTORS}
 use Rattle.kernel_model.specs.Bytes.{bytes_of}
 use Rattle.kernel_model.specs.Kernel.{Kernel}
 use Rattle.kernel_model.specs.Layout.{empty}
@@ -14,10 +15,10 @@ use Rattle.load_model.specs.Loading.{Loadable, domain_of, loaded_kernel, places_
 use Rattle.node_model.specs.Systems.{System, domain_in}
 
 abbrev pub vectors : List ℕ
-vectors = bytes_of (map (λ n. 0xF080 + 2 * n) (range_with_len 0 14))
+vectors = bytes_of (map (λ n. FIRST_ROUTINE + 2 * n) (range_with_len 0 14))
 
 unfoldable pub first_memory : List ℕ
-first_memory = patch (replicate 65536 0) 0xFFE0 vectors
+first_memory = patch (replicate 65536 0) VECTORS vectors
 
 unfoldable pub empty_system : System
 empty_system = record {

@@ -1,6 +1,8 @@
 -- What a record may be, by the system before its step.
-use Rattle.std.specs.Prelude.{◌≡◌, ◌≢◌, ℕ, ◌+◌, ◌*◌, ◌<◌, ◌≤◌, ◌⊎◌, false, if◌then◌else◌, List, length, Some}
+use Rattle.std.specs.Prelude.{◌≡◌, ◌≢◌, ℕ, ◌+◌, ◌-◌, ◌*◌, ◌<◌, ◌≤◌, ◌⊎◌, false, if◌then◌else◌, List, length, Some}
 use Rattle.std.specs.List.{AllByRecursion}
+use Rattle.kernel_model.specs.declared.map.TheConstants.{FIRST_ROUTINE, IDLE, KERNEL_STACK, KERNEL_TOP}
+use Rattle.kernel_model.specs.declared.entries.TheConstants.{CALLS, EMITS, EXITS, GOES, SPAWN, STACK_FAULT, STORE_FAULT}
 use Rattle.kernel_model.specs.declared.kinds.Kind.{Kind}
 use Rattle.kernel_model.specs.declared.kinds.Kind.TheVariants.{App, Module}
 use Rattle.code_model.specs.Rules.{IsJumpEntry, IsCallEntry}
@@ -31,7 +33,7 @@ Within from to w = (from ≤ w.0) × (w.0 < to)
 -- what a domain writes: its region, and a module also the kernel's stack
 abbrev pub MayWrite : Kind → Domain → ℕ × ℕ → Type 0
 MayWrite App d w = Within d.lo d.hi w
-MayWrite Module d w = Within d.lo d.hi w ⊎ Within 0x1000 0x1100 w
+MayWrite Module d w = Within d.lo d.hi w ⊎ Within KERNEL_STACK KERNEL_TOP w
 
 -- the domain that runs, and whose step it is
 pub record IsRunningDomain (s : System) (w : Who) (d : Domain) : Type 0 where
@@ -40,10 +42,10 @@ pub record IsRunningDomain (s : System) (w : Who) (d : Domain) : Type 0 where
 
 -- the stack of who runs: the running thread's own, or the kernel's while a module runs
 abbrev pub stack_low_in : Kernel → ℕ
-stack_low_in k = if module_runs k then 0x1000 else low_in k.apps (running k)
+stack_low_in k = if module_runs k then KERNEL_STACK else low_in k.apps (running k)
 
 abbrev pub stack_top_in : Kernel → ℕ
-stack_top_in k = if module_runs k then 0x1100 else top_in k.apps (running k)
+stack_top_in k = if module_runs k then KERNEL_TOP else top_in k.apps (running k)
 
 -- an instruction of the running domain, at a start of its code, as its words
 -- were placed. It writes where the domain may, and what it
@@ -73,13 +75,13 @@ IsNoMark s at = is_mark s.placed (running_domain s.kernel) at ≡ false
 
 -- a jump or a call of the address in R4, which is no mark
 pub record IsJumpFault (s : System) (w : Who) (value : ℕ) : Type 0 where
-  pub entry : IsAtEntry s w 0xF004 ⊎ IsAtEntry s w 0xF006
+  pub entry : IsAtEntry s w GOES ⊎ IsAtEntry s w CALLS
   pub value_is : value ≡ reg s.context 4
   pub no_mark : IsNoMark s value
 
 -- a call of an entry that pops its return address, which is no mark
 pub record IsReturnFault (s : System) (w : Who) (value : ℕ) : Type 0 where
-  pub entry : (e : ℕ) × (0xF00A ≤ e) × IsAtEntry s w e
+  pub entry : (e : ℕ) × (SPAWN ≤ e) × IsAtEntry s w e
   pub value_is : value ≡ word_at (seen s) (reg s.context 1)
   pub no_mark : IsNoMark s value
 
@@ -91,8 +93,8 @@ pub record IsBudgetFault (s : System) (w : Who) (value : ℕ) : Type 0 where
   pub spent : most_instructions ≤ word_of s.kernel BudgetWord
 
 abbrev pub IsConfinedFault : System → Who → FaultKind → (value : ℕ) → Type 0
-IsConfinedFault s w Store v = IsAtEntry s w 0xF000 × (v ≡ reg s.context 4)
-IsConfinedFault s w Stack v = IsAtEntry s w 0xF002 × (v ≡ reg s.context 1)
+IsConfinedFault s w Store v = IsAtEntry s w STORE_FAULT × (v ≡ reg s.context 4)
+IsConfinedFault s w Stack v = IsAtEntry s w STACK_FAULT × (v ≡ reg s.context 1)
 IsConfinedFault s w Jump v = IsJumpFault s w v
 IsConfinedFault s w Return v = IsReturnFault s w v
 IsConfinedFault s w Budget v = IsBudgetFault s w v
@@ -102,7 +104,7 @@ abbrev pub IsInOwnStack : System → List (ℕ × ℕ) → Type 0
 IsInOwnStack s ws =
     (ThreadRuns s.kernel
     × AllByRecursion (Within (low_in s.kernel.apps (running s.kernel)) (top_in s.kernel.apps (running s.kernel))) ws)
-    ⊎ (NoneRuns s.kernel × AllByRecursion (Within 0x10FC 0x1100) ws)
+    ⊎ (NoneRuns s.kernel × AllByRecursion (Within (KERNEL_TOP - 4) KERNEL_TOP) ws)
 
 -- the four bytes of an acceptance
 pub record IsConfinedAccept (s : System) (w : Who) (line pc : ℕ) (writes : List (ℕ × ℕ)) : Type 0 where
@@ -114,7 +116,7 @@ pub record IsConfinedAccept (s : System) (w : Who) (line pc : ℕ) (writes : Lis
 
 -- the machine idles: PC is at the idle entry, and nothing runs
 pub record IsIdling (s : System) : Type 0 where
-  pub at : reg s.context 0 ≡ 0xF07E
+  pub at : reg s.context 0 ≡ IDLE
   pub none : NoneRuns s.kernel
 
 -- the context of the running thread was pushed, or that of the machine that idled
@@ -126,7 +128,7 @@ IsPushed s =
 -- an interrupt of this line was just accepted: its routine is next, and what it interrupted was pushed
 pub record IsJustAccepted (s : System) (line : ℕ) : Type 0 where
   pub number : line < 14
-  pub at : reg s.context 0 ≡ 0xF080 + 2 * line
+  pub at : reg s.context 0 ≡ FIRST_ROUTINE + 2 * line
   pub cleared : reg s.context 2 ≡ 0
   pub pushed : IsPushed s
 
@@ -136,8 +138,8 @@ pub record IsJustAccepted (s : System) (line : ℕ) : Type 0 where
 abbrev pub IsConfined : System → Record → Type 0
 IsConfined s (Instr n w pc word ws) = IsOwnInstr s w pc word ws
 IsConfined s (Entry n w e) = IsAtEntry s w e
-IsConfined s (Emit n w v) = IsAtEntry s w 0xF024 × (v ≡ reg s.context 12)
-IsConfined s (Exit n w l) = IsAtEntry s w 0xF008
+IsConfined s (Emit n w v) = IsAtEntry s w EMITS × (v ≡ reg s.context 12)
+IsConfined s (Exit n w l) = IsAtEntry s w EXITS
 IsConfined s (Fault n w f v) = IsConfinedFault s w f v
 IsConfined s (Accept n w l pc ws) = IsConfinedAccept s w l pc ws
 IsConfined s (Vector n l) = IsJustAccepted s l

@@ -3,6 +3,7 @@ use Rattle.std.specs.Prelude.{ℕ, ◌+◌, ◌*◌, ◌/◌, ◌%◌, Bool, tru
 use Rattle.machine_model.specs.Memory.{word_at}
 use Rattle.machine_model.specs.Context.{reg, set_reg}
 use Rattle.machine_model.specs.Does.{raised}
+use Rattle.kernel_model.specs.declared.entries.TheConstants.{BROADCAST, CALLS, EMITS, EXITS, GOES, IDENTITY, LEAVE, LINE, LOCK, MODULE_CALL, PRIORITY, SIGNAL, SLEEP, SPAWN, STACK_FAULT, STORE_FAULT, TICKS, UNLOCK, WAIT, YIELD}
 use Rattle.kernel_model.specs.Kernel.{Kernel}
 use Rattle.kernel_model.specs.Words.{none, running, running_module, app_of, number_of, tick_number}
 use Rattle.kernel_model.specs.declared.code.Code.{Code}
@@ -125,26 +126,26 @@ calls =
     ∷ Broadcast ∷ Line ∷ ModuleCall ∷ Emits ∷ Leave ∷ []
 
 abbrev pub entry_address : Call → ℕ
-entry_address StoreFault = 0xF000
-entry_address StackFault = 0xF002
-entry_address Goes = 0xF004
-entry_address Calls = 0xF006
-entry_address Exits = 0xF008
-entry_address Spawn = 0xF00A
-entry_address Yield = 0xF00C
-entry_address Sleep = 0xF00E
-entry_address Priority = 0xF010
-entry_address Self = 0xF012
-entry_address Ticks = 0xF014
-entry_address Lock = 0xF016
-entry_address Unlock = 0xF018
-entry_address Wait = 0xF01A
-entry_address Signal = 0xF01C
-entry_address Broadcast = 0xF01E
-entry_address Line = 0xF020
-entry_address ModuleCall = 0xF022
-entry_address Emits = 0xF024
-entry_address Leave = 0xF026
+entry_address StoreFault = STORE_FAULT
+entry_address StackFault = STACK_FAULT
+entry_address Goes = GOES
+entry_address Calls = CALLS
+entry_address Exits = EXITS
+entry_address Spawn = SPAWN
+entry_address Yield = YIELD
+entry_address Sleep = SLEEP
+entry_address Priority = PRIORITY
+entry_address Self = IDENTITY
+entry_address Ticks = TICKS
+entry_address Lock = LOCK
+entry_address Unlock = UNLOCK
+entry_address Wait = WAIT
+entry_address Signal = SIGNAL
+entry_address Broadcast = BROADCAST
+entry_address Line = LINE
+entry_address ModuleCall = MODULE_CALL
+entry_address Emits = EMITS
+entry_address Leave = LEAVE
 
 -- who may reach it
 abbrev pub is_for_module : Call → Bool
@@ -201,8 +202,8 @@ with_ticks w = set_reg (set_reg w.context 13 (tick_number w.kernel % 65536)) 14 
 
 abbrev pub gives_ticks : Work → Turn
 gives_ticks w =
-    if module_runs w.kernel then goes_straight w.kernel (set_reg (with_ticks w) 12 0) (called w 0xF014)
-    else goes_on w w.kernel (with_ticks w) 0 (called w 0xF014)
+    if module_runs w.kernel then goes_straight w.kernel (set_reg (with_ticks w) 12 0) (called w TICKS)
+    else goes_on w w.kernel (with_ticks w) 0 (called w TICKS)
 
 -- what each does
 abbrev pub row : Call → Work → Turn
@@ -223,7 +224,7 @@ row Broadcast w = unless Broadcast w (signal_code (r12 w)) (after Broadcast w (b
 row Line w = unless Line w (line_code w.context) (after_leaving Line w (waiting_line (saved_zero w) w.context))
 row ModuleCall w =
     unless ModuleCall w (enter_code w.kernel (r12 w))
-    (goes_straight (entered w.kernel w.context) (entered_context w.kernel w.context) (called w 0xF022))
+    (goes_straight (entered w.kernel w.context) (entered_context w.kernel w.context) (called w MODULE_CALL))
 row Emits w = goes_on w w.kernel w.context 0 (Emit w.step (who_calls w) (r12 w))
 row _ w = nothing_happens w
 

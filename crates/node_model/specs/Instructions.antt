@@ -14,6 +14,7 @@ use Rattle.machine_laws.specs.Places.{GuardPlace}
 use Rattle.load_model.specs.Domains.{Domain}
 use Rattle.node_model.specs.Placed.{bits, StandsIn, address}
 use Rattle.node_model.specs.Good.{IsGood, IsAtPlace, guard_of, bounds}
+use Rattle.kernel_model.specs.declared.entries.TheConstants.{FIRST_ENTRY}
 
 -- in the region or in the stack
 abbrev pub Inside : Domain → (low top : ℕ) → ℕ × ℕ → Type 0
@@ -37,7 +38,7 @@ UnitLaw = (d : Domain) (low top : ℕ) (m c : List ℕ) (at : ℕ) (i : Instr) (
 -- a step of accepted code, from a safe context that isn't at an entry
 abbrev pub InstructionLaw : Type 0
 InstructionLaw = (d : Domain) (low top : ℕ) (m c : List ℕ) (i : Instr) (n : ℕ) → StandsIn d m → Limits m low top
-    → IsGood d low top c → reg c 0 < 0xF000 → IsFetched m (reg c 0) i n → Leads d low top (does m c i n)
+    → IsGood d low top c → reg c 0 < FIRST_ENTRY → IsFetched m (reg c 0) i n → Leads d low top (does m c i n)
 
 -- what an instruction pushes lies in the stack, and what it pops lay there
 pub record StaysInStack (low top : ℕ) (c : List ℕ) (i : Instr) (e : Effect) : Type 0 where
@@ -46,11 +47,11 @@ pub record StaysInStack (low top : ℕ) (c : List ℕ) (i : Instr) (e : Effect) 
 
 abbrev pub StackLaw : Type 0
 StackLaw = (d : Domain) (low top : ℕ) (m c : List ℕ) (i : Instr) (n : ℕ) → StandsIn d m → Limits m low top
-    → IsGood d low top c → reg c 0 < 0xF000 → IsFetched m (reg c 0) i n → StaysInStack low top c i (does m c i n)
+    → IsGood d low top c → reg c 0 < FIRST_ENTRY → IsFetched m (reg c 0) i n → StaysInStack low top c i (does m c i n)
 
 -- a safe context at or above F000 stands at an entry, and where a call may name it a word is on the stack
 abbrev pub AtEntryLaw : Type 0
-AtEntryLaw = (d : Domain) (low top : ℕ) (m c : List ℕ) → StandsIn d m → IsGood d low top c → 0xF000 ≤ reg c 0
+AtEntryLaw = (d : Domain) (low top : ℕ) (m c : List ℕ) → StandsIn d m → IsGood d low top c → FIRST_ENTRY ≤ reg c 0
     → IsJumpEntry d.object.kind (reg c 0) ⊎ (IsCallEntry d.object.kind (reg c 0) × (reg c 1 + 2 ≤ top))
 
 -- where the stack is a part of the region, all writes lie in the region
@@ -71,4 +72,4 @@ pub record StepsAt (d : Domain) (m c : List ℕ) : Type 0 where
 
 -- a safe context that isn't at an entry stands at a start
 abbrev pub FetchLaw : Type 0
-FetchLaw = (d : Domain) (low top : ℕ) (m c : List ℕ) → StandsIn d m → IsGood d low top c → reg c 0 < 0xF000 → StepsAt d m c
+FetchLaw = (d : Domain) (low top : ℕ) (m c : List ℕ) → StandsIn d m → IsGood d low top c → reg c 0 < FIRST_ENTRY → StepsAt d m c

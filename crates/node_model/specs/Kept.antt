@@ -1,6 +1,7 @@
 -- What a step leaves of the other applications.
 use Rattle.std.specs.Prelude.{◌≡◌, ℕ, ◌+◌, ◌<◌, ◌⊎◌, Bool, false, ◌==◌, not, List, Option, Some}
 use Rattle.std.specs.List.{filter}
+use Rattle.kernel_model.specs.declared.states.TheConstants.{ENDED, FAULTED}
 use Rattle.kernel_model.specs.Kernel.{Kernel, thread_at, app_at, module_at, mutex_at, condition_at, line_at}
 use Rattle.kernel_model.specs.Words.{ready, free, running_state, running, app_of, identity, tick_number, omit}
 use Rattle.machine_laws.specs.Writes.{SamePart}
@@ -77,7 +78,7 @@ of_call i t = record { apps = λ b. false; threads = λ u. u == t; modules = λ 
 
 -- the application's row says faulted, and none of its threads is live
 pub record IsFaulted (k : Kernel) (a : ℕ) : Type 0 where
-  pub row : (app_at k a).state ≡ 3
+  pub row : (app_at k a).state ≡ FAULTED
   pub threads : (n : ℕ) → n < 4 → (thread_at k (identity a n)).state ≡ free
 
 pub record AppFaulted (a : ℕ) (before after : System) : Type 0 where
@@ -86,7 +87,7 @@ pub record AppFaulted (a : ℕ) (before after : System) : Type 0 where
 
 pub record ModuleFaulted (i : ℕ) (before after : System) : Type 0 where
   pub others : AreKept (of_call i (running before.kernel)) before after
-  pub ended : (module_at after.kernel i).state ≡ 2
+  pub ended : (module_at after.kernel i).state ≡ ENDED
 
 abbrev pub FaultKeeps : Who → (before after : System) → Type 0
 FaultKeeps (who.Thread a t) s n = AppFaulted a s n

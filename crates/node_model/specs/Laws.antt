@@ -6,6 +6,7 @@ use Rattle.machine_model.specs.Memory.{IsMemory, put_all, word_at}
 use Rattle.machine_model.specs.Context.{reg}
 use Rattle.machine_model.specs.Fetching.{IsFetched}
 use Rattle.msp_encode.specs.declared.instr.Instr.{Instr}
+use Rattle.kernel_model.specs.declared.map.TheConstants.{BITMAP_END, DATA_POOL, DATA_POOL_END, KERNEL_STACK, KERNEL_TOP, STACK_LIMIT, STACK_TOP}
 use Rattle.kernel_model.specs.Kernel.{Kernel, word_of, thread_at, app_at}
 use Rattle.kernel_model.specs.declared.rows.SysWord.TheVariants.{Budget}
 use Rattle.code_model.specs.Verdicts.{IsAccepted}
@@ -32,9 +33,9 @@ use Rattle.node_model.specs.Nodes.{most_steps}
 -- what is seen of a sound system: a memory, with the words for the current limit and the current top, and what lies above the marks
 pub record IsSeen (s : System) : Type 0 where
   pub memory : IsMemory (seen s)
-  pub limit : word_at (seen s) 0x0200 ≡ s.kernel.cur_lim
-  pub top : word_at (seen s) 0x0202 ≡ s.kernel.cur_top
-  pub above : (a : ℕ) → 0x1900 ≤ a → slice_index (seen s) a ≡ slice_index s.memory a
+  pub limit : word_at (seen s) STACK_LIMIT ≡ s.kernel.cur_lim
+  pub top : word_at (seen s) STACK_TOP ≡ s.kernel.cur_top
+  pub above : (a : ℕ) → BITMAP_END ≤ a → slice_index (seen s) a ≡ slice_index s.memory a
 
 abbrev pub SeenLaw : Type 0
 SeenLaw = (s : System) → IsSound s → IsSeen s
@@ -74,7 +75,7 @@ StepLaw = (s : System) (pick : Option ℕ) → IsSound s → s.steps < most_step
 -- while a module runs
 abbrev pub ModuleStepLaw : Type 0
 ModuleStepLaw = (s : System) (pick : Option ℕ) → IsSeen s → IsSound s → s.steps < most_steps → running_module s.kernel < 4
-    → IsGoodIn s.placed (8 + running_module s.kernel) 0x1000 0x1100 s.context → IsSafe s (step_of s pick)
+    → IsGoodIn s.placed (8 + running_module s.kernel) KERNEL_STACK KERNEL_TOP s.context → IsSafe s (step_of s pick)
 
 abbrev pub RaisedLaw : Type 0
 RaisedLaw = (s : System) (raised : ℕ) → IsSound s → IsSound (with_raised s raised)
@@ -83,7 +84,7 @@ RaisedLaw = (s : System) (raised : ℕ) → IsSound s → IsSound (with_raised s
 
 -- above the tables and the marks, below the code
 abbrev pub IsInPools : ℕ × ℕ → Type 0
-IsInPools w = Within 0x1000 0x1100 w ⊎ Within 0x2000 0x6000 w
+IsInPools w = Within KERNEL_STACK KERNEL_TOP w ⊎ Within DATA_POOL DATA_POOL_END w
 
 abbrev pub WritesLaw : Type 0
 WritesLaw = (s : System) (ws : List (ℕ × ℕ)) → IsCodeInPlace s.memory s.placed → IsSoundKernel s.kernel s.placed s.steps

@@ -1,6 +1,7 @@
 -- A placed object, and its code in memory.
 use Rattle.std.specs.Prelude.{◌≡◌, ℕ, ◌+◌, ◌*◌, ◌%◌, ◌<◌, ◌≤◌, List, length, slice_index}
 use Rattle.load_model.specs.Domains.{Domain, addend}
+use Rattle.kernel_model.specs.declared.map.TheConstants.{CODE_POOL, CODE_POOL_END, DATA_POOL, DATA_POOL_END}
 use Rattle.kernel_model.specs.declared.kinds.Kind.{Kind}
 use Rattle.kernel_model.specs.declared.kinds.Kind.TheVariants.{App, Module}
 use Rattle.code_model.specs.declared.parts.RelKind.{RelKind}
@@ -20,12 +21,12 @@ bits d = control_bits d.object.kind
 -- even places within the pools
 pub record IsWellPlaced (d : Domain) : Type 0 where
   pub code_even : d.code_lo % 2 ≡ 0
-  pub code_low : 0x6000 ≤ d.code_lo
-  pub code_high : d.code_lo + 2 * length d.object.code ≤ 0xE000
+  pub code_low : CODE_POOL ≤ d.code_lo
+  pub code_high : d.code_lo + 2 * length d.object.code ≤ CODE_POOL_END
   pub lo_even : d.lo % 2 ≡ 0
   pub hi_even : d.hi % 2 ≡ 0
-  pub lo_low : 0x2000 ≤ d.lo
-  pub hi_high : d.hi ≤ 0x6000
+  pub lo_low : DATA_POOL ≤ d.lo
+  pub hi_high : d.hi ≤ DATA_POOL_END
   pub statics : d.lo + static_size d.object ≤ d.hi
 
 -- the address of a code word

@@ -2,6 +2,7 @@
 use Rattle.std.specs.Prelude.{ℕ, zero, suc, ◌+◌, Bool, ◌==◌, nat_lt, nat_le, if◌then◌else◌, ◌&&◌, ◌||◌, not, List, [], ◌∷◌, length}
 use Rattle.std.specs.List.{filter, list_any}
 use Rattle.machine_model.specs.Context.{reg}
+use Rattle.kernel_model.specs.declared.map.TheConstants.{FIRST_ROUTINE, LAST_ROUTINE}
 use Rattle.kernel_model.specs.declared.rows.AppRow.{AppRow}
 use Rattle.kernel_model.specs.Words.{none, live, running}
 use Rattle.trace_model.specs.declared.records.Record.{Record}
@@ -18,7 +19,7 @@ abbrev pub is_live_app : AppRow → Bool
 is_live_app row = row.state == live
 
 abbrev pub is_serving : (pc : ℕ) → Bool
-is_serving pc = nat_le 0xF080 pc && nat_le pc 0xF09A
+is_serving pc = nat_le FIRST_ROUTINE pc && nat_le pc LAST_ROUTINE
 
 -- no thread runs or is ready, no line is pending or being served, and the
 -- script does nothing more that a live application could see

@@ -1,5 +1,7 @@
 -- What always holds of a system.
 use Rattle.std.specs.Prelude.{◌≡◌, ◌≢◌, ℕ, ◌+◌, ◌*◌, ◌%◌, ◌^◌, ◌<◌, ◌≤◌, true, List, length, slice_index_or, Option, Some}
+use Rattle.kernel_model.specs.declared.states.TheConstants.{ENDED, FAULTED}
+use Rattle.kernel_model.specs.declared.map.TheConstants.{FIRST_ROUTINE, KERNEL_STACK, KERNEL_TOP, VECTORS}
 use Rattle.kernel_model.specs.declared.kinds.Kind.{Kind}
 use Rattle.kernel_model.specs.declared.kinds.Kind.TheVariants.{App, Module}
 use Rattle.code_model.specs.Statics.{static_size}
@@ -28,7 +30,7 @@ use Rattle.node_model.specs.Steps.{pending, most_instructions}
 pub record IsAppRowOf (d : Domain) (row : AppRow) : Type 0 where
   pub used : row.state ≢ free
   -- live, done, or faulted
-  pub known : row.state ≤ 3
+  pub known : row.state ≤ FAULTED
   pub code_lo : row.code_lo ≡ d.code_lo
   pub code_hi : row.code_hi ≡ d.code_lo + code_length d.object
   pub lo : row.lo ≡ d.lo
@@ -40,7 +42,7 @@ pub record IsAppRowOf (d : Domain) (row : AppRow) : Type 0 where
 pub record IsModuleRowOf (d : Domain) (row : ModuleRow) : Type 0 where
   pub used : row.state ≢ free
   -- live, or ended
-  pub known : row.state ≤ 2
+  pub known : row.state ≤ ENDED
   pub code_lo : row.code_lo ≡ d.code_lo
   pub code_hi : row.code_hi ≡ d.code_lo + code_length d.object
   pub lo : row.lo ≡ d.lo
@@ -76,7 +78,7 @@ pub record AreDomains (apps : List AppRow) (modules : List ModuleRow) (ds : List
 pub record IsCodeInPlace (m : List ℕ) (ds : List (Option Domain)) : Type 0 where
   pub memory : IsMemory m
   pub code : (n : ℕ) (d : Domain) → domain_in ds n ≡ Some d → HasBytes m d.code_lo (code_image d)
-  pub vectors : (n : ℕ) → n < 14 → word_at m (0xFFE0 + 2 * n) ≡ 0xF080 + 2 * n
+  pub vectors : (n : ℕ) → n < 14 → word_at m (VECTORS + 2 * n) ≡ FIRST_ROUTINE + 2 * n
 
 -- ---- 3: who runs
 
@@ -102,7 +104,7 @@ pub record IsServing (c : List ℕ) : Type 0 where
   pub context : IsContext c
   pub line : ℕ
   pub number : line < 14
-  pub at : reg c 0 ≡ 0xF080 + 2 * line
+  pub at : reg c 0 ≡ FIRST_ROUTINE + 2 * line
   pub cleared : reg c 2 ≡ 0
 
 pub record IsInterrupted (m c : List ℕ) (apps : List AppRow) (ds : List (Option Domain)) (t : ℕ) : Type 0 where
@@ -122,7 +124,7 @@ pub data IsRunning (m c : List ℕ) (k : Kernel) (ds : List (Option Domain)) : T
   Nothing : NoneRuns k → c ≡ idle_context → IsRunning m c k ds
   Interrupted : ThreadRuns k → IsServing c → IsInterrupted m c k.apps ds (running k) → IsRunning m c k ds
   IdleInterrupted : NoneRuns k → IsServing c → IsIdleInterrupted m c → IsRunning m c k ds
-  AModule : running_module k < 4 → IsGoodIn ds (8 + running_module k) 0x1000 0x1100 c → IsRunning m c k ds
+  AModule : running_module k < 4 → IsGoodIn ds (8 + running_module k) KERNEL_STACK KERNEL_TOP c → IsRunning m c k ds
 
 -- ---- 4: saved contexts
 

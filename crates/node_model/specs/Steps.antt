@@ -8,6 +8,7 @@ use Rattle.machine_model.specs.Memory.{word_at, put_all}
 use Rattle.machine_model.specs.Context.{reg}
 use Rattle.machine_model.specs.Operands.{sum_of}
 use Rattle.machine_model.specs.Does.{does, Effect}
+use Rattle.kernel_model.specs.declared.map.TheConstants.{FIRST_ROUTINE, IDLE}
 use Rattle.kernel_model.specs.Kernel.{Kernel, word_of, with_word}
 use Rattle.kernel_model.specs.declared.rows.SysWord.TheVariants.{Pending, Budget}
 use Rattle.trace_model.specs.declared.records.FaultKind.TheVariants as fault
@@ -64,7 +65,7 @@ abbrev pub entry_at : ℕ → Option Call
 entry_at pc = find (λ c. entry_address c == pc) calls
 
 abbrev pub routine_at : ℕ → Option ℕ
-routine_at pc = find (λ n. 0xF080 + 2 * n == pc) lines_down
+routine_at pc = find (λ n. FIRST_ROUTINE + 2 * n == pc) lines_down
 
 abbrev pub is_over_budget : Kernel → Bool
 is_over_budget k = module_runs k && nat_le most_instructions (word_of k Budget)
@@ -79,7 +80,7 @@ case_at k None None = case_in_code k
 
 abbrev pub case_by_line : Kernel → (pc : ℕ) → Option ℕ → Case
 case_by_line k pc (Some n) = Accepts n
-case_by_line k pc None = if pc == 0xF07E then IsIdle else case_at k (entry_at pc) (routine_at pc)
+case_by_line k pc None = if pc == IDLE then IsIdle else case_at k (entry_at pc) (routine_at pc)
 
 -- the first that applies: an interrupt is accepted, the machine idles, an entry
 -- or a routine is at PC, the module's budget is spent,

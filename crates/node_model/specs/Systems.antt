@@ -3,6 +3,7 @@ use Rattle.std.specs.Prelude.{ℕ, ◌+◌, ◌-◌, ◌*◌, ◌/◌, ◌%◌, 
 use Rattle.std.specs.List.{list_any, range_with_len}
 use Rattle.std.specs.Int.{bit_at}
 use Rattle.flat_mem.specs.Bytes.{patch}
+use Rattle.kernel_model.specs.declared.map.TheConstants.{BITMAP, CODE_POOL, TABLES}
 use Rattle.kernel_model.specs.declared.kinds.Kind.{Kind}
 use Rattle.kernel_model.specs.declared.kinds.Kind.TheVariants.{App, Module}
 use Rattle.kernel_model.specs.Kernel.{Kernel}
@@ -51,7 +52,7 @@ abbrev pub mark_byte : List (Option Domain) → (at : ℕ) → ℕ
 mark_byte ds at = sum (map (λ j. if list_any (λ d. is_mark_in d (at + 2 * j)) ds then 2 ^ j else 0) (range_with_len 0 8))
 
 unfoldable pub mark_bytes : List (Option Domain) → List ℕ
-mark_bytes ds = map (λ b. mark_byte ds (0x6000 + 16 * b)) (range_with_len 0 2048)
+mark_bytes ds = map (λ b. mark_byte ds (CODE_POOL + 16 * b)) (range_with_len 0 2048)
 
 -- ---- what is seen
 
@@ -61,7 +62,7 @@ bytes_in n bs = take n (map (λ b. b % 256) bs ++ replicate n 0)
 
 -- memory, with the kernel's tables and the marks in their places
 unfoldable pub seen_in : (memory : List ℕ) → Kernel → List (Option Domain) → List ℕ
-seen_in m k ds = patch (patch m 0x0200 (bytes_in 3584 (layout k))) 0x1100 (mark_bytes ds)
+seen_in m k ds = patch (patch m TABLES (bytes_in 3584 (layout k))) BITMAP (mark_bytes ds)
 
 abbrev pub seen : System → List ℕ
 seen s = seen_in s.memory s.kernel s.placed

@@ -6,6 +6,7 @@ use Rattle.kernel_model.specs.declared.kinds.Kind.TheVariants.{App, Module}
 use Rattle.object_form.specs.Reading.{byte_at, word_at, kind_of}
 use Rattle.object_form.specs.Faults.{first_fault, magic_field, version_field, kind_field, code_count_field, init_count_field, zeroed_field, stack_field, threads_field, export_count_field, entry_field, reloc_count_field, head_fields, stack_checks, thread_checks, export_count_checks, entry_checks}
 use Rattle.object_form.proofs.Tables.{EachHolds, fields-given, fields-hold}
+use Rattle.code_model.specs.declared.object.TheConstants.{CODE_WORDS_MAX, RELOCS_MAX, STATIC_BYTES_MAX}
 
 -- what an application's and a module's numbers are
 pub record AppNumbers (code stack threads exports entry : ℕ) : Type 0 where
@@ -40,11 +41,11 @@ pub record HeadNumbers (t : List ℕ) : Type 0 where
   pub kind_least : 1 ≤ byte_at t 5
   pub kind_most : byte_at t 5 ≤ 2
   pub code_least : 1 ≤ word_at t 6
-  pub code_most : word_at t 6 ≤ 8192
-  pub init_most : word_at t 8 ≤ 16384
-  pub static_most : word_at t 8 + word_at t 10 ≤ 16384
+  pub code_most : word_at t 6 ≤ CODE_WORDS_MAX
+  pub init_most : word_at t 8 ≤ STATIC_BYTES_MAX
+  pub static_most : word_at t 8 + word_at t 10 ≤ STATIC_BYTES_MAX
   pub by_kind : KindNumbers (kind_of (byte_at t 5)) (word_at t 6) (word_at t 12) (byte_at t 14) (byte_at t 15) (word_at t 16)
-  pub relocs_most : word_at t 18 ≤ 16384
+  pub relocs_most : word_at t 18 ≤ RELOCS_MAX
 
 kind-given : (k : Kind) (code stack threads exports entry : ℕ) → EachHolds (stack_checks k stack) → EachHolds (thread_checks k threads) → EachHolds (export_count_checks k exports) → EachHolds (entry_checks k (2 * code) entry) → KindNumbers k code stack threads exports entry
 kind-given App code stack threads exports entry p q r s = record {
@@ -106,11 +107,11 @@ head-given t e =
       kind_least = leb-true 1 (byte_at t 5) h2.0.1.0;
       kind_most = leb-true (byte_at t 5) 2 h2.0.1.1.0;
       code_least = leb-true 1 (word_at t 6) h3.0.1.0;
-      code_most = leb-true (word_at t 6) 8192 h3.0.1.1.0;
-      init_most = leb-true (word_at t 8) 16384 h4.0.1.0;
-      static_most = leb-true (word_at t 8 + word_at t 10) 16384 h5.0.1.0;
+      code_most = leb-true (word_at t 6) CODE_WORDS_MAX h3.0.1.1.0;
+      init_most = leb-true (word_at t 8) STATIC_BYTES_MAX h4.0.1.0;
+      static_most = leb-true (word_at t 8 + word_at t 10) STATIC_BYTES_MAX h5.0.1.0;
       by_kind = kind-given (kind_of (byte_at t 5)) (word_at t 6) (word_at t 12) (byte_at t 14) (byte_at t 15) (word_at t 16) h6.0.1 h7.0.1 h8.0.1 h9.0.1;
-      relocs_most = leb-true (word_at t 18) 16384 h10.0.1.0;
+      relocs_most = leb-true (word_at t 18) RELOCS_MAX h10.0.1.0;
     }
 
 pub head-holds : (t : List ℕ) → HeadNumbers t → first_fault t (head_fields t) ≡ None
@@ -130,11 +131,11 @@ head-holds t h =
         (
           (there 6 (lit≤ tt), (le-leb 1 (byte_at t 5) h.kind_least, (le-leb (byte_at t 5) 2 h.kind_most, tt))),
           (
-            (there 8 (lit≤ tt), (le-leb 1 code h.code_least, (le-leb code 8192 h.code_most, tt))),
+            (there 8 (lit≤ tt), (le-leb 1 code h.code_least, (le-leb code CODE_WORDS_MAX h.code_most, tt))),
             (
-              (there 10 (lit≤ tt), (le-leb (word_at t 8) 16384 h.init_most, tt)),
+              (there 10 (lit≤ tt), (le-leb (word_at t 8) STATIC_BYTES_MAX h.init_most, tt)),
               (
-                (there 12 (lit≤ tt), (le-leb (word_at t 8 + word_at t 10) 16384 h.static_most, tt)),
+                (there 12 (lit≤ tt), (le-leb (word_at t 8 + word_at t 10) STATIC_BYTES_MAX h.static_most, tt)),
                 (
                   (there 14 (lit≤ tt), stack-holds k code stack threads exports entry h.by_kind),
                   (
@@ -143,7 +144,7 @@ head-holds t h =
                       (there 16 (lit≤ tt), exports-hold k code stack threads exports entry h.by_kind),
                       (
                         (there 18 (lit≤ tt), entry-holds k code stack threads exports entry h.by_kind),
-                        ((there 20 (lit≤ tt), (le-leb (word_at t 18) 16384 h.relocs_most, tt)), tt),
+                        ((there 20 (lit≤ tt), (le-leb (word_at t 18) RELOCS_MAX h.relocs_most, tt)), tt),
                       ),
                     ),
                   ),

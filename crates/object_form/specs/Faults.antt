@@ -7,6 +7,7 @@ use Rattle.object_form.specs.declared.fault.FormKind.TheVariants as kinds
 use Rattle.object_form.specs.declared.fault.FormFault.{FormFault}
 use Rattle.object_form.specs.declared.fault.FormFault.TheVariants.{At, Memory}
 use Rattle.object_form.specs.Reading.{byte_at, word_at, kind_of, listed, init_start, relocs_start, exports_start, text_end}
+use Rattle.code_model.specs.declared.object.TheConstants.{CODE_WORDS_MAX, RELOCS_MAX, STATIC_BYTES_MAX}
 
 -- what is wrong, and where
 pub record Reason : Type 0 where
@@ -64,13 +65,14 @@ unfoldable pub kind_field : List ℕ → Field
 kind_field t = field 5 1 (check (nat_le 1 (byte_at t 5)) kinds.Kind 5 ∷ check (nat_le (byte_at t 5) 2) kinds.Kind 5 ∷ [])
 
 unfoldable pub code_count_field : List ℕ → Field
-code_count_field t = field 6 2 (check (nat_le 1 (word_at t 6)) kinds.Limit 6 ∷ check (nat_le (word_at t 6) 8192) kinds.Limit 6 ∷ [])
+code_count_field t =
+    field 6 2 (check (nat_le 1 (word_at t 6)) kinds.Limit 6 ∷ check (nat_le (word_at t 6) CODE_WORDS_MAX) kinds.Limit 6 ∷ [])
 
 unfoldable pub init_count_field : List ℕ → Field
-init_count_field t = field 8 2 (check (nat_le (word_at t 8) 16384) kinds.Limit 8 ∷ [])
+init_count_field t = field 8 2 (check (nat_le (word_at t 8) STATIC_BYTES_MAX) kinds.Limit 8 ∷ [])
 
 unfoldable pub zeroed_field : List ℕ → Field
-zeroed_field t = field 10 2 (check (nat_le (word_at t 8 + word_at t 10) 16384) kinds.Limit 10 ∷ [])
+zeroed_field t = field 10 2 (check (nat_le (word_at t 8 + word_at t 10) STATIC_BYTES_MAX) kinds.Limit 10 ∷ [])
 
 -- an application's stack is even, 16 to 1024; a module has none
 abbrev pub stack_checks : Kind → ℕ → List Check
@@ -103,7 +105,7 @@ unfoldable pub entry_field : List ℕ → Field
 entry_field t = field 16 2 (entry_checks (kind_of (byte_at t 5)) (2 * word_at t 6) (word_at t 16))
 
 unfoldable pub reloc_count_field : List ℕ → Field
-reloc_count_field t = field 18 2 (check (nat_le (word_at t 18) 16384) kinds.Limit 18 ∷ [])
+reloc_count_field t = field 18 2 (check (nat_le (word_at t 18) RELOCS_MAX) kinds.Limit 18 ∷ [])
 
 abbrev pub head_fields : List ℕ → List Field
 head_fields t = magic_field t ∷ version_field t ∷ kind_field t ∷ code_count_field t ∷ init_count_field t ∷ zeroed_field t ∷ stack_field t ∷ threads_field t ∷ export_count_field t ∷ entry_field t ∷ reloc_count_field t ∷ []

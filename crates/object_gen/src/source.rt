@@ -3,14 +3,13 @@
 ghost use Rattle.std.specs.Prelude.{◌≡◌, ◌<◌, ◌≤◌, [], ◌∷◌, ◌++◌, length, IfOk, OnOk};
 ghost use Rattle.gen_model.specs.Blocks.{words, of_word, relocs_at};
 ghost use Rattle.object_gen.specs.Given.{Fits};
+ghost use Rattle.code_model.specs.declared.object.TheConstants.{CODE_WORDS_MAX};
 
 use code_model::lists::{CodeWords, Relocs};
 use code_model::parts::{RelKind, Reloc};
 use gen_model::block::Block;
+use kernel_model::entries::EMITS;
 use std::alloc::{AllocError, Global};
-
-/// The kernel's entry `emit`, which an application calls with a number in R12.
-const EMIT: u16 = 0xF024;
 
 /// Code words and their relocations.
 #[derive(Drop)]
@@ -45,7 +44,7 @@ impl Source {
 
     /// Appends a word that is relocated.
     fn relocated(&mut self, kind: RelKind, word: u16) -> Result<(), AllocError>
-        requires { length self.old.code < 8192 }
+        requires { length self.old.code < CODE_WORDS_MAX }
         ensures code { OnOk result (self.new.code ≡ self.old.code ++ word ∷ []) }
         ensures relocs { OnOk result (self.new.relocs ≡ self.old.relocs ++ of_word (length self.old.code) kind ∷ []) }
     {
@@ -94,7 +93,7 @@ impl Source {
             Block::Emit { from } => {
                 self.word(0x400C + 256 * from as u16)?;
                 self.word(0x12B0)?;
-                self.word(EMIT)
+                self.word(EMITS)
             }
             Block::Restart => {
                 self.word(0x4030)?;

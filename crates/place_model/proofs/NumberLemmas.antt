@@ -3,6 +3,7 @@ use Rattle.std.proofs.Common.{◌≡◌, ◌≢◌, ℕ, zero, suc, ◌+◌, ◌
 use Rattle.std.proofs.lemmas.Bool.{cases_lt, cases_eq, cases_Bool, not-true, lt-ltb, le-ltb, cond-true, cond-false}
 use Rattle.std.proofs.lemmas.List.{length-map, get_or_append_left, get_or-append_right, get_or-map, get_or_past, get_or-set_same, get_or-set_other}
 use Rattle.std.specs.List.{find, filter, range_with_len}
+use Rattle.kernel_model.specs.declared.states.TheConstants.{LIVE}
 use Rattle.kernel_model.specs.Kernel.{Kernel, app_at, with_app, module_at, with_module, free_app, free_module}
 use Rattle.kernel_model.specs.declared.rows.AppRow.{AppRow}
 use Rattle.kernel_model.specs.declared.rows.ModuleRow.{ModuleRow}
@@ -146,7 +147,8 @@ owner p rows s h =
 -- ---- the row with the places
 
 abbrev pub new_domain : Regions → DomainRow
-new_domain r = record { state = 1; code = record { from = r.code_lo; to = r.code_hi }; region = record { from = r.lo; to = r.hi } }
+new_domain r =
+    record { state = LIVE; code = record { from = r.code_lo; to = r.code_hi }; region = record { from = r.lo; to = r.hi } }
 
 pub at_new_app : (k : Kernel) (r : Regions) → r.dom < 8 → length k.apps ≡ 8 → domain_at (with_app k r.dom (placed_app r)) r.dom ≡ new_domain r
 at_new_app k r h size =

@@ -2,6 +2,7 @@
 use Rattle.std.proofs.Common.{◌≡◌, ◌≢◌, ℕ, ◌+◌, ◌*◌, ◌<◌, true, false, cond, eqb, not, List, [], ◌∷◌, refl, ap, sym, ◌∙◌, subst, ⊎_elim, arith, Contains, length-set}
 use Rattle.std.proofs.lemmas.Bool.{cases_eq, cases_Bool, and_parts, not-true, cond-true, cond-false}
 use Rattle.std.proofs.lemmas.List.{get_or-set_same, get_or-set_other}
+use Rattle.kernel_model.specs.declared.map.TheConstants.{KERNEL_LIMIT, KERNEL_TOP}
 use Rattle.kernel_model.specs.Kernel.{Kernel, thread_at, app_at, with_app, module_at, with_module, function_at, free_app, free_module}
 use Rattle.kernel_model.specs.Words.{none, live, free, running, running_module, app_of, number_of, thread_runs}
 use Rattle.kernel_model.specs.Orderly.{Spot, spot, spot_of, only, listed, IsOrderly, IsLiveThread}
@@ -65,8 +66,8 @@ module _ (k : Kernel) (o : IsOrderly k) (a : ℕ) (row : AppRow) (was : (app_at 
       condition_lists = o.shape.condition_lists;
       line_lists = o.shape.line_lists;
     };
-    limit = o.limit ∙ sym (bounds_kept (λ r. r.lo + r.z + number_of (running k) * r.stack + 6) 0x1006);
-    top = o.top ∙ sym (bounds_kept (λ r. r.lo + r.z + number_of (running k) * r.stack + r.stack) 0x1100);
+    limit = o.limit ∙ sym (bounds_kept (λ r. r.lo + r.z + number_of (running k) * r.stack + 6) KERNEL_LIMIT);
+    top = o.top ∙ sym (bounds_kept (λ r. r.lo + r.z + number_of (running k) * r.stack + r.stack) KERNEL_TOP);
     rows = o.rows;
     threads = λ t h alive.
         (let l : IsLiveThread (app_at k (app_of t)) t = o.threads t h alive in

@@ -1,6 +1,7 @@
 -- What placing answers.
 use Rattle.std.proofs.Common.{◌≡◌, ℕ, ◌+◌, ◌-◌, ◌%◌, ◌<◌, ◌≤◌, false, List, refl, ap, sym, subst, ⊎_elim, inl, inr, Option, Some, None, Result, Ok, Err, arith}
 use Rattle.std.proofs.lemmas.Bool.{cases_lt, both_ways}
+use Rattle.kernel_model.specs.declared.map.TheConstants.{CODE_POOL, CODE_POOL_END, DATA_POOL, DATA_POOL_END}
 use Rattle.kernel_model.specs.declared.kinds.Kind.{Kind}
 use Rattle.kernel_model.specs.Kernel.{Kernel}
 use Rattle.place_model.specs.declared.places.Range.{Range}
@@ -104,8 +105,8 @@ pub placing_inside : (k : Kernel) (kind : Kind) (c l : ℕ) (r : Regions) → pl
 placing_inside k kind c l r h =
     let p : IsPlacing k kind c l r = placing_is k kind c l r h in
     let n : IsLeastFree (domain_rows k) (first_number kind) (number_count kind) r.dom = chosen k kind r.dom p.number in
-    let code : (0x6000 ≤ r.code_lo) × (r.code_lo + c ≤ 0xE000) = place_inside (pool_range Code) (code_ranges k) c r.code_lo (omega arith) p.code in
-    let region : (0x2000 ≤ r.lo) × (r.lo + l ≤ 0x6000) = place_inside (pool_range Data) (region_ranges k) l r.lo (omega arith) p.region in
+    let code : (CODE_POOL ≤ r.code_lo) × (r.code_lo + c ≤ CODE_POOL_END) = place_inside (pool_range Code) (code_ranges k) c r.code_lo (omega arith) p.code in
+    let region : (DATA_POOL ≤ r.lo) × (r.lo + l ≤ DATA_POOL_END) = place_inside (pool_range Data) (region_ranges k) l r.lo (omega arith) p.region in
     record {
       number_from = n.from;
       number_to = n.to;

@@ -1,6 +1,8 @@
 -- Placing an object: the least free number of its kind, and the lowest gaps for its code and its region.
 use Rattle.std.specs.Prelude.{◌≡◌, ℕ, ◌+◌, ◌-◌, ◌<◌, ◌≤◌, Bool, ◌==◌, nat_lt, if◌then◌else◌, not, IsTrue, IsFalse, List, ◌++◌, slice_index_or, map, Option, None, Some, Result, Ok, Err}
 use Rattle.std.specs.List.{find, filter, range_with_len}
+use Rattle.kernel_model.specs.declared.states.TheConstants.{FREE}
+use Rattle.kernel_model.specs.declared.map.TheConstants.{CODE_POOL, CODE_POOL_END, DATA_POOL, DATA_POOL_END}
 use Rattle.kernel_model.specs.declared.kinds.Kind.{Kind}
 use Rattle.kernel_model.specs.declared.kinds.Kind.TheVariants.{App, Module}
 use Rattle.kernel_model.specs.Kernel.{Kernel, app_at, with_app, module_at, with_module}
@@ -37,7 +39,7 @@ abbrev pub domain_rows : Kernel → List DomainRow
 domain_rows k = map app_domain k.apps ++ map module_domain k.modules
 
 abbrev pub free_domain : DomainRow
-free_domain = record { state = 0; code = record { from = 0; to = 0 }; region = record { from = 0; to = 0 } }
+free_domain = record { state = FREE; code = record { from = 0; to = 0 }; region = record { from = 0; to = 0 } }
 
 abbrev pub row_of : List DomainRow → (number : ℕ) → DomainRow
 row_of rows n = slice_index_or rows n free_domain
@@ -52,8 +54,8 @@ domain_at k n = if nat_lt n 8 then app_domain (app_at k n) else module_domain (m
 -- ---- pools and ranges
 
 abbrev pub pool_range : Pool → Range
-pool_range Code = record { from = 0x6000; to = 0xE000 }
-pool_range Data = record { from = 0x2000; to = 0x6000 }
+pool_range Code = record { from = CODE_POOL; to = CODE_POOL_END }
+pool_range Data = record { from = DATA_POOL; to = DATA_POOL_END }
 
 abbrev pub range_in : Pool → DomainRow → Range
 range_in Code r = r.code
@@ -141,12 +143,12 @@ pub record IsPlacing (k : Kernel) (kind : Kind) (code_length region_length : ℕ
 pub record IsInPools (kind : Kind) (r : Regions) : Type 0 where
   pub number_from : first_number kind ≤ r.dom
   pub number_to : r.dom < first_number kind + number_count kind
-  pub code_from : 0x6000 ≤ r.code_lo
+  pub code_from : CODE_POOL ≤ r.code_lo
   pub code_up : r.code_lo ≤ r.code_hi
-  pub code_to : r.code_hi ≤ 0xE000
-  pub region_from : 0x2000 ≤ r.lo
+  pub code_to : r.code_hi ≤ CODE_POOL_END
+  pub region_from : DATA_POOL ≤ r.lo
   pub region_up : r.lo ≤ r.hi
-  pub region_to : r.hi ≤ 0x6000
+  pub region_to : r.hi ≤ DATA_POOL_END
 
 -- ---- what a refusal is
 

@@ -19,6 +19,7 @@ use Rattle.placed_unit_laws.specs.Given.{RowLaws}
 use Rattle.placed_unit_laws.proofs.Here.{IsHere}
 use Rattle.placed_unit_laws.proofs.Targets.{jump-entry, call-entry}
 use Rattle.placed_unit_laws.proofs.Results.{address-even, address-low, code-word}
+use Rattle.kernel_model.specs.declared.entries.TheConstants.{FIRST_ENTRY}
 
 -- an address outside of the unit where a line leads
 pub record IsGoal (o : Object) (d : Domain) (l : Line) (v : ℕ) : Type 0 where
@@ -44,7 +45,7 @@ module _ (g : RowLaws) (o : Object) (d : Domain) (low top : ℕ) (m r : List ℕ
   pub entry-goal : (x : ℕ) → Names l.at l.instr x → IsSourceJump o.kind x ⊎ IsSourceCall o.kind x → IsGoal o d l x
   entry-goal x names e = record { small = limits.2; even = limits.1; lands = inr (inr (names, e)); outside = λ i. omega (arith, i.1, limits.0, st.below) }
     where
-      limits : (0xF000 ≤ x) × (x % 2 ≡ 0) × (x < 65536)
+      limits : (FIRST_ENTRY ≤ x) × (x % 2 ≡ 0) × (x < 65536)
       limits = elim e [ inl j ↦ jump-entry o.kind x j | inr c ↦ call-entry o.kind x c ]
 
   -- what an immediate names, as it stands

@@ -42,6 +42,8 @@ use Rattle.placed_unit_laws.proofs.Pieces.{Stands, cut, head, end, growth-stands
 use Rattle.placed_unit_laws.proofs.Clean.{IsOneLine, src-placed, src-avoids, steps-placed, steps-pops, one-fits, one-source, one-pops-not}
 use Rattle.placed_unit_laws.proofs.Results.{Result, of-store, of-growth, at-first, leads-behind, goes-behind, checked}
 use Rattle.placed_unit_laws.proofs.WritingRows.{word-small}
+use Rattle.kernel_model.specs.declared.map.TheConstants.{STACK_LIMIT}
+use Rattle.kernel_model.specs.declared.entries.TheConstants.{CALLS}
 
 pub changes-goes-on : (op : Op1) (w : Width) (s : Src) → changes op ≡ true → SrcFree s → GoesOn (instr.One op w s)
 changes-goes-on Rrc w s e f = f
@@ -146,14 +148,14 @@ module _ (g : RowLaws) (o : Object) (d : Domain) (low top : ℕ) (m r : List ℕ
       let f = own-head (first + 14) [] c.1 in
       let z = end o d m (first + 14 + 2 * size) past f.1 in
       let law = g.growth m r first past here size (at-first g o d low top m r l a st) c.0 f.0 (omega (arith, z)) (omega arith) (src-avoids s_here free-source) out in
-      checked g o d low top m r l a st OfGrowth r None (word_at m 0x0200 ≤ reg r 1) (reg r 1 < word_at m 0x0200) (Follows m r first past (ended past m r here size)) law (of-growth (word_at m 0x0200) (reg r 1))
+      checked g o d low top m r l a st OfGrowth r None (word_at m STACK_LIMIT ≤ reg r 1) (reg r 1 < word_at m STACK_LIMIT) (Follows m r first past (ended past m r here size)) law (of-growth (word_at m STACK_LIMIT) (reg r 1))
       (λ q. omega (arith, q, a.at.limit)) (λ q. omega (arith, q, a.at.limit)) (λ q. ends (ended past m r here size) q refl)
 
   -- a computed call
-  pub callee-row : op ≡ Call → Stands o d m first past (calling_value s (own l).source) → Result o d low top m r l OfGrowth (after_source Wide s_here r) (Some (0xF006, s))
+  pub callee-row : op ≡ Call → Stands o d m first past (calling_value s (own l).source) → Result o d low top m r l OfGrowth (after_source Wide s_here r) (Some (CALLS, s))
   unfolding piece_words
   callee-row e h =
-      let last = guard_piece.plain (instr.One Call Wide (src.Immediate 0xF006)) in
+      let last = guard_piece.plain (instr.One Call Wide (src.Immediate CALLS)) in
       let into = into_r4 Mov Wide s (own l).source in
       let f1 = head g.spelling o d m first past into (guard_piece.growth_guard ++ last ∷ []) h ((one-fits o l op w s is).0, omega arith) below in
       let n : length (piece_words into) ≡ size = sym (count-place o d into) ∙ ap (λ (k : ℕ). 1 + k) (into-words ∙ src-count o d (own l).source s) in
@@ -166,8 +168,8 @@ module _ (g : RowLaws) (o : Object) (d : Domain) (low top : ℕ) (m r : List ℕ
       (λ q. one-pops-not o l op w s is stacks (steps-pops s 1 (steps-placed o d (own l).source s 1 q))) in
       let wide : w ≡ Wide = call-wide w (subst (λ (p : Op1). InstrFits (instr.One p w s)) e (one-fits o l op w s is)).1 in
       let same : source_does o d m r l ≡ ended past m r (instr.One Call Wide s_here) size = source-is ∙ (λ j. ended past m r (instr.One (e j) (wide j) s_here) size) in
-      checked g o d low top m r l a st OfGrowth (after_source Wide s_here r) (Some (0xF006, s)) (word_at m 0x0200 ≤ reg r 1) (reg r 1 < word_at m 0x0200) (Hands m r first past (ended past m r (instr.One Call Wide s_here) size) 0xF006 (source_value Wide s_here 0 m r)) law
-      (of-growth (word_at m 0x0200) (reg r 1)) (λ q. omega (arith, q, a.at.limit)) (λ q. omega (arith, q, a.at.limit)) (subst (λ (y : Effect). Hands m r first past y 0xF006 (source_value Wide s_here 0 m r)) (sym same))
+      checked g o d low top m r l a st OfGrowth (after_source Wide s_here r) (Some (CALLS, s)) (word_at m STACK_LIMIT ≤ reg r 1) (reg r 1 < word_at m STACK_LIMIT) (Hands m r first past (ended past m r (instr.One Call Wide s_here) size) CALLS (source_value Wide s_here 0 m r)) law
+      (of-growth (word_at m STACK_LIMIT) (reg r 1)) (λ q. omega (arith, q, a.at.limit)) (λ q. omega (arith, q, a.at.limit)) (subst (λ (y : Effect). Hands m r first past y CALLS (source_value Wide s_here 0 m r)) (sym same))
     where
       into-words : length (src_words s_here ++ []) ≡ length (src_words s_here)
       into-words = omega (arith, length-append (src_words s_here) [])

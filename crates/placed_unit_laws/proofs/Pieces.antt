@@ -23,6 +23,7 @@ use Rattle.insert_laws.specs.Source.{SpellingLaw}
 use Rattle.unit_laws.specs.Guards.{WordsAt, store_words, growth_words, pop_words, sp_words}
 use Rattle.placed_unit_laws.specs.Placed.{word_in_place, placed_word, placed}
 use Rattle.placed_unit_laws.proofs.Fetching.{words-append, words-behind, piece-fetched}
+use Rattle.kernel_model.specs.declared.entries.TheConstants.{STORE_FAULT}
 
 -- ---- one after another
 
@@ -97,11 +98,11 @@ sp-size = refl
 
 -- a store guard whose base is 0 or a register
 abbrev based : Src → ℕ → Option RelKind → List Piece
-based s x k = save ∷ mov s (dst.Reg 4) ∷ on_r4 Add x k ∷ on_r4 Cmp 0 (Some Lo) ∷ jump cond.Nc (pos 3) ∷ on_r4 Cmp 0 (Some Hi) ∷ jump cond.Nc (pos 2) ∷ branch 0xF000 None ∷ restore ∷ []
+based s x k = save ∷ mov s (dst.Reg 4) ∷ on_r4 Add x k ∷ on_r4 Cmp 0 (Some Lo) ∷ jump cond.Nc (pos 3) ∷ on_r4 Cmp 0 (Some Hi) ∷ jump cond.Nc (pos 2) ∷ branch STORE_FAULT None ∷ restore ∷ []
 
 -- its words, with the second one given
 abbrev loaded : (w x lo hi : ℕ) → List ℕ
-loaded w x lo hi = 0x4205 ∷ w ∷ 0x5034 ∷ x ∷ 0x9034 ∷ lo ∷ 0x2803 ∷ 0x9034 ∷ hi ∷ 0x2802 ∷ 0x4030 ∷ 0xF000 ∷ 0x4502 ∷ []
+loaded w x lo hi = 0x4205 ∷ w ∷ 0x5034 ∷ x ∷ 0x9034 ∷ lo ∷ 0x2803 ∷ 0x9034 ∷ hi ∷ 0x2802 ∷ 0x4030 ∷ STORE_FAULT ∷ 0x4502 ∷ []
 
 zero-based : (o : Object) (d : Domain) (x : ℕ) (k : Option RelKind)
     → map (placed_word o d) (unit_words (based (src.Const Zero) x k)) ≡ loaded 0x4304 (word_in_place o d x k) (word_in_place o d 0 (Some Lo)) (word_in_place o d 0 (Some Hi))

@@ -38,6 +38,8 @@ use Rattle.placed_unit_laws.proofs.Pieces.{Stands, cut, head, end, pop-stands, p
 use Rattle.placed_unit_laws.proofs.Clean.{IsTwoLine, dst-placed, src-avoids, dst-avoids, two-fits, two-target, reads-no-pc, moves-to-pc}
 use Rattle.placed_unit_laws.proofs.Results.{Result, of-pop, at-first, leads-behind, goes-behind, checked}
 use Rattle.placed_unit_laws.proofs.TwoRows.{here, size, source-is, free-source, below, own-head, few}
+use Rattle.kernel_model.specs.declared.map.TheConstants.{STACK_TOP}
+use Rattle.kernel_model.specs.declared.entries.TheConstants.{GOES}
 
 -- ---- tests
 
@@ -137,7 +139,7 @@ module _ (g : RowLaws) (o : Object) (d : Domain) (low top : ℕ) (m r : List ℕ
       let there = leads-behind g o d low top m r l a st source n_here goes small in
       let law = g.pop m r first past source n_here (at-first g o d low top m r l a st) c.0 f.0 (omega (arith, e)) (omega arith) (src-avoids (src.AutoInc 1) goes.0, dst-avoids dst_here goes.1)
       (λ i. omega (arith, i.1, there)) in
-      checked g o d low top m r l a st OfPop r None (reg r 1 ≢ word_at m 0x0202) (reg r 1 ≡ word_at m 0x0202) (Follows m r first past (ended past m r source n_here)) law (of-pop (reg r 1) (word_at m 0x0202))
+      checked g o d low top m r l a st OfPop r None (reg r 1 ≢ word_at m STACK_TOP) (reg r 1 ≡ word_at m STACK_TOP) (Follows m r first past (ended past m r source n_here)) law (of-pop (reg r 1) (word_at m STACK_TOP))
       (λ x. x ∙ a.at.last) (λ x. x ∙ sym a.at.last) (goes-behind g o d low top m r l a st source n_here does goes small)
 
   -- `MOV @SP+,R4` behind the guard
@@ -162,7 +164,7 @@ module _ (g : RowLaws) (o : Object) (d : Domain) (low top : ℕ) (m r : List ℕ
       let goes : GoesOn source = (free-source g o d low top m r l a st op w (src.AutoInc 1) t is, dst-placed o d (own l).destination t free) in
       let small = few g o d low top m r l a st op w (src.AutoInc 1) t is in
       let law = g.pop_into m r first past op w dst_here n_here (at-first g o d low top m r l a st) c.0 b.0 fetched (omega (arith, e, from-size)) (omega arith) (dst-placed o d (own l).destination t free) in
-      checked g o d low top m r l a st OfPop r None (reg r 1 ≢ word_at m 0x0202) (reg r 1 ≡ word_at m 0x0202) (Follows m r first past (ended past m r source n_here)) law (of-pop (reg r 1) (word_at m 0x0202))
+      checked g o d low top m r l a st OfPop r None (reg r 1 ≢ word_at m STACK_TOP) (reg r 1 ≡ word_at m STACK_TOP) (Follows m r first past (ended past m r source n_here)) law (of-pop (reg r 1) (word_at m STACK_TOP))
       (λ x. x ∙ a.at.last) (λ x. x ∙ sym a.at.last) (goes-behind g o d low top m r l a st source n_here does goes small)
 
   returns-is : IsWideMove op w → t ≡ dst.Reg 0 → source_does o d m r l ≡ ended past m r (instr.Two Mov Wide (src.AutoInc 1) (dst.Reg 0)) 1
@@ -170,26 +172,26 @@ module _ (g : RowLaws) (o : Object) (d : Domain) (low top : ℕ) (m r : List ℕ
       does ∙ (λ z. ended past m r (instr.Two (v.move z) (v.wide z) (src.AutoInc 1) (placed_dst o d (own l).destination (e z))) (count (instr.Two (v.move z) (v.wide z) (src.AutoInc 1) (e z))))
 
   -- a return
-  return-row : t ≡ dst.Reg 0 → Stands o d m first past (guard_piece.pop_guard ++ guard_piece.pop_r4 ∷ guard_piece.branch 0xF004 None ∷ []) → Result o d low top m r l OfPop r (Some (0xF004, src.AutoInc 1))
+  return-row : t ≡ dst.Reg 0 → Stands o d m first past (guard_piece.pop_guard ++ guard_piece.pop_r4 ∷ guard_piece.branch GOES None ∷ []) → Result o d low top m r l OfPop r (Some (GOES, src.AutoInc 1))
   unfolding piece_words
   return-row e h =
-      let c = guard-words (guard_piece.pop_r4 ∷ guard_piece.branch 0xF004 None ∷ []) h in
-      let b = pop-head (guard_piece.branch 0xF004 None ∷ []) c.1 in
-      let f = head g.spelling o d m (first + 16) past (guard_piece.branch 0xF004 None) [] b.1 (tt, omega arith) (below g o d low top m r l a st op w (src.AutoInc 1) t is) in
+      let c = guard-words (guard_piece.pop_r4 ∷ guard_piece.branch GOES None ∷ []) h in
+      let b = pop-head (guard_piece.branch GOES None ∷ []) c.1 in
+      let f = head g.spelling o d m (first + 16) past (guard_piece.branch GOES None) [] b.1 (tt, omega arith) (below g o d low top m r l a st op w (src.AutoInc 1) t is) in
       let z = end o d m (first + 20) past (subst (λ (k : ℕ). Stands o d m k past []) (omega arith) f.1) in
       let law = g.returns m r first past (at-first g o d low top m r l a st) c.0 b.0 f.0 z in
       let move = pc-moves o l op w (src.AutoInc 1) t is (subst (λ (y : Dst). DstIs y 0) (sym e) refl) in
-      checked g o d low top m r l a st OfPop r (Some (0xF004, src.AutoInc 1)) (reg r 1 ≢ word_at m 0x0202) (reg r 1 ≡ word_at m 0x0202)
-      (Hands m r first past (ended past m r (instr.Two Mov Wide (src.AutoInc 1) (dst.Reg 0)) 1) 0xF004 (source_value Wide (src.AutoInc 1) 0 m r)) law (of-pop (reg r 1) (word_at m 0x0202))
-      (λ x. x ∙ a.at.last) (λ x. x ∙ sym a.at.last) (subst (λ (y : Effect). Hands m r first past y 0xF004 (source_value Wide (src.AutoInc 1) 0 m r)) (sym (returns-is move e)))
+      checked g o d low top m r l a st OfPop r (Some (GOES, src.AutoInc 1)) (reg r 1 ≢ word_at m STACK_TOP) (reg r 1 ≡ word_at m STACK_TOP)
+      (Hands m r first past (ended past m r (instr.Two Mov Wide (src.AutoInc 1) (dst.Reg 0)) 1) GOES (source_value Wide (src.AutoInc 1) 0 m r)) law (of-pop (reg r 1) (word_at m STACK_TOP))
+      (λ x. x ∙ a.at.last) (λ x. x ∙ sym a.at.last) (subst (λ (y : Effect). Hands m r first past y GOES (source_value Wide (src.AutoInc 1) 0 m r)) (sym (returns-is move e)))
 
   -- the three of them
   pub popping-row : Stands o d m first past (popping op w t (own l)) → Result o d low top m r l OfPop r (handed (instr.Two op w (src.AutoInc 1) t))
   popping-row = by (is_pc t) (is_plain_pop op w t) refl
     where
       by : (b c : Bool) → is_pc t ≡ b
-          → Stands o d m first past (if b then guard_piece.pop_guard ++ guard_piece.pop_r4 ∷ guard_piece.branch 0xF004 None ∷ [] else (if c then guard_piece.pop_guard ++ own l ∷ [] else guard_piece.pop_guard ++ guard_piece.pop_r4 ∷ from_r4 op w t (own l).destination ∷ []))
-          → Result o d low top m r l OfPop r (if b && true then Some (0xF004, src.AutoInc 1) else None)
+          → Stands o d m first past (if b then guard_piece.pop_guard ++ guard_piece.pop_r4 ∷ guard_piece.branch GOES None ∷ [] else (if c then guard_piece.pop_guard ++ own l ∷ [] else guard_piece.pop_guard ++ guard_piece.pop_r4 ∷ from_r4 op w t (own l).destination ∷ []))
+          → Result o d low top m r l OfPop r (if b && true then Some (GOES, src.AutoInc 1) else None)
       by true c e h = return-row (pc-so t e) h
       by false true e h = plain-row (two-target o l op w (src.AutoInc 1) t is (pc-not t e)) h
       by false false e h = into-row (two-target o l op w (src.AutoInc 1) t is (pc-not t e)) h

@@ -17,6 +17,7 @@ use Rattle.placed_unit_laws.specs.Checks.{Check, Fails, entry_of, before_check}
 use Rattle.placed_unit_laws.specs.Ends.{EndsWell, EndsBy, UnitStands}
 use Rattle.placed_unit_laws.specs.Given.{RowLaws}
 use Rattle.placed_unit_laws.proofs.Here.{IsHere}
+use Rattle.kernel_model.specs.declared.map.TheConstants.{CODE_POOL, CODE_POOL_END}
 
 -- what the law says of a check, of the registers before it and of an entry that takes over
 abbrev pub Result : Object → Domain → (low top : ℕ) → (m r : List ℕ) → Line → Check → List ℕ → Option (ℕ × Src) → Type 0
@@ -61,7 +62,7 @@ module _ (g : RowLaws) (o : Object) (d : Domain) (low top : ℕ) (m r : List ℕ
   pub behind-even : unit_behind o d l % 2 ≡ 0
   behind-even = omega (arith, st.behind, st.even)
 
-  pub high : (x : ℕ) → 0x6000 ≤ unit_address o d x
+  pub high : (x : ℕ) → CODE_POOL ≤ unit_address o d x
   unfolding unit_address
   high x = omega (arith, a.at.placed.code_low)
 
@@ -69,7 +70,7 @@ module _ (g : RowLaws) (o : Object) (d : Domain) (low top : ℕ) (m r : List ℕ
   unfolding unit_address
   address-even x = omega (arith, a.at.placed.code_even, (g.places o d.object a.inserted x).even)
 
-  pub address-low : (x : ℕ) → unit_address o d x ≤ 0xE000
+  pub address-low : (x : ℕ) → unit_address o d x ≤ CODE_POOL_END
   unfolding unit_address
   address-low x = omega (arith, a.at.placed.code_high, (g.places o d.object a.inserted x).below)
 
@@ -82,7 +83,7 @@ module _ (g : RowLaws) (o : Object) (d : Domain) (low top : ℕ) (m r : List ℕ
   pub leads-behind : (i : Instr) (n : ℕ) → GoesOn i → n ≤ 3 → reg (ended (unit_behind o d l) m r i n).context 0 ≡ unit_behind o d l
   leads-behind i n goes few =
       let past = unit_behind o d l in
-      let h : 0x6000 ≤ past = high (2 * (l.at + count l.instr)) in
+      let h : CODE_POOL ≤ past = high (2 * (l.at + count l.instr)) in
       let moved = g.pc_moves r (past - 2 * n) a.at.context (omega (arith, st.below)) in
       g.goes_on m (set_reg r 0 (past - 2 * n)) i n moved.context goes ∙ omega (arith, moved.there, behind-even, st.below, h, few)
 

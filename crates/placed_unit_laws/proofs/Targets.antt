@@ -2,7 +2,9 @@
 use Rattle.std.proofs.Common.{◌≡◌, ◌≢◌, ℕ, ◌+◌, ◌-◌, ◌*◌, ◌/◌, ◌%◌, ◌<◌, ◌≤◌, ◌⊎◌, List, ℤ, pos, negsuc, ◌+ℤ◌, ◌≤ℤ◌, Option, None, Some, refl, subst, inl, inr, arith}
 use Rattle.std.proofs.lemmas.Bool.{cases_order, cases_lt}
 use Rattle.std.proofs.lemmas.Int.{ints}
+use Rattle.code_model.specs.declared.object.TheConstants.{CODE_WORDS_MAX}
 use Rattle.code_model.specs.declared.object.Object.{Object}
+use Rattle.kernel_model.specs.declared.entries.TheConstants.{CALLS, EMITS, FIRST_ENTRY, GOES, LEAVE, STACK_FAULT, STORE_FAULT, TICKS}
 use Rattle.kernel_model.specs.declared.kinds.Kind.{Kind}
 use Rattle.kernel_model.specs.declared.kinds.Kind.TheVariants.{App, Module}
 use Rattle.code_model.specs.declared.parts.RelKind.{RelKind}
@@ -46,23 +48,23 @@ other P (inr n) = inl n
 
 jump-decided : (k : Kind) (x : ℕ) → Decided (IsSourceJump k x)
 jump-decided App x =
-    both ((x ≡ 0xF000) ⊎ ((x ≡ 0xF002) ⊎ (x ≡ 0xF004))) (x ≢ 0xF004)
-    (either (x ≡ 0xF000) ((x ≡ 0xF002) ⊎ (x ≡ 0xF004)) (is-number x 0xF000) (either (x ≡ 0xF002) (x ≡ 0xF004) (is-number x 0xF002) (is-number x 0xF004))) (other (x ≡ 0xF004) (is-number x 0xF004))
+    both ((x ≡ STORE_FAULT) ⊎ ((x ≡ STACK_FAULT) ⊎ (x ≡ GOES))) (x ≢ GOES)
+    (either (x ≡ STORE_FAULT) ((x ≡ STACK_FAULT) ⊎ (x ≡ GOES)) (is-number x STORE_FAULT) (either (x ≡ STACK_FAULT) (x ≡ GOES) (is-number x STACK_FAULT) (is-number x GOES))) (other (x ≡ GOES) (is-number x GOES))
 jump-decided Module x =
-    both ((x ≡ 0xF000) ⊎ ((x ≡ 0xF002) ⊎ ((x ≡ 0xF004) ⊎ (x ≡ 0xF026)))) (x ≢ 0xF004)
-    (either (x ≡ 0xF000) ((x ≡ 0xF002) ⊎ ((x ≡ 0xF004) ⊎ (x ≡ 0xF026))) (is-number x 0xF000)
-    (either (x ≡ 0xF002) ((x ≡ 0xF004) ⊎ (x ≡ 0xF026)) (is-number x 0xF002) (either (x ≡ 0xF004) (x ≡ 0xF026) (is-number x 0xF004) (is-number x 0xF026)))) (other (x ≡ 0xF004) (is-number x 0xF004))
+    both ((x ≡ STORE_FAULT) ⊎ ((x ≡ STACK_FAULT) ⊎ ((x ≡ GOES) ⊎ (x ≡ LEAVE)))) (x ≢ GOES)
+    (either (x ≡ STORE_FAULT) ((x ≡ STACK_FAULT) ⊎ ((x ≡ GOES) ⊎ (x ≡ LEAVE))) (is-number x STORE_FAULT)
+    (either (x ≡ STACK_FAULT) ((x ≡ GOES) ⊎ (x ≡ LEAVE)) (is-number x STACK_FAULT) (either (x ≡ GOES) (x ≡ LEAVE) (is-number x GOES) (is-number x LEAVE)))) (other (x ≡ GOES) (is-number x GOES))
 
 call-decided : (k : Kind) (x : ℕ) → Decided (IsSourceCall k x)
-call-decided App x = by (is-below 0xF006 x) (is-below x 0xF024) (is-number (x % 2) 0) (is-number x 0xF006)
+call-decided App x = by (is-below CALLS x) (is-below x EMITS) (is-number (x % 2) 0) (is-number x CALLS)
   where
-    by : Decided (0xF006 ≤ x) → Decided (x ≤ 0xF024) → Decided (x % 2 ≡ 0) → Decided (x ≡ 0xF006) → Decided (IsSourceCall App x)
+    by : Decided (CALLS ≤ x) → Decided (x ≤ EMITS) → Decided (x % 2 ≡ 0) → Decided (x ≡ CALLS) → Decided (IsSourceCall App x)
     by (inl a) (inl b) (inl e) (inr n) = inl ((a, b, e), n)
     by a b e (inl s) = inr (λ h. h.1 s)
     by (inr a) b e n = inr (λ h. a h.0.0)
     by (inl a) (inr b) e n = inr (λ h. b h.0.1)
     by (inl a) (inl b) (inr e) n = inr (λ h. e h.0.2)
-call-decided Module x = both ((x ≡ 0xF006) ⊎ (x ≡ 0xF014)) (x ≢ 0xF006) (either (x ≡ 0xF006) (x ≡ 0xF014) (is-number x 0xF006) (is-number x 0xF014)) (other (x ≡ 0xF006) (is-number x 0xF006))
+call-decided Module x = both ((x ≡ CALLS) ⊎ (x ≡ TICKS)) (x ≢ CALLS) (either (x ≡ CALLS) (x ≡ TICKS) (is-number x CALLS) (is-number x TICKS)) (other (x ≡ CALLS) (is-number x CALLS))
 
 -- ---- starts
 
@@ -119,7 +121,7 @@ jump-offset at (pos n) t e = omega (arith, ints, e)
 jump-offset at (negsuc n) t e = omega (arith, ints, e)
 
 -- entries are even, and above all code
-pub jump-entry : (k : Kind) (x : ℕ) → IsSourceJump k x → (0xF000 ≤ x) × (x % 2 ≡ 0) × (x < 65536)
+pub jump-entry : (k : Kind) (x : ℕ) → IsSourceJump k x → (FIRST_ENTRY ≤ x) × (x % 2 ≡ 0) × (x < 65536)
 jump-entry App x h = elim h.0 [
   | inl e ↦ (omega (arith, e), omega (arith, e), omega (arith, e))
   | inr g ↦ elim g [ inl e ↦ (omega (arith, e), omega (arith, e), omega (arith, e)) | inr e ↦ (omega (arith, e), omega (arith, e), omega (arith, e)) ]
@@ -132,11 +134,11 @@ jump-entry Module x h = elim h.0 [
   ]
 ]
 
-pub call-entry : (k : Kind) (x : ℕ) → IsSourceCall k x → (0xF000 ≤ x) × (x % 2 ≡ 0) × (x < 65536)
+pub call-entry : (k : Kind) (x : ℕ) → IsSourceCall k x → (FIRST_ENTRY ≤ x) × (x % 2 ≡ 0) × (x < 65536)
 call-entry App x h = (omega (arith, h.0.0), h.0.2, omega (arith, h.0.1))
 call-entry Module x h = elim h.0 [ inl e ↦ (omega (arith, e), omega (arith, e), omega (arith, e)) | inr e ↦ (omega (arith, e), omega (arith, e), omega (arith, e)) ]
 
 -- so is the offset that the machine takes from the jump's own
-pub jump-goes : (at : ℕ) (k : ℤ) (t : ℕ) → t < 8192 → negsuc 511 ≤ℤ k → pos t ≡ pos (at + 1) +ℤ k → target (2 * at) k ≡ target_offset at k
+pub jump-goes : (at : ℕ) (k : ℤ) (t : ℕ) → t < CODE_WORDS_MAX → negsuc 511 ≤ℤ k → pos t ≡ pos (at + 1) +ℤ k → target (2 * at) k ≡ target_offset at k
 jump-goes at (pos n) t b few e = omega (arith, ints, b, e)
 jump-goes at (negsuc n) t b few e = omega (arith, ints, b, few, e)

@@ -36,6 +36,7 @@ use Rattle.placed_unit_laws.proofs.Landing.{IsGoal, start-word, entry-word, bran
 use Rattle.placed_unit_laws.proofs.TwoRows.{here, size, source-is, own-head, row-own}
 use Rattle.placed_unit_laws.proofs.PoppingRows.{IsWideMove, pc-not, pc-so, pc-moves, popping-row}
 use Rattle.placed_unit_laws.proofs.WritingRows.{writes-so, indexed, steps-base, steps-not-three, store-row, sp-row, computed-row}
+use Rattle.kernel_model.specs.declared.entries.TheConstants.{GOES}
 
 -- ---- a branch
 
@@ -99,7 +100,7 @@ same-writes And = refl
 
 module _ (g : RowLaws) (o : Object) (d : Domain) (low top : ℕ) (m r : List ℕ) (l : Line) (a : IsHere o d low top m r l) (st : UnitStands o d m l) (op : Op2) (w : Width) where
   -- PC
-  pc-row : (s : Src) (t : Dst) → IsTwoLine o l op w s t → t ≡ dst.Reg 0 → Stands o d m (unit_at o d l) (unit_behind o d l) (writing op w s (own l) ToPc) → Result o d low top m r l Unchecked r (if not (is_immediate s) then Some (0xF004, s) else None)
+  pc-row : (s : Src) (t : Dst) → IsTwoLine o l op w s t → t ≡ dst.Reg 0 → Stands o d m (unit_at o d l) (unit_behind o d l) (writing op w s (own l) ToPc) → Result o d low top m r l Unchecked r (if not (is_immediate s) then Some (GOES, s) else None)
   pc-row (src.Immediate x) t is e h = inr ((λ q. q), branch-row g o d low top m r l a st op w x t is e h)
   pc-row (src.Reg n) t is e h = computed-row g o d low top m r l a st op w (src.Reg n) t is e h
   pc-row (src.Indexed n x) t is e h = computed-row g o d low top m r l a st op w (src.Indexed n x) t is e h
@@ -121,7 +122,7 @@ module _ (g : RowLaws) (o : Object) (d : Domain) (low top : ℕ) (m r : List ℕ
   writing-row bytes s (dst.Reg n) is pops wr h = by (nat_eq n 0) (nat_eq n 1) refl refl h
     where
       by : (b c : Bool) → nat_eq n 0 ≡ b → nat_eq n 1 ≡ c → Stands o d m (unit_at o d l) (unit_behind o d l) (writing op w s (own l) (if b then ToPc else (if c then ToSp else Elsewhere)))
-          → Row o d low top m r l (check_of_aim op w s (own l).source (if b then ToPc else (if c then ToSp else Elsewhere))) (instr.Two op w s (dst.Reg n)) (if b && not (is_immediate s) then Some (0xF004, s) else None)
+          → Row o d low top m r l (check_of_aim op w s (own l).source (if b then ToPc else (if c then ToSp else Elsewhere))) (instr.Two op w s (dst.Reg n)) (if b && not (is_immediate s) then Some (GOES, s) else None)
       by true c e f h = pc-row s (dst.Reg n) is (ap (λ (k : ℕ). dst.Reg k) (eq-one n 0 e)) h
       by false true e f h = sp-row g o d low top m r l a st op w s (dst.Reg n) is (ap (λ (k : ℕ). dst.Reg k) (eq-one n 1 f)) wr pops h
       by false false e f h = inr ((λ q. q), row-own g o d low top m r l a st op w s (dst.Reg n) is (two-target o l op w s (dst.Reg n) is (ne-one n 0 e)) h)
@@ -157,7 +158,7 @@ module _ (g : RowLaws) (o : Object) (d : Domain) (low top : ℕ) (m r : List ℕ
       not-move Xor e q = q
       not-move And e q = q
 
-      by : (b : Bool) → is_pc t ≡ b → Result o d low top m r l Unchecked r (if b && not (is_immediate s) then Some (0xF004, s) else None)
+      by : (b : Bool) → is_pc t ≡ b → Result o d low top m r l Unchecked r (if b && not (is_immediate s) then Some (GOES, s) else None)
       by true e = absurd (reads-no-pc o l op w s t is (subst (λ (y : Dst). DstIs y 0) (sym (pc-so t e)) refl) (not-move op wr))
       by false e = inr ((λ q. q), row-own g o d low top m r l a st op w s t is (two-target o l op w s t is (pc-not t e)) h)
 

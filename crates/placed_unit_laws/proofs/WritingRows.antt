@@ -45,6 +45,8 @@ use Rattle.placed_unit_laws.proofs.Clean.{IsTwoLine, dst-placed, steps-placed, s
 use Rattle.placed_unit_laws.proofs.Results.{Result, of-store, of-sp, at-first, goes-behind, checked}
 use Rattle.placed_unit_laws.proofs.TwoRows.{here, size, source-is, free-source, below, few}
 use Rattle.placed_unit_laws.proofs.PoppingRows.{pc-moves}
+use Rattle.kernel_model.specs.declared.map.TheConstants.{STACK_LIMIT, STACK_TOP}
+use Rattle.kernel_model.specs.declared.entries.TheConstants.{GOES}
 
 -- ---- tests
 
@@ -194,22 +196,22 @@ module _ (g : RowLaws) (o : Object) (d : Domain) (low top : ℕ) (m r : List ℕ
       let law = g.set_sp m r first past op w s_here n_here (at-first g o d low top m r l a st) f1.0 f2.0 (omega arith) words f3.0 z (alu-writes op wr) (src-fits o d (own l).source s (two-fits o l op w s t is).0) goes.0
       (λ q. pops (steps-pops s 1 (steps-placed o d (own l).source s 1 q))) in
       let tiny = few g o d low top m r l a st op w s t is in
-      checked g o d low top m r l a st (OfSp op w s (own l).source) (after_source w s_here r) None (IsWithin m v) (IsBeyond m v) (Follows m r first past (ended past m r (instr.Two op w s_here (dst.Reg 1)) n_here)) law (of-sp (word_at m 0x0200) (word_at m 0x0202) v)
+      checked g o d low top m r l a st (OfSp op w s (own l).source) (after_source w s_here r) None (IsWithin m v) (IsBeyond m v) (Follows m r first past (ended past m r (instr.Two op w s_here (dst.Reg 1)) n_here)) law (of-sp (word_at m STACK_LIMIT) (word_at m STACK_TOP) v)
       (λ q. elim q [ inl x ↦ inl (omega (arith, x, a.at.limit)) | inr x ↦ inr (omega (arith, x, a.at.last)) ]) (λ q. elim q [ inl x ↦ inl (omega (arith, x, a.at.limit)) | inr x ↦ inr (omega (arith, x, a.at.last)) ])
       (λ q. goes-behind g o d low top m r l a st source n_here (source-is g o d low top m r l a st op w s t is) goes tiny (subst (λ (y : Instr). Follows m r first past (ended past m r y n_here)) same q))
 
   -- ---- PC
 
   -- a computed jump
-  pub computed-row : t ≡ dst.Reg 0 → Stands o d m first past (into_r4 Mov Wide s (own l).source ∷ guard_piece.branch 0xF004 None ∷ []) → Result o d low top m r l Unchecked r (Some (0xF004, s))
+  pub computed-row : t ≡ dst.Reg 0 → Stands o d m first past (into_r4 Mov Wide s (own l).source ∷ guard_piece.branch GOES None ∷ []) → Result o d low top m r l Unchecked r (Some (GOES, s))
   unfolding piece_words
   computed-row e h =
       let none : length (dst_words t) ≡ 0 = ap (λ (y : Dst). length (dst_words y)) e in
-      let f1 = into-head none Mov Wide first (guard_piece.branch 0xF004 None ∷ []) h in
-      let f2 = head g.spelling o d m (first + 2 * n_here) past (guard_piece.branch 0xF004 None) [] f1.1 (tt, omega arith) (below g o d low top m r l a st op w s t is) in
+      let f1 = into-head none Mov Wide first (guard_piece.branch GOES None ∷ []) h in
+      let f2 = head g.spelling o d m (first + 2 * n_here) past (guard_piece.branch GOES None) [] f1.1 (tt, omega arith) (below g o d low top m r l a st op w s t is) in
       let z = end o d m (first + (4 + 2 * n_here)) past (subst (λ (k : ℕ). Stands o d m k past []) (omega arith) f2.1) in
       let move = pc-moves o l op w s t is (subst (λ (y : Dst). DstIs y 0) (sym e) refl) in
       let same : source_does o d m r l ≡ ended past m r (instr.Two Mov Wide s_here (dst.Reg 0)) n_here =
       source-is g o d low top m r l a st op w s t is ∙ (λ j. ended past m r (instr.Two (move.move j) (move.wide j) s_here (placed_dst o d (own l).destination (e j))) n_here) in
       let law = g.computed m r first past s_here n_here (at-first g o d low top m r l a st) f1.0 f2.0 z (src-fits o d (own l).source s (two-fits o l op w s t is).0) (free-source g o d low top m r l a st op w s t is) in
-      inr ((λ q. q), subst (λ (y : Effect). Hands m r first past y 0xF004 (source_value Wide s_here 0 m r)) (sym same) law)
+      inr ((λ q. q), subst (λ (y : Effect). Hands m r first past y GOES (source_value Wide s_here 0 m r)) (sym same) law)

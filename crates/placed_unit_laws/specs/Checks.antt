@@ -24,6 +24,7 @@ use Rattle.insert_model.specs.Source.{own}
 use Rattle.insert_model.specs.Units.{static_bytes, aim, aim_one, is_popped, is_immediate, is_pc}
 use Rattle.unit_laws.specs.Rows.{IsOut, new_sp}
 use Rattle.placed_unit_laws.specs.Placed.{word_in_place, placed_src}
+use Rattle.kernel_model.specs.declared.entries.TheConstants.{CALLS, GOES, STACK_FAULT, STORE_FAULT}
 
 pub data Check : Type 0 where
   Unchecked : Check
@@ -78,11 +79,11 @@ Fails o d low top m r (OfSp op w s k) = (new_sp m r op w (placed_src o d k s) < 
 
 -- the entry that it fails to
 abbrev pub entry_of : Check → ℕ
-entry_of Unchecked = 0xF000
-entry_of (OfStore n x k) = 0xF000
-entry_of OfGrowth = 0xF002
-entry_of OfPop = 0xF002
-entry_of (OfSp op w s k) = 0xF002
+entry_of Unchecked = STORE_FAULT
+entry_of (OfStore n x k) = STORE_FAULT
+entry_of OfGrowth = STACK_FAULT
+entry_of OfPop = STACK_FAULT
+entry_of (OfSp op w s k) = STACK_FAULT
 
 -- the registers as they are before the check: a source that is read before it has stepped its register
 abbrev pub before_check : Object → Domain → List ℕ → Line → Check → Instr → List ℕ
@@ -102,12 +103,12 @@ before_check o d r l (OfSp op w s k) i = after_source w (placed_src o d k s) r
 
 -- the entry that takes a return, a computed jump or a computed call over, and the operand whose value is its target
 abbrev pub handed : Instr → Option (ℕ × Src)
-handed (instr.Two op w s t) = if is_pc t && not (is_immediate s) then Some (0xF004, s) else None
+handed (instr.Two op w s t) = if is_pc t && not (is_immediate s) then Some (GOES, s) else None
 handed (instr.One Rrc w s) = None
 handed (instr.One Swpb w s) = None
 handed (instr.One Rra w s) = None
 handed (instr.One Sxt w s) = None
 handed (instr.One Push w s) = None
-handed (instr.One Call w s) = if is_immediate s then None else Some (0xF006, s)
+handed (instr.One Call w s) = if is_immediate s then None else Some (CALLS, s)
 handed instr.Reti = None
 handed (instr.Jump c k) = None

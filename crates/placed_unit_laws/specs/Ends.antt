@@ -32,6 +32,7 @@ use Rattle.unit_laws.specs.Running.{IsInside}
 use Rattle.unit_laws.specs.Rows.{Follows, Hands, Halts, SameButPc}
 use Rattle.placed_unit_laws.specs.Placed.{unit_address, unit_at, unit_behind, placed_word, placed_src, placed, source_does}
 use Rattle.placed_unit_laws.specs.Checks.{check_of, Fails, entry_of, before_check, handed}
+use Rattle.kernel_model.specs.declared.map.TheConstants.{CODE_POOL_END, STACK_LIMIT, STACK_TOP}
 
 -- A domain's object, made from o, was placed, its code's bytes are in memory with the two limit words of a stack [low, top), and PC is at
 -- the unit of a source instruction. Each context that is good for the domain is a context.
@@ -40,8 +41,8 @@ pub record IsAtUnit (o : Object) (d : Domain) (low top : ℕ) (m r : List ℕ) (
   pub placed : IsWellPlaced d
   pub memory : IsMemory m
   pub code : HasBytes m d.code_lo (code_image d)
-  pub limit : word_at m 0x0200 ≡ low + 6
-  pub last : word_at m 0x0202 ≡ top
+  pub limit : word_at m STACK_LIMIT ≡ low + 6
+  pub last : word_at m STACK_TOP ≡ top
   pub context : IsContext r
   pub pc : reg r 0 ≡ unit_at o d l
 
@@ -99,7 +100,7 @@ pub record UnitStands (o : Object) (d : Domain) (m : List ℕ) (l : Line) : Type
   pub words : WordsAt m (unit_at o d l) 0 (map (placed_word o d) (unit_words (unit (static_bytes (fields o)) l)))
   pub behind : unit_behind o d l ≡ unit_at o d l + 2 * length (unit_words (unit (static_bytes (fields o)) l))
   pub even : unit_at o d l % 2 ≡ 0
-  pub below : unit_behind o d l ≤ 0xE000
+  pub below : unit_behind o d l ≤ CODE_POOL_END
   -- no start's unit begins within this one
   pub apart : (t : ℕ) → Start o.code t → IsInside (unit_at o d l) (unit_behind o d l) (unit_address o d (2 * t)) → ⊥
 

@@ -2,6 +2,7 @@
 use Rattle.std.proofs.Common.{◌≡◌, ◌≢◌, ℕ, ◌+◌, ◌-◌, ◌*◌, ◌/◌, ◌%◌, ◌<◌, ◌≤◌, ◌⊎◌, ◌↔◌, Bool, true, List, length, get_or, set, refl, ap, sym, ◌∙◌, subst, inl, inr, ⊎_elim, arith, length-set, get_or-set_same, get_or-set_other}
 use Rattle.std.proofs.lemmas.Bool.{cases_eq}
 use Rattle.std.specs.Int.{bit_at}
+use Rattle.kernel_model.specs.declared.map.TheConstants.{BITMAP, BITMAP_END, CODE_POOL, TABLES_END}
 use Rattle.kernel_model.specs.Layout.{tables}
 use Rattle.kernel_model.specs.Bitmap.{Has}
 use Rattle.place_model.specs.declared.places.Regions.{Regions}
@@ -9,10 +10,10 @@ use Rattle.place_model.specs.Marking.{IsCodeWord, IsMarkBit, Marked}
 use Rattle.region_table.specs.Bits.{BitPut}
 
 abbrev pub byte_of : ℕ → ℕ
-byte_of at = 0x1100 + (at - 0x6000) / 16
+byte_of at = BITMAP + (at - CODE_POOL) / 16
 
 abbrev pub bit_of : ℕ → ℕ
-bit_of at = (at - 0x6000) / 2 % 8
+bit_of at = (at - CODE_POOL) / 2 % 8
 
 -- the bit of a byte that is another's by an equation
 same_bit : (a b i : ℕ) → a ≡ b → (bit_at a i ≡ 1) ↔ (bit_at b i ≡ 1)
@@ -23,7 +24,7 @@ bits_apart x at w v n e = λ q. n (omega (arith, w.even, w.above, v.even, v.abov
 
 -- a byte above the tables leaves them
 abbrev pub TablesLaw : Type 0
-TablesLaw = (m : List ℕ) (a v : ℕ) → 4096 ≤ a → tables (set m a v) ≡ tables m
+TablesLaw = (m : List ℕ) (a v : ℕ) → TABLES_END ≤ a → tables (set m a v) ≡ tables m
 
 pub bit_put : TablesLaw → (m : List ℕ) (at b : ℕ) (v : Bool) → length m ≡ 65536 → IsCodeWord at → (bit_at b (bit_of at) ≡ 1) ↔ (v ≡ true)
     → ((k : ℕ) → k < 8 → k ≢ bit_of at → bit_at b k ≡ bit_at (get_or m (byte_of at) 0) k) → BitPut m (set m (byte_of at) b) at v
@@ -47,8 +48,8 @@ bit_put law m at b v size w bit others =
           (λ (n : byte_of x ≡ byte_of at → ⊥). same_bit _ _ (bit_of x) (get_or-set_other m (byte_of at) (byte_of x) b 0 n))
           (cases_eq (byte_of x) (byte_of at));
       outside = λ a away. get_or-set_other m (byte_of at) a b 0 (λ e. ⊎_elim
-          (λ (l : a < 0x1100). omega arith)
-          (λ (g : 0x1900 ≤ a). omega (arith, w.above, w.below))
+          (λ (l : a < BITMAP). omega arith)
+          (λ (g : BITMAP_END ≤ a). omega (arith, w.above, w.below))
           away);
       tables = law m (byte_of at) b (omega arith);
     }

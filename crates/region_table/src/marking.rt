@@ -7,29 +7,24 @@ ghost use Rattle.place_model.specs.Placing.{domain_at};
 ghost use Rattle.place_model.specs.Marking.{IsCodeWord, IsMarkBit, IsMarkOf, Marked};
 ghost use Rattle.place_model.specs.Settled.{IsSettled};
 ghost use Rattle.region_table.specs.Bits.{BitPut};
+ghost use Rattle.code_model.specs.declared.object.TheConstants.{CODE_BYTES_MAX};
 
 use crate::rows::domain_at;
 use code_model::marks::Marks;
 use flat_mem::FlatMem;
 use kernel_model::laws::tables_stay;
+use kernel_model::map::{BITMAP, CODE_POOL, CODE_POOL_END};
 use place_model::places::Regions;
-
-/// The bitmap's first byte.
-const BITMAP: u16 = 0x1100;
-/// The code pool.
-const CODE_POOL: u16 = 0x6000;
-/// The end of the code pool.
-const CODE_POOL_END: u16 = 0xE000;
 
 /// Makes the bits of the region's code exactly the marks: the word `n` bytes behind the code's start has its bit exactly where the
 /// marks have the offset `n`. The code has even ends, lies in the code pool and has at most 16,384 bytes. Other bits and bytes stay.
 pub fn set_marks(m: &mut FlatMem, r: &Regions, marks: &Marks)
-    requires from { 0x6000 ≤ r.now.code_lo }
-    requires to { r.now.code_hi ≤ 0xE000 }
+    requires from { CODE_POOL ≤ r.now.code_lo }
+    requires to { r.now.code_hi ≤ CODE_POOL_END }
     requires up { r.now.code_lo ≤ r.now.code_hi }
     requires from_even { r.now.code_lo % 2 ≡ 0 }
     requires to_even { r.now.code_hi % 2 ≡ 0 }
-    requires size { r.now.code_hi ≤ r.now.code_lo + 16384 }
+    requires size { r.now.code_hi ≤ r.now.code_lo + CODE_BYTES_MAX }
     ensures marked { Marked m.old m.new r.now marks.now }
     ensures keeps { IsSettled m.old → IsSettled m.new }
 {

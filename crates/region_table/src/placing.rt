@@ -5,12 +5,17 @@ ghost use Rattle.kernel_model.specs.Layout.{kernel_of};
 ghost use Rattle.kernel_model.specs.Queues.{Leaves};
 ghost use Rattle.place_model.specs.Placing.{placing, placed_among, with_places, pool_range, ranges, range_in, free_from, free_number, with_number, with_code, domain_rows, first_number, number_count, IsLeastFree, IsPlacing, IsRefusal};
 ghost use Rattle.place_model.specs.Settled.{IsSettled};
+ghost use Rattle.code_model.specs.declared.object.TheConstants.{CODE_BYTES_MAX};
 
-use crate::rows::{APPS, DOMAINS, FREE, MODULES, domain_rows, fill};
+use crate::rows::{domain_rows, fill};
 use crate::search::place_in;
 use arrayvec::ArrayVec;
 use code_model::parts::Kind;
 use flat_mem::FlatMem;
+use kernel_model::map::{
+    APPS, CODE_POOL, CODE_POOL_END, DATA_POOL, DATA_POOL_END, DOMAINS, MODULES,
+};
+use kernel_model::states::FREE;
 use place_model::laws::{numbers_are_least, placings_are_lowest, placings_keep_settled};
 use place_model::places::{DomainRow, NoRoom, Pool, Range, Regions};
 
@@ -21,7 +26,7 @@ use place_model::places::{DomainRow, NoRoom, Pool, Range, Regions};
 pub fn place(m: &mut FlatMem, kind: Kind, code_len: u16, region_len: u32) -> Result<Regions, NoRoom>
     requires code_even { code_len % 2 ≡ 0 }
     requires code_some { 2 ≤ code_len }
-    requires code_most { code_len ≤ 16384 }
+    requires code_most { code_len ≤ CODE_BYTES_MAX }
     requires region_even { region_len % 2 ≡ 0 }
     ensures answer { result ≡ placing (kernel_of m.old) kind code_len region_len }
     ensures number { IfOk result (λ r. IsLeastFree (domain_rows (kernel_of m.old)) (first_number kind) (number_count kind) r.dom) }
@@ -120,12 +125,12 @@ fn pool_range(pool: Pool) -> Range
 {
     match pool {
         Pool::Code => Range {
-            from: 0x6000,
-            to: 0xE000,
+            from: CODE_POOL,
+            to: CODE_POOL_END,
         },
         Pool::Data => Range {
-            from: 0x2000,
-            to: 0x6000,
+            from: DATA_POOL,
+            to: DATA_POOL_END,
         },
     }
 }

@@ -7,20 +7,11 @@ ghost use Rattle.place_model.specs.Placing.{app_domain, module_domain, domain_ro
 
 use arrayvec::ArrayVec;
 use flat_mem::FlatMem;
+use kernel_model::map::{APPS, DOMAINS, MODULES};
+use kernel_model::states::LIVE;
 use kernel_tables::laws::kernel_fits;
 use kernel_tables::{AppRow, ModuleRow, app, module, set_app, set_module};
 use place_model::places::{DomainRow, Range, Regions};
-
-/// The number of applications, and the first module's number among the domains.
-pub const APPS: u8 = 8;
-/// The number of modules.
-pub const MODULES: u8 = 4;
-/// The number of domains.
-pub const DOMAINS: usize = 12;
-/// The state of a free row.
-pub const FREE: u16 = 0;
-/// The state of a domain that is placed and hasn't ended.
-const LIVE: u16 = 1;
 
 /// The twelve rows, by the domain's number.
 pub fn domain_rows(m: &FlatMem) -> ArrayVec<DomainRow, DOMAINS>

@@ -5,8 +5,8 @@ ghost use Rattle.place_model.specs.declared.places.Range.{Range};
 ghost use Rattle.place_model.specs.Gaps.{holds, taken, size, begins_from, run_end, gaps, longest, lowest, place_in, IsGap};
 ghost use Rattle.region_table.specs.Searching.{gaps_at, ends};
 
-use crate::rows::DOMAINS;
 use arrayvec::ArrayVec;
+use kernel_model::map::DOMAINS;
 use place_model::laws::{gaps_are_maximal_runs, places_are_lowest_gaps};
 use place_model::places::Range;
 

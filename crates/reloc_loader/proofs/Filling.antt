@@ -2,6 +2,7 @@
 use Rattle.std.proofs.Common.{◌≡◌, ℕ, ◌<◌, ◌≤◌, List, [], ◌∷◌, length, get_or, refl, sym, ap, ◌∙◌, subst, inl, arith}
 use Rattle.std.specs.Prelude.{Ok, Option, None, map, ◌==◌, if◌then◌else◌, true, false}
 use Rattle.std.specs.List.{find}
+use Rattle.kernel_model.specs.declared.map.TheConstants.{BITMAP_END, CODE_POOL, DATA_POOL}
 use Rattle.kernel_model.specs.declared.kinds.Kind.{Kind}
 use Rattle.kernel_model.specs.declared.kinds.Kind.TheVariants.{App, Module}
 use Rattle.kernel_model.specs.Kernel.{Kernel, function_at}
@@ -23,10 +24,10 @@ use Rattle.load_model.proofs.Apart.{mark_byte, bit_same, mark_low}
 use Rattle.reloc_loader.specs.Loading.{unmarked, with_row, HasImages}
 use Rattle.reloc_loader.proofs.Tables.{kernel_same, laid_same, queues_same}
 
-beside_low : (o : Object) (r : Regions) (a : ℕ) → ArePlaces o r → a < 6400 → IsBeside r a
+beside_low : (o : Object) (r : Regions) (a : ℕ) → ArePlaces o r → a < BITMAP_END → IsBeside r a
 beside_low o r a p h =
-    let code : 24576 ≤ r.code_lo = p.code_low in
-    let region : 8192 ≤ r.lo = p.region_low in
+    let code : CODE_POOL ≤ r.code_lo = p.code_low in
+    let region : DATA_POOL ≤ r.lo = p.region_low in
     record { code = inl (omega arith); region = inl (omega arith) }
 
 -- the images don't depend on the marks

@@ -3,6 +3,7 @@ use Rattle.std.proofs.Common.{◌≡◌, ℕ, ◌+◌, ◌-◌, ◌/◌, ◌%◌
 use Rattle.std.specs.List.{flat_map}
 use Rattle.std.proofs.lemmas.List.{same_lists, places}
 use Rattle.flat_mem.specs.Bytes.{patch, word_bytes}
+use Rattle.kernel_model.specs.declared.map.TheConstants.{CODE_POOL, DATA_POOL, DATA_POOL_END, TABLES_END}
 use Rattle.kernel_model.specs.Bytes.{part}
 use Rattle.kernel_model.specs.Layout.{sizes, split, tables}
 use Rattle.code_model.specs.declared.object.Object.{Object}
@@ -45,7 +46,7 @@ split-below (s ∷ ss) base a m bs h w =
     ∙ ap (λ ps. part m base s ∷ ps) (split-below ss (base + s) a m bs (omega arith) w)
 
 -- a write behind the tables
-tables-below : (m bs : List ℕ) (a : ℕ) → 4096 ≤ a → a + length bs ≤ length m → tables (patch m a bs) ≡ tables m
+tables-below : (m bs : List ℕ) (a : ℕ) → TABLES_END ≤ a → a + length bs ≤ length m → tables (patch m a bs) ≡ tables m
 unfolding tables
 tables-below m bs a h w = split-below sizes 512 a m bs (omega arith) w
 
@@ -75,9 +76,9 @@ images_put m m1 m2 o r n1 n2 p e code_sizes region_sizes all_words w1 s1 w2 s2 =
     let e2 : m2 ≡ patch m1 r.lo (flat_map word_bytes (placed_words d false ((r.hi - r.lo) / 2))) = w2 ∙ ap (λ n. patch m1 r.lo (flat_map word_bytes (placed_words d false n))) s2 in
     let code_room : r.code_lo + length cs ≤ 65536 = omega (arith, p.code_length, p.code_high, code_size) in
     let code_end : r.code_lo + length cs ≡ r.code_hi = omega (arith, p.code_length, code_size) in
-    let code_low : 24576 ≤ r.code_lo = p.code_low in
-    let region_low : 8192 ≤ r.lo = p.region_low in
-    let region_high : r.hi ≤ 24576 = p.region_high in
+    let code_low : CODE_POOL ≤ r.code_lo = p.code_low in
+    let region_low : DATA_POOL ≤ r.lo = p.region_low in
+    let region_high : r.hi ≤ DATA_POOL_END = p.region_high in
     let up : r.lo ≤ r.hi = omega (arith, p.region_length) in
     let region_end : r.lo + length rs ≡ r.hi = omega (arith, region_size, up) in
     let m1_size : length m1 ≡ 65536 = ap (λ n. length n) e1 ∙ patch-length m cs r.code_lo (omega arith) ∙ e in

@@ -4,6 +4,7 @@ use Rattle.std.specs.Prelude.{Option, Some, None, ◌==◌, ◌&&◌, not, if◌
 use Rattle.std.specs.List.{find}
 use Rattle.std.proofs.lemmas.Bool.{cases_Bool, cases_eq, cases_lt}
 use Rattle.std.proofs.lemmas.Option.{slice_get_within, get_or_from_slice_get, slice_get_cases}
+use Rattle.code_model.specs.declared.object.TheConstants.{CODE_WORDS_MAX}
 use Rattle.code_model.specs.declared.object.Object.{Object}
 use Rattle.code_model.specs.declared.parts.Reloc.{Reloc}
 use Rattle.code_model.specs.declared.parts.RelKind.{RelKind}
@@ -39,7 +40,7 @@ record Fine (r : Reloc) : Type 0 where
 fine : (o : Object) (k : ℕ) (d : Reloc) → k < length o.relocs → Fine (get_or o.relocs k d)
 fine o k d l =
     let fits = o.form.relocs_fit k d l in
-    let most : length o.code ≤ 8192 = o.form.code_most in
+    let most : length o.code ≤ CODE_WORDS_MAX = o.form.code_most in
     record { even = fits.even; small = λ t. (let below : (get_or o.relocs k d).offset < 2 * length o.code = fits.in_code t in omega arith) }
 
 key-even : (r : Reloc) → Fine r → key r % 2 ≡ 0
@@ -200,7 +201,7 @@ none_left o n c i h s =
 pub code_over : (o : Object) (n : ℕ) → IsNext o.relocs n (key_at true (2 * length o.code)) → IsNext o.relocs n (key_at false 0)
 code_over o n h = record {
   within = h.within;
-  before = λ k d l. (let below : key (get_or o.relocs k d) < 2 * length o.code = h.before k d l in let most : length o.code ≤ 8192 = o.form.code_most in omega arith);
+  before = λ k d l. (let below : key (get_or o.relocs k d) < 2 * length o.code = h.before k d l in let most : length o.code ≤ CODE_WORDS_MAX = o.form.code_most in omega arith);
   from = λ k d g l.
       let r : Reloc = get_or o.relocs k d in
       let least : 2 * length o.code ≤ key r = h.from k d g l in

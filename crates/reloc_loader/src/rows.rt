@@ -9,26 +9,23 @@ ghost use Rattle.place_model.specs.Placing.{with_places};
 ghost use Rattle.load_model.specs.Domains.{code_length, region_length};
 ghost use Rattle.load_model.specs.Loading.{loaded_app, ArePlaces};
 ghost use Rattle.reloc_loader.specs.Loading.{with_row};
+ghost use Rattle.code_model.specs.declared.object.TheConstants.{CODE_BYTES_MAX};
 
 use code_model::object::Object;
 use code_model::parts::Kind;
 use flat_mem::FlatMem;
+use kernel_model::map::THREADS_OF_APP;
+use kernel_model::states::LIVE;
 use kernel_tables::{AppRow, set_app, set_register};
 use load_model::regions_are_even;
+use msp_encode::registers::PC;
 use region_table::Regions;
-
-/// The state of an application that hasn't ended.
-const LIVE: u16 = 1;
-/// How many threads an application may have: an identity is this times the application's number, plus the thread's.
-const THREADS_MAX: u8 = 4;
-/// The register that is the program counter.
-const PC: u8 = 0;
 
 /// The bytes of the code.
 pub fn code_bytes(o: &Object) -> u16
     ensures size { result ≡ code_length o.now }
     ensures least { 2 ≤ result }
-    ensures most { result ≤ 16384 }
+    ensures most { result ≤ CODE_BYTES_MAX }
 {
     2 * o.code.len() as u16
 }
@@ -73,5 +70,5 @@ fn put_app(m: &mut FlatMem, o: &Object, r: &Regions)
             threads: u16::from(o.threads),
         },
     );
-    set_register(m, THREADS_MAX * r.dom, PC, r.code_lo + o.entry);
+    set_register(m, THREADS_OF_APP * r.dom, PC, r.code_lo + o.entry);
 }

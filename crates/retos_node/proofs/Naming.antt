@@ -3,6 +3,7 @@ use Rattle.std.proofs.Common.{ℕ, Bool, true, false, cond, Option, Some, None, 
 use Rattle.std.specs.Prelude.{◌==◌}
 use Rattle.msp_encode.specs.declared.instr.Instr.{Instr}
 use Rattle.machine_model.specs.Context.{reg, set_reg}
+use Rattle.kernel_model.specs.declared.entries.TheConstants.{MODULE_CALL, TICKS}
 use Rattle.kernel_model.specs.declared.code.Code.{Code}
 use Rattle.kernel_model.specs.Words.{number_of}
 use Rattle.kernel_model.specs.Dispatching.{moved_to_front}
@@ -46,8 +47,8 @@ row-line Priority w =
     unless-line Priority w (priority_code w.context) (after Priority w (with_priority w.kernel w.context)) refl (record { line = refl })
 row-line Self w = record { line = refl }
 row-line Ticks w =
-    either (module_runs w.kernel) (goes_straight w.kernel (set_reg (with_ticks w) 12 0) (called w 0xF014))
-    (goes_on w w.kernel (with_ticks w) 0 (called w 0xF014)) (record { line = refl }) (record { line = refl })
+    either (module_runs w.kernel) (goes_straight w.kernel (set_reg (with_ticks w) 12 0) (called w TICKS))
+    (goes_on w w.kernel (with_ticks w) 0 (called w TICKS)) (record { line = refl }) (record { line = refl })
 row-line Lock w =
     unless-line Lock w (lock_code w.kernel (r12 w)) (locks w (r12 w)) refl
     (either (is_free_mutex w.kernel (own_app w.kernel) (r12 w)) (after_leaving Lock w (moved_to_front (locked (saved_zero w) (r12 w))))
@@ -66,7 +67,7 @@ row-line Line w =
     (record { line = refl })
 row-line ModuleCall w =
     unless-line ModuleCall w (enter_code w.kernel (r12 w))
-    (goes_straight (entered w.kernel w.context) (entered_context w.kernel w.context) (called w 0xF022)) refl (record { line = refl })
+    (goes_straight (entered w.kernel w.context) (entered_context w.kernel w.context) (called w MODULE_CALL)) refl (record { line = refl })
 row-line Emits w = record { line = tt }
 
 call-line : (c : Call) (w : Work) → TurnHasLine (by_call c w)

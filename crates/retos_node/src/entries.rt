@@ -19,9 +19,14 @@ use crate::locks::{broadcasts, locks, signals, unlocks, waits};
 use crate::modules::{calls_module, leaves};
 use crate::turns::{Moment, called, faults, runners_are_known};
 use flat_mem::FlatMem;
+use kernel_model::entries::{CALLS, EMITS, EXITS, GOES, STACK_FAULT, STORE_FAULT};
+pub use kernel_model::entries::{
+    BROADCAST, IDENTITY, LEAVE, LINE, LOCK, MODULE_CALL, PRIORITY, SIGNAL, SLEEP, SPAWN, TICKS,
+    UNLOCK, WAIT, YIELD,
+};
 use kernel_threads::{jump, take_return};
 use msp_machine::Regs;
-use msp_machine::regs::SP;
+use msp_machine::regs::{CHECKED, SP};
 use trace_model::records::{FaultKind, Record};
 
 /// An entry of the kernel.
@@ -75,49 +80,6 @@ pub enum KernelCall {
     /// A value that is printed.
     Emits,
 }
-
-const STORE_FAULT: u16 = 0xF000;
-
-const STACK_FAULT: u16 = 0xF002;
-
-const GOES: u16 = 0xF004;
-
-const CALLS: u16 = 0xF006;
-
-const EXITS: u16 = 0xF008;
-
-pub const SPAWN: u16 = 0xF00A;
-
-pub const YIELD: u16 = 0xF00C;
-
-pub const SLEEP: u16 = 0xF00E;
-
-pub const PRIORITY: u16 = 0xF010;
-
-pub const IDENTITY: u16 = 0xF012;
-
-pub const TICKS: u16 = 0xF014;
-
-pub const LOCK: u16 = 0xF016;
-
-pub const UNLOCK: u16 = 0xF018;
-
-pub const WAIT: u16 = 0xF01A;
-
-pub const SIGNAL: u16 = 0xF01C;
-
-pub const BROADCAST: u16 = 0xF01E;
-
-pub const LINE: u16 = 0xF020;
-
-pub const MODULE_CALL: u16 = 0xF022;
-
-const EMITS: u16 = 0xF024;
-
-pub const LEAVE: u16 = 0xF026;
-
-/// The register of an address that was tested.
-const JUMPS_TO: u8 = 4;
 
 /// The entry at an address.
 pub fn entry_at(pc: u16) -> Option<EntryPoint>
@@ -181,7 +143,7 @@ fn enter(m: &mut FlatMem, r: &mut Regs, entry: EntryPoint, moment: Moment) -> Re
     row_runs(m, entry);
     match entry {
         EntryPoint::StoreFault => {
-            let address = r.get(JUMPS_TO);
+            let address = r.get(CHECKED);
             faults(m, r, FaultKind::Store, address, moment)
         }
         EntryPoint::StackFault => {

@@ -41,6 +41,9 @@ use flat_mem::FlatMem;
 use interrupts::laws::highest_found;
 use interrupts::lines::LINES;
 use interrupts::{Lines, accept};
+pub(crate) use kernel_model::entries::FIRST_ENTRY;
+use kernel_model::entries::LAST_ENTRY;
+pub(crate) use kernel_model::map::{FIRST_ROUTINE, IDLE, LAST_ROUTINE};
 use kernel_tables::{SysWord, get, put};
 use kernel_threads::NONE;
 use msp_encode::instr::Instr;
@@ -60,19 +63,6 @@ const MASKS: u16 = 0x4000;
 
 /// The value of GIE, the bit of SR that lets interrupts be accepted.
 const GIE: u16 = 8;
-
-/// The first and the last entry.
-const FIRST_ENTRY: u16 = 0xF000;
-
-const LAST_ENTRY: u16 = 0xF026;
-
-/// Where the machine idles.
-const IDLE: u16 = 0xF07E;
-
-/// The routines of the first and of the last line.
-pub(crate) const FIRST_ROUTINE: u16 = 0xF080;
-
-pub(crate) const LAST_ROUTINE: u16 = 0xF09A;
 
 /// How many instructions a module may run in one call.
 const MOST_INSTRUCTIONS: u16 = 4096;

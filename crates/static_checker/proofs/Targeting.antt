@@ -10,6 +10,7 @@ use Rattle.msp_encode.specs.declared.instr.Dst.TheVariants as dst
 use Rattle.msp_encode.specs.declared.instr.Instr.{Instr}
 use Rattle.msp_encode.specs.declared.instr.Instr.TheVariants as instr
 use Rattle.msp_encode.specs.Spelling.{src_words, dst_words, words_after}
+use Rattle.code_model.specs.declared.object.TheConstants.{CODE_BYTES_MAX, CODE_WORDS_MAX}
 use Rattle.code_model.specs.declared.object.Object.{Object}
 use Rattle.code_model.specs.declared.parts.RelKind.{RelKind}
 use Rattle.kernel_model.specs.Bitmap.{Has}
@@ -40,7 +41,7 @@ pub odd_offset : (o : Object) (x : ℕ) → x % 2 ≡ 1 → IsUnitOffset o x →
 unfolding IsUnitOffset
 odd_offset o x odd (t, unit, e) = omega arith
 
-pub far_offset : (o : Object) (x : ℕ) → 16384 ≤ x → IsUnitOffset o x → ⊥
+pub far_offset : (o : Object) (x : ℕ) → CODE_BYTES_MAX ≤ x → IsUnitOffset o x → ⊥
 unfolding IsUnitOffset
 far_offset o x far (t, unit, e) = omega (arith, unit.0.below, o.form.code_most)
 
@@ -57,7 +58,7 @@ jump_target o units at t k b fits are e is =
     let e' : pos t ≡ (pos (at + 1) +ℤ k) = simp (to_z-of_z) at e in
     ((λ h. (t, (are t).0 (is.0 h), e')), (λ (u, unit, f). let same : u ≡ t = same_pos u t (f ∙ sym e') in is.1 ((are t).1 (subst (λ (n : ℕ). UnitStart o n) same unit))))
 
-pub no_jump_target : (o : Object) (at : ℕ) (k : ℤ) → SFits w16 k → ((t : ℕ) → t < 8192 → pos t ≡ (pos (at + 1) +ℤ to_z w16 (of_z w16 k)) → ⊥) → IsJumpTarget o at k → ⊥
+pub no_jump_target : (o : Object) (at : ℕ) (k : ℤ) → SFits w16 k → ((t : ℕ) → t < CODE_WORDS_MAX → pos t ≡ (pos (at + 1) +ℤ to_z w16 (of_z w16 k)) → ⊥) → IsJumpTarget o at k → ⊥
 unfolding IsJumpTarget
 no_jump_target o at k fits none (t, unit, e) = none t (omega (arith, unit.0.below, o.form.code_most)) (simp (to_z-of_z) e)
 

@@ -1,6 +1,7 @@
 //! Guards: which instructions a guard may stand before, how many, from which version of the form on, and whether one does.
 
 ghost use Rattle.std.specs.Prelude.{◌≡◌, ℕ, ◌+◌, ◌*◌, ◌<◌, ◌≤◌, ◌↔◌, IsTrue, length, slice_index, MatchOption};
+ghost use Rattle.code_model.specs.declared.object.TheConstants.{CODE_WORDS_MAX};
 ghost use Rattle.code_model.specs.declared.guards.GuardKind.{GuardKind};
 ghost use Rattle.code_model.specs.Guards.{IsPlainStore, IsStoreForm, IsGrowthForm, IsPopForm, IsSpForm, IsNearStore, IsWideForm, IsOwnDst, IsLoadSrc, IsLoadForm, Serves, ServesAt, reach_bytes, most_served, least_version};
 ghost use Rattle.code_model.specs.Relocs.{Unrelocated};
@@ -18,6 +19,7 @@ use crate::stores::in_static;
 use code_model::guards::{GuardKind, Reach};
 use code_model::object::Object;
 use msp_encode::instr::{Dst, Instr, Src};
+use msp_encode::registers::{CHECKED, SP};
 
 /// The kind of a guard that begins at a start with `MOV SR,R5`, by its second word and the ninth: a guard that does begin
 /// there has the words of this kind.
@@ -78,7 +80,7 @@ pub fn serving(
 ) -> Option<GuardKind>
     requires cursor { IsCursor o.now.relocs cursor }
     requires order { cursor.at ≤ at }
-    requires within { at < 8192 }
+    requires within { at < CODE_WORDS_MAX }
     requires wording { wording kind ≡ kind }
     ensures { MatchOption result ((g : GuardKind) → IsServing kind o.now cursor.at at i g → ⊥) (λ g. IsServing kind o.now cursor.at at i g) }
 {
@@ -96,7 +98,7 @@ pub fn serving(
 fn may_serve(kind: GuardKind, o: &Object, cursor: Cursor, at: usize, i: Instr) -> bool
     requires cursor { IsCursor o.now.relocs cursor }
     requires order { cursor.at ≤ at }
-    requires within { at < 8192 }
+    requires within { at < CODE_WORDS_MAX }
     ensures { IsTrue result ↔ ((least_version kind ≤ o.now.version) × Serves kind o.now cursor.at at i) }
 {
     least_version(kind) <= o.version && serves(kind, o, cursor, at, i)
@@ -123,7 +125,7 @@ pub fn served_at(o: &Object, cursor: Cursor, kind: GuardKind, at: usize) -> Opti
 fn serves(kind: GuardKind, o: &Object, cursor: Cursor, at: usize, i: Instr) -> bool
     requires cursor { IsCursor o.now.relocs cursor }
     requires order { cursor.at ≤ at }
-    requires within { at < 8192 }
+    requires within { at < CODE_WORDS_MAX }
     ensures { IsTrue result ↔ Serves kind o.now cursor.at at i }
 {
     match kind {
@@ -151,7 +153,7 @@ fn reach_bytes(reach: Reach) -> u16
 fn is_store_form(o: &Object, cursor: Cursor, at: usize, i: Instr) -> bool
     requires cursor { IsCursor o.now.relocs cursor }
     requires order { cursor.at ≤ at }
-    requires within { at < 8192 }
+    requires within { at < CODE_WORDS_MAX }
     ensures { IsTrue result ↔ IsStoreForm o.now at i }
 {
     match i {
@@ -171,7 +173,7 @@ fn is_plain_store(o: &Object, cursor: Cursor, at: usize, dst: Dst) -> bool
     ensures { IsTrue result ↔ IsPlainStore o.now at dst }
 {
     match dst {
-        Dst::Indexed(n, x) => n == 4 && x == 0 && unrelocated(o, cursor, at),
+        Dst::Indexed(n, x) => n == CHECKED && x == 0 && unrelocated(o, cursor, at),
         _ => false,
     }
 }
@@ -180,7 +182,7 @@ fn is_plain_store(o: &Object, cursor: Cursor, at: usize, dst: Dst) -> bool
 fn is_wide_form(most: u16, o: &Object, cursor: Cursor, at: usize, i: Instr) -> bool
     requires cursor { IsCursor o.now.relocs cursor }
     requires order { cursor.at ≤ at }
-    requires within { at < 8192 }
+    requires within { at < CODE_WORDS_MAX }
     ensures { IsTrue result ↔ IsWideForm most o.now at i }
 {
     match i {
@@ -199,7 +201,7 @@ fn is_near_store(most: u16, o: &Object, cursor: Cursor, at: usize, dst: Dst) -> 
     ensures { IsTrue result ↔ IsNearStore most o.now at dst }
 {
     match dst {
-        Dst::Indexed(n, x) => n == 4 && x % 2 == 0 && x <= most && unrelocated(o, cursor, at),
+        Dst::Indexed(n, x) => n == CHECKED && x % 2 == 0 && x <= most && unrelocated(o, cursor, at),
         _ => false,
     }
 }
@@ -208,7 +210,7 @@ fn is_near_store(most: u16, o: &Object, cursor: Cursor, at: usize, dst: Dst) -> 
 fn is_load_form(o: &Object, cursor: Cursor, at: usize, i: Instr) -> bool
     requires cursor { IsCursor o.now.relocs cursor }
     requires order { cursor.at ≤ at }
-    requires within { at < 8192 }
+    requires within { at < CODE_WORDS_MAX }
     ensures { IsTrue result ↔ IsLoadForm o.now cursor.at at i }
 {
     match i {
@@ -224,11 +226,11 @@ fn is_load_form(o: &Object, cursor: Cursor, at: usize, i: Instr) -> bool
 /// Tells whether a source is @R4, or @Rn+ of the register whose value the guard at the cursor tests.
 fn is_load_src(o: &Object, cursor: Cursor, src: Src) -> bool
     requires cursor { IsCursor o.now.relocs cursor }
-    requires within { cursor.at < 8192 }
+    requires within { cursor.at < CODE_WORDS_MAX }
     ensures { IsTrue result ↔ IsLoadSrc o.now cursor.at src }
 {
     match src {
-        Src::Indirect(n) => n == 4,
+        Src::Indirect(n) => n == CHECKED,
         Src::AutoInc(n) => 6 <= n && n <= 15 && tests_register(o, cursor, n),
         _ => false,
     }
@@ -237,7 +239,7 @@ fn is_load_src(o: &Object, cursor: Cursor, src: Src) -> bool
 /// Tells whether the guard at the cursor tests the value of this register: it moves it into R4 and adds 0, unrelocated.
 fn tests_register(o: &Object, cursor: Cursor, n: u8) -> bool
     requires cursor { IsCursor o.now.relocs cursor }
-    requires within { cursor.at < 8192 }
+    requires within { cursor.at < CODE_WORDS_MAX }
     requires register { n ≤ 15 }
     ensures { IsTrue result ↔ ((slice_index o.now.code (cursor.at + 1) ≡ 0x4004 + 256 * n) × (slice_index o.now.code (cursor.at + 3) ≡ 0) × Unrelocated o.now.relocs (cursor.at + 3)) }
 {
@@ -280,7 +282,7 @@ fn is_pop_form(i: Instr) -> bool
             width,
             src,
             dst,
-        } => is_mov(op) && is_wide(width) && pops(src, 1) && is_high(dst),
+        } => is_mov(op) && is_wide(width) && pops(src, SP) && is_high(dst),
         _ => false,
     }
 }
@@ -295,7 +297,7 @@ fn is_sp_form(i: Instr) -> bool
             width,
             src,
             dst,
-        } => is_mov(op) && is_wide(width) && src_is(src, 4) && dst_is(dst, 1),
+        } => is_mov(op) && is_wide(width) && src_is(src, CHECKED) && dst_is(dst, SP),
         _ => false,
     }
 }

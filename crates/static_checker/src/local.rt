@@ -21,6 +21,7 @@ use crate::targets::runs_off;
 use code_model::object::Object;
 use code_model::rules::Rule;
 use msp_encode::instr::{Dst, Instr};
+use msp_encode::registers::SP;
 
 /// The first refusal of these rules on the words of an instruction, the cursor being at it. None exactly where there is none.
 pub fn first_refusal(o: &Object, cursor: Cursor, unit: &CodeUnit) -> Option<Refusal>
@@ -68,7 +69,7 @@ fn is_plain(i: Instr) -> bool
             src,
             dst: Dst::Reg(n),
             ..
-        } => 4 <= n && !pops(src, 1),
+        } => 4 <= n && !pops(src, SP),
         Instr::Jump { .. } => true,
         _ => false,
     }

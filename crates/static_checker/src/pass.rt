@@ -5,6 +5,7 @@
 
 ghost use Rattle.std.specs.Prelude.{◌≡◌, ℕ, ◌+◌, ◌<◌, ◌≤◌, ◌↔◌, IsTrue, length, MatchResult};
 ghost use Rattle.kernel_model.specs.Bitmap.{Has};
+ghost use Rattle.code_model.specs.declared.object.TheConstants.{CODE_WORDS_MAX};
 ghost use Rattle.code_model.specs.Starts.{Bad};
 ghost use Rattle.static_checker.specs.Cursors.{IsCursor};
 ghost use Rattle.static_checker.specs.Firsts.{IsLocal, FirstIn};
@@ -125,7 +126,7 @@ fn pass_instr(o: &Object, pass: &mut Pass, unit: &CodeUnit)
 
 /// Marks the place of a jump, a branch or a call.
 fn mark_transfer(transfers: &mut Marks, at: usize, i: Instr)
-    requires { at < 8192 }
+    requires { at < CODE_WORDS_MAX }
     ensures { Adds transfers.old transfers.new (λ k. (k ≡ at) × IsTransfer i) }
 {
     if is_transfer(i) {

@@ -1,6 +1,7 @@
 //! The rules on registers and the stack: PC, SP, SR, pops and pushes.
 
 ghost use Rattle.std.specs.Prelude.{◌≡◌, ◌<◌, ◌≤◌, ◌↔◌, IsTrue};
+ghost use Rattle.code_model.specs.declared.object.TheConstants.{CODE_WORDS_MAX};
 ghost use Rattle.code_model.specs.declared.guards.GuardKind.TheVariants as kind;
 ghost use Rattle.static_checker.specs.Cursors.{IsCursor};
 ghost use Rattle.code_model.specs.Rules.{WritesReg, IsImmediate, IsBranch, NamesFlags, ChangesFlags, ReadsStack, IsPushOrCall};
@@ -12,6 +13,7 @@ use crate::forms::{
 use code_model::guards::GuardKind;
 use code_model::object::Object;
 use msp_encode::instr::{Instr, Src};
+use msp_encode::registers::{PC, SP, SR};
 
 /// Tells whether a guard is of this kind.
 fn is_by(guard: Option<GuardKind>, by: GuardKind) -> bool
@@ -27,24 +29,24 @@ fn is_by(guard: Option<GuardKind>, by: GuardKind) -> bool
 pub fn breaks_pc(i: Instr) -> bool
     ensures { IsTrue result ↔ (WritesReg i 0 × (IsBranch i → ⊥)) }
 {
-    writes_reg(i, 0) && !is_branch(i)
+    writes_reg(i, PC) && !is_branch(i)
 }
 
 /// Tells whether SP is written without its guard.
 pub fn breaks_sp(i: Instr, guard: Option<GuardKind>) -> bool
     ensures { IsTrue result ↔ (WritesReg i 1 × (guard ≡ Some kind.Sp → ⊥)) }
 {
-    writes_reg(i, 1) && !is_by(guard, GuardKind::Sp)
+    writes_reg(i, SP) && !is_by(guard, GuardKind::Sp)
 }
 
 /// Tells whether more of SR than the flags is written.
 pub fn breaks_sr(o: &Object, cursor: Cursor, at: usize, i: Instr) -> bool
     requires cursor { IsCursor o.now.relocs cursor }
     requires order { cursor.at ≤ at }
-    requires within { at < 8192 }
+    requires within { at < CODE_WORDS_MAX }
     ensures { IsTrue result ↔ (WritesReg i 2 × (ChangesFlags o.now at i → ⊥)) }
 {
-    writes_reg(i, 2) && !changes_flags(o, cursor, at, i)
+    writes_reg(i, SR) && !changes_flags(o, cursor, at, i)
 }
 
 /// Tells whether the stack is popped without a guard.
@@ -71,7 +73,7 @@ pub fn is_branch(i: Instr) -> bool
             width,
             src,
             dst,
-        } => is_mov(op) && is_wide(width) && is_immediate(src) && dst_is(dst, 0),
+        } => is_mov(op) && is_wide(width) && is_immediate(src) && dst_is(dst, PC),
         _ => false,
     }
 }
@@ -87,7 +89,7 @@ fn is_immediate(src: Src) -> bool
 fn changes_flags(o: &Object, cursor: Cursor, at: usize, i: Instr) -> bool
     requires cursor { IsCursor o.now.relocs cursor }
     requires order { cursor.at ≤ at }
-    requires within { at < 8192 }
+    requires within { at < CODE_WORDS_MAX }
     ensures { IsTrue result ↔ ChangesFlags o.now at i }
 {
     match i {
@@ -102,7 +104,7 @@ fn changes_flags(o: &Object, cursor: Cursor, at: usize, i: Instr) -> bool
 fn names_flags(o: &Object, cursor: Cursor, at: usize, src: Src) -> bool
     requires cursor { IsCursor o.now.relocs cursor }
     requires order { cursor.at ≤ at }
-    requires within { at < 8192 }
+    requires within { at < CODE_WORDS_MAX }
     ensures { IsTrue result ↔ NamesFlags o.now at src }
 {
     match src {
@@ -117,7 +119,7 @@ fn reads_stack(i: Instr) -> bool
     ensures { IsTrue result ↔ ReadsStack i }
 {
     match i {
-        Instr::Two { src, .. } | Instr::One { src, .. } => pops(src, 1),
+        Instr::Two { src, .. } | Instr::One { src, .. } => pops(src, SP),
         _ => false,
     }
 }

@@ -9,6 +9,8 @@ use crate::spot::word_at;
 use code_model::guards::{GuardKind, Reach, Slot};
 use code_model::object::Object;
 use code_model::parts::RelKind;
+use kernel_model::entries::{STACK_FAULT, STORE_FAULT};
+use kernel_model::map::{STACK_LIMIT, STACK_TOP};
 
 /// The first word of each guard, `MOV SR,R5`.
 pub const FIRST_WORD: u16 = 0x4205;
@@ -36,7 +38,7 @@ macro_rules! region_slots {
             Slot::High($high),
             Slot::Word(0x2802),
             BRANCHES,
-            Slot::Word(0xF000),
+            Slot::Word(STORE_FAULT),
             RESTORES,
         ]
     };
@@ -54,33 +56,33 @@ static WIDE_SIX: [Slot; 13] = region_slots!(0xFFFA);
 static GROWTH: [Slot; 7] = [
     SAVES,
     Slot::Word(0x9211),
-    Slot::Word(0x0200),
+    Slot::Word(STACK_LIMIT),
     Slot::Word(0x2C02),
     BRANCHES,
-    Slot::Word(0xF002),
+    Slot::Word(STACK_FAULT),
     RESTORES,
 ];
 
 static POP: [Slot; 7] = [
     SAVES,
     Slot::Word(0x9182),
-    Slot::Word(0x0202),
+    Slot::Word(STACK_TOP),
     Slot::Word(0x2002),
     BRANCHES,
-    Slot::Word(0xF002),
+    Slot::Word(STACK_FAULT),
     RESTORES,
 ];
 
 static SP: [Slot; 10] = [
     SAVES,
     Slot::Word(0x9214),
-    Slot::Word(0x0200),
+    Slot::Word(STACK_LIMIT),
     Slot::Word(0x2803),
     Slot::Word(0x9482),
-    Slot::Word(0x0202),
+    Slot::Word(STACK_TOP),
     Slot::Word(0x2C02),
     BRANCHES,
-    Slot::Word(0xF002),
+    Slot::Word(STACK_FAULT),
     RESTORES,
 ];
 

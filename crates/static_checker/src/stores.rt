@@ -3,6 +3,7 @@
 ghost use Rattle.std.specs.Prelude.{◌≡◌, ◌<◌, ◌≤◌, ◌↔◌, IsTrue};
 ghost use Rattle.code_model.specs.Rules.{KeepsStores, IsMemoryDst, IsMemorySrc, WritesMemory, IsWildDst, IsWildSrc, WritesWild};
 ghost use Rattle.code_model.specs.Statics.{InStatic};
+ghost use Rattle.code_model.specs.declared.object.TheConstants.{CODE_WORDS_MAX};
 ghost use Rattle.static_checker.specs.Cursors.{IsCursor};
 ghost use Rattle.static_checker.specs.CodeUnits.{IsStoreGuard};
 
@@ -41,7 +42,7 @@ fn keeps_stores(kind: GuardKind) -> bool
 pub fn writes_wild(o: &Object, cursor: Cursor, at: usize, i: Instr) -> bool
     requires cursor { IsCursor o.now.relocs cursor }
     requires order { cursor.at ≤ at }
-    requires within { at < 8192 }
+    requires within { at < CODE_WORDS_MAX }
     ensures { IsTrue result ↔ WritesWild o.now at i }
 {
     match i {

@@ -1,6 +1,7 @@
 //! The rules on where code goes: targets of branches, calls and jumps, and the code's end.
 
 ghost use Rattle.std.specs.Prelude.{◌≡◌, ℕ, ◌+◌, ◌*◌, ◌<◌, ◌≤◌, ◌↔◌, IsTrue, length};
+ghost use Rattle.code_model.specs.declared.object.TheConstants.{CODE_WORDS_MAX};
 ghost use Rattle.code_model.specs.declared.parts.RelKind.TheVariants.{Code};
 ghost use Rattle.code_model.specs.Relocs.{HasReloc};
 ghost use Rattle.code_model.specs.Guards.{UnitStart, AreUnits};
@@ -12,8 +13,9 @@ use crate::forms::{is_call, is_jmp};
 use crate::marking::{is_marked, jump_place};
 use crate::registers::is_branch;
 use code_model::marks::Marks;
-use code_model::object::Object;
+use code_model::object::{CODE_BYTES_MAX, Object};
 use code_model::parts::{Kind, RelKind};
+use kernel_model::entries::{CALLS, EMITS, GOES, LEAVE, STACK_FAULT, STORE_FAULT, TICKS};
 use msp_encode::instr::{Instr, Src};
 
 /// Tells whether an instruction at a place is a branch or a call without an allowed target.
@@ -21,7 +23,7 @@ pub fn goes_astray(o: &Object, cursor: Cursor, units: &Marks, at: usize, i: Inst
     requires cursor { IsCursor o.now.relocs cursor }
     requires order { cursor.at ≤ at }
     requires units { AreUnits o.now units.now }
-    requires within { at < 8192 }
+    requires within { at < CODE_WORDS_MAX }
     ensures { IsTrue result ↔ GoesAstray o.now at i }
 {
     match i {
@@ -34,7 +36,7 @@ pub fn goes_astray(o: &Object, cursor: Cursor, units: &Marks, at: usize, i: Inst
 /// Tells whether an instruction at a place is a jump to no unit start.
 pub fn jumps_astray(o: &Object, units: &Marks, at: usize, i: Instr) -> bool
     requires units { AreUnits o.now units.now }
-    requires within { at < 8192 }
+    requires within { at < CODE_WORDS_MAX }
     ensures { IsTrue result ↔ JumpsAstray o.now at i }
 {
     match i {
@@ -100,7 +102,7 @@ fn is_unit_offset(o: &Object, units: &Marks, word: u16) -> bool
     if word % 2 == 1 {
         return false;
     }
-    if 16384 <= word {
+    if CODE_BYTES_MAX <= word {
         return false;
     }
     is_marked(units, usize::from(word / 2))
@@ -109,7 +111,7 @@ fn is_unit_offset(o: &Object, units: &Marks, word: u16) -> bool
 /// Tells whether a jump at a place goes to a unit start.
 fn is_jump_target(o: &Object, units: &Marks, at: usize, offset: i16) -> bool
     requires units { AreUnits o.now units.now }
-    requires within { at < 8192 }
+    requires within { at < CODE_WORDS_MAX }
     ensures { IsTrue result ↔ IsJumpTarget o.now at offset }
 {
     match jump_place(at, offset) {
@@ -123,8 +125,8 @@ fn is_jump_entry(kind: Kind, entry: u16) -> bool
     ensures { IsTrue result ↔ IsJumpEntry kind entry }
 {
     match kind {
-        Kind::App => matches!(entry, 0xF000 | 0xF002 | 0xF004),
-        Kind::Module => matches!(entry, 0xF000 | 0xF002 | 0xF004 | 0xF026),
+        Kind::App => matches!(entry, STORE_FAULT | STACK_FAULT | GOES),
+        Kind::Module => matches!(entry, STORE_FAULT | STACK_FAULT | GOES | LEAVE),
     }
 }
 
@@ -133,7 +135,7 @@ fn is_call_entry(kind: Kind, entry: u16) -> bool
     ensures { IsTrue result ↔ IsCallEntry kind entry }
 {
     match kind {
-        Kind::App => 0xF006 <= entry && entry <= 0xF024 && entry % 2 == 0,
-        Kind::Module => entry == 0xF006 || entry == 0xF014,
+        Kind::App => CALLS <= entry && entry <= EMITS && entry % 2 == 0,
+        Kind::Module => entry == CALLS || entry == TICKS,
     }
 }

@@ -2,6 +2,7 @@
 use Rattle.std.proofs.Common.{◌≡◌, ◌≢◌, ℕ, ◌+◌, ◌*◌, ◌<◌, Bool, true, false, cond, List, [], ◌∷◌, ◌++◌, length, refl, ap, sym, ◌∙◌, subst, ⊎_elim, arith, All}
 use Rattle.std.proofs.lemmas.Bool.{cases_eq, eqb-true, eqb-false}
 use Rattle.std.proofs.lemmas.List.{get_or-set_same, get_or-set_other}
+use Rattle.kernel_model.specs.declared.states.TheConstants.{ASLEEP}
 use Rattle.kernel_model.specs.Kernel.{Kernel, thread_at, with_thread, app_at, condition_at, with_condition, free_mutex}
 use Rattle.kernel_model.specs.Words.{none, free, running_state, on_mutex, on_condition, running, running_module, app_of, number_of, identity, none_running, owner_of, waiters_of}
 use Rattle.kernel_model.specs.Orderly.{IsThreadRow, IsLiveThread, IsMutex, IsOnCondition, IsOrderly}
@@ -132,7 +133,7 @@ running_rests k a n row h r e fields on waits =
 abbrev taken : Kernel → (i : ℕ) → Kernel
 taken k i = with_mutex_row k (own_app k) i (own_number k) (waiters_of k (own_app k) i)
 
-mutex_fields : (row : ThreadRow) (i : ℕ) → IsThreadRow row → row.state ≢ 3 → IsThreadRow (record row { state = on_mutex; object = i; mutex = 0 })
+mutex_fields : (row : ThreadRow) (i : ℕ) → IsThreadRow row → row.state ≢ ASLEEP → IsThreadRow (record row { state = on_mutex; object = i; mutex = 0 })
 mutex_fields row i old e = record {
   registers = old.registers;
   state = omega arith;

@@ -2,6 +2,7 @@
 use Rattle.std.proofs.Common.{◌≡◌, ◌≢◌, ℕ, ◌+◌, ◌-◌, ◌*◌, ◌<◌, Bool, true, false, cond, eqb, ltb, not, List, [], ◌∷◌, refl, ap, sym, ◌∙◌, subst, ⊎_elim, arith}
 use Rattle.std.proofs.lemmas.Bool.{cases_eq, cond-true, cond-false, cond_both, eqb-false, lt-ltb, not_from_true, not_from_false}
 use Rattle.std.proofs.lemmas.List.{get_or-set_same}
+use Rattle.kernel_model.specs.declared.map.TheConstants.{KERNEL_LIMIT, KERNEL_TOP}
 use Rattle.kernel_model.specs.Kernel.{Kernel, app_at, module_at, free_app}
 use Rattle.kernel_model.specs.Words.{none, live, free, running, running_module, app_of, number_of, none_running, limit_of, top_of, thread_runs}
 use Rattle.kernel_model.specs.Orderly.{only, IsOrderly}
@@ -112,10 +113,10 @@ settled_running : (k : Kernel) (a : ℕ) (how : AppEnd) → IsSettledKernel k �
 settled_running k a how s h alive m e =
     let limit : k.cur_lim ≡ limit_of (stopped k a how) =
     s.orderly.limit
-    ∙ sym (ap (λ (r : AppRow). cond (thread_runs k) (r.lo + r.z + number_of (running k) * r.stack + 6) 0x1006) (runner_app k a how e)) in
+    ∙ sym (ap (λ (r : AppRow). cond (thread_runs k) (r.lo + r.z + number_of (running k) * r.stack + 6) KERNEL_LIMIT) (runner_app k a how e)) in
     let top : k.cur_top ≡ top_of (stopped k a how) =
     s.orderly.top
-    ∙ sym (ap (λ (r : AppRow). cond (thread_runs k) (r.lo + r.z + number_of (running k) * r.stack + r.stack) 0x1100) (runner_app k a how e)) in
+    ∙ sym (ap (λ (r : AppRow). cond (thread_runs k) (r.lo + r.z + number_of (running k) * r.stack + r.stack) KERNEL_TOP) (runner_app k a how e)) in
     settled_stopped k a how (running k) k.cur_lim k.cur_top s h alive
     (orderly_lost k (stopped k a how) (is_of a) s.orderly
     (lost_by_end k a how (running k) k.cur_lim k.cur_top s.orderly h m (only_stays a (running k) e) limit top))

@@ -1,6 +1,7 @@
 -- Where a thread stands says its state, and what that says of the running thread, of ready ones and of free ones.
 use Rattle.std.proofs.Common.{◌≡◌, ℕ, ◌<◌, ◌≤◌, zero, suc, List, [], ◌∷◌, eqb, refl, ap, sym, ◌∙◌, subst, arith, Contains}
 use Rattle.std.proofs.lemmas.Bool.{ne_eqb, cond-false}
+use Rattle.kernel_model.specs.declared.states.TheConstants.{FREE}
 use Rattle.kernel_model.specs.Kernel.{Kernel, thread_at}
 use Rattle.kernel_model.specs.Words.{none, ready, running_state, asleep, on_mutex, on_condition, on_line, calling, running}
 use Rattle.kernel_model.specs.Orderly.{Spot, spot, spot_of, only, listed, runner, IsOrderly, IsLiveThread}
@@ -82,7 +83,7 @@ ready_is k h t c =
       not_asleep = λ d. let same : Asleep ≡ Ready = sym (h.placed.nowhere_else Asleep t d).1 ∙ stands.1 in cc;
     }
 
-pub free_is : (k : Kernel) → IsOrderly k → (t : ℕ) → (thread_at k t).state ≡ 0 → IsUnlisted k t
+pub free_is : (k : Kernel) → IsOrderly k → (t : ℕ) → (thread_at k t).state ≡ FREE → IsUnlisted k t
 free_is k h t e =
     let stands : spot_of k t ≡ Nowhere = spot_nowhere _ _ _ e in
     record {

@@ -1,5 +1,6 @@
 -- What an orderly kernel says of the running thread and of ready ones.
 use Rattle.std.specs.Prelude.{◌≡◌, ℕ, ◌<◌, ◌≤◌, length, Contains}
+use Rattle.kernel_model.specs.declared.states.TheConstants.{FREE}
 use Rattle.kernel_model.specs.Kernel.{Kernel, thread_at, app_at}
 use Rattle.kernel_model.specs.Words.{live, ready, running_state, running, app_of, number_of, priority_of}
 use Rattle.kernel_model.specs.Orderly.{IsOrderly}
@@ -36,4 +37,4 @@ abbrev pub ReadyLaw : Type 0
 ReadyLaw = (k : Kernel) → IsOrderly k → (t : ℕ) → Contains k.ready t → IsReady k t
 
 abbrev pub UnlistedLaw : Type 0
-UnlistedLaw = (k : Kernel) → IsOrderly k → (t : ℕ) → (thread_at k t).state ≡ 0 → IsUnlisted k t
+UnlistedLaw = (k : Kernel) → IsOrderly k → (t : ℕ) → (thread_at k t).state ≡ FREE → IsUnlisted k t

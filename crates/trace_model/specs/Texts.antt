@@ -8,6 +8,7 @@ use Rattle.trace_model.specs.declared.records.FaultKind.{FaultKind}
 use Rattle.trace_model.specs.declared.records.FaultKind.TheVariants as fault
 use Rattle.trace_model.specs.declared.records.Record.{Record}
 use Rattle.trace_model.specs.declared.records.Record.TheVariants as record_of
+use Rattle.kernel_model.specs.declared.entries.TheConstants.{BROADCAST, CALLS, GOES, IDENTITY, LINE, LOCK, MODULE_CALL, PRIORITY, SIGNAL, SLEEP, SPAWN, TICKS, UNLOCK, WAIT, YIELD}
 
 -- ---- parts of a line
 
@@ -35,21 +36,21 @@ kind_text fault.Budget = codes "budget"
 -- the name of an entry that has no line of its own
 abbrev pub entry_name : ℕ → List ℕ
 entry_name e =
-    if e == 0xF004 then codes "jump"
-    else (if e == 0xF006 then codes "call"
-    else (if e == 0xF00A then codes "spawn"
-    else (if e == 0xF00C then codes "yield"
-    else (if e == 0xF00E then codes "sleep"
-    else (if e == 0xF010 then codes "priority"
-    else (if e == 0xF012 then codes "self"
-    else (if e == 0xF014 then codes "ticks"
-    else (if e == 0xF016 then codes "lock"
-    else (if e == 0xF018 then codes "unlock"
-    else (if e == 0xF01A then codes "wait"
-    else (if e == 0xF01C then codes "signal"
-    else (if e == 0xF01E then codes "broadcast"
-    else (if e == 0xF020 then codes "line"
-    else (if e == 0xF022 then codes "module" else codes "leave"))))))))))))))
+    if e == GOES then codes "jump"
+    else (if e == CALLS then codes "call"
+    else (if e == SPAWN then codes "spawn"
+    else (if e == YIELD then codes "yield"
+    else (if e == SLEEP then codes "sleep"
+    else (if e == PRIORITY then codes "priority"
+    else (if e == IDENTITY then codes "self"
+    else (if e == TICKS then codes "ticks"
+    else (if e == LOCK then codes "lock"
+    else (if e == UNLOCK then codes "unlock"
+    else (if e == WAIT then codes "wait"
+    else (if e == SIGNAL then codes "signal"
+    else (if e == BROADCAST then codes "broadcast"
+    else (if e == LINE then codes "line"
+    else (if e == MODULE_CALL then codes "module" else codes "leave"))))))))))))))
 
 abbrev pub write_text : ℕ × ℕ → List ℕ
 write_text w = space ++ hex_word w.0 ++ codes ":" ++ hex_byte w.1

@@ -3,12 +3,13 @@ use Rattle.std.specs.Prelude.{ℕ, Bool, ◌==◌, IsTrue, ⊤, List, [], ◌∷
 use Rattle.std.specs.List.{list_any}
 use Rattle.trace_model.specs.declared.records.Record.{Record}
 use Rattle.trace_model.specs.declared.records.Record.TheVariants as record_of
+use Rattle.kernel_model.specs.declared.entries.TheConstants.{BROADCAST, CALLS, GOES, IDENTITY, LEAVE, LINE, LOCK, MODULE_CALL, PRIORITY, SIGNAL, SLEEP, SPAWN, TICKS, UNLOCK, WAIT, YIELD}
 
 -- the entries that have a name: the two checks, exit and emit have lines of their own
 abbrev pub named_entries : List ℕ
 named_entries =
-    0xF004 ∷ 0xF006 ∷ 0xF00A ∷ 0xF00C ∷ 0xF00E ∷ 0xF010 ∷ 0xF012 ∷ 0xF014 ∷
-    0xF016 ∷ 0xF018 ∷ 0xF01A ∷ 0xF01C ∷ 0xF01E ∷ 0xF020 ∷ 0xF022 ∷ 0xF026 ∷ []
+    GOES ∷ CALLS ∷ SPAWN ∷ YIELD ∷ SLEEP ∷ PRIORITY ∷ IDENTITY ∷ TICKS ∷
+    LOCK ∷ UNLOCK ∷ WAIT ∷ SIGNAL ∷ BROADCAST ∷ LINE ∷ MODULE_CALL ∷ LEAVE ∷ []
 
 abbrev pub has_name : (entry : ℕ) → Bool
 has_name e = list_any (λ n. n == e) named_entries

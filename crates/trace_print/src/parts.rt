@@ -5,6 +5,10 @@ ghost use Rattle.line_text.specs.Hexadecimal.{hex_digit};
 ghost use Rattle.trace_model.specs.Texts.{hex_byte, who_text, kind_text, entry_name, write_text, writes_text, head};
 ghost use Rattle.trace_print.specs.Named.{has_name};
 
+use kernel_model::entries::{
+    BROADCAST, CALLS, GOES, IDENTITY, LEAVE, LINE, LOCK, MODULE_CALL, PRIORITY, SIGNAL, SLEEP,
+    SPAWN, TICKS, UNLOCK, WAIT, YIELD,
+};
 use line_text::line::Line as Text;
 use machine_model::writes::Writes;
 use trace_model::records::{FaultKind, Who};
@@ -63,22 +67,22 @@ pub(crate) fn entry_word(entry: u16) -> &'static [u8]
     ensures size { length result.now ≤ 9 }
 {
     match entry {
-        0xF004 => b"jump",
-        0xF006 => b"call",
-        0xF00A => b"spawn",
-        0xF00C => b"yield",
-        0xF00E => b"sleep",
-        0xF010 => b"priority",
-        0xF012 => b"self",
-        0xF014 => b"ticks",
-        0xF016 => b"lock",
-        0xF018 => b"unlock",
-        0xF01A => b"wait",
-        0xF01C => b"signal",
-        0xF01E => b"broadcast",
-        0xF020 => b"line",
-        0xF022 => b"module",
-        0xF026 => b"leave",
+        GOES => b"jump",
+        CALLS => b"call",
+        SPAWN => b"spawn",
+        YIELD => b"yield",
+        SLEEP => b"sleep",
+        PRIORITY => b"priority",
+        IDENTITY => b"self",
+        TICKS => b"ticks",
+        LOCK => b"lock",
+        UNLOCK => b"unlock",
+        WAIT => b"wait",
+        SIGNAL => b"signal",
+        BROADCAST => b"broadcast",
+        LINE => b"line",
+        MODULE_CALL => b"module",
+        LEAVE => b"leave",
         _ => unreachable!(),
     }
 }

@@ -22,6 +22,7 @@ use Rattle.unit_laws.proofs.Guards.{growth-ends}
 use Rattle.unit_laws.proofs.Sizes.{source-small, after-context}
 use Rattle.unit_laws.proofs.IntoR4.{source-held, after-held, passed-held, moves}
 use Rattle.unit_laws.proofs.ComputedUnits.{first-even, halted, set-held}
+use Rattle.kernel_model.specs.declared.entries.TheConstants.{CALLS, STACK_FAULT}
 
 -- what a call of t does, where PC behind it is p
 abbrev pub calling : (b : List ℕ) → (p t sr x y : ℕ) → Effect
@@ -51,23 +52,23 @@ calls-source m r past n s a x y h f g e b l t =
     ∙ ap (λ (k : ℕ). calling (after_source Wide s r) past k (reg r 2) x y) (omega (arith, t))))))
 
 -- `CALL #F006` ends the unit
-calls-end : (m r q : List ℕ) (first past at n k : ℕ) (s : Src) (x y : ℕ) → IsAtFirst m r first past → SrcFits s → SrcFree s → at % 2 ≡ 0 → past ≡ at + 4 → 2 * n ≤ past → IsFetched m at (instr.One Call Wide (src.Immediate 0xF006)) 2
-    → Runs m first past k q (held (after_source Wide s r) at (reg r 2) x y) → RunsUnit m first past q (spread_effect (entering (ended past m r (instr.One Call Wide s) n) 0xF006) x y)
+calls-end : (m r q : List ℕ) (first past at n k : ℕ) (s : Src) (x y : ℕ) → IsAtFirst m r first past → SrcFits s → SrcFree s → at % 2 ≡ 0 → past ≡ at + 4 → 2 * n ≤ past → IsFetched m at (instr.One Call Wide (src.Immediate CALLS)) 2
+    → Runs m first past k q (held (after_source Wide s r) at (reg r 2) x y) → RunsUnit m first past q (spread_effect (entering (ended past m r (instr.One Call Wide s) n) CALLS) x y)
 unfolding set_reg
 calls-end m r q first past at n k s x y h f a e g b fetched run =
-    let source = calls-source m r past n s 0xF006 x y h.context f a (omega (arith, e, g)) b (omega (arith, h.below)) refl in
+    let source = calls-source m r past n s CALLS x y h.context f a (omega (arith, e, g)) b (omega (arith, h.below)) refl in
     record {
       steps = k;
       before = held (after_source Wide s r) at (reg r 2) x y;
       runs = run;
-      instr = instr.One Call Wide (src.Immediate 0xF006);
+      instr = instr.One Call Wide (src.Immediate CALLS);
       words = 2;
       fetched = fetched;
-      last = calls-place 0xF006 m (after_source Wide s r) at past (reg r 2) x y e g (omega (arith, h.below)) (omega arith) ∙ source;
+      last = calls-place CALLS m (after_source Wide s r) at past (reg r 2) x y e g (omega (arith, h.below)) (omega arith) ∙ source;
       leaves = λ i. out (subst (λ (d : Effect). IsInside first past (reg d.context 0)) (sym source) i);
     }
   where
-    out : IsInside first past 0xF006 → ⊥
+    out : IsInside first past CALLS → ⊥
     out i = omega (arith, i.1, h.below)
 
 pub callee-unit : CalleeUnitLaw
@@ -82,8 +83,8 @@ callee-unit m r first past s n h fetched some words last e f a steps =
     let context : IsContext q = held-context b at (reg r 2) v (reg r 5) (after-context Wide s r h.context) (omega (arith, even-first)) (omega (arith, e, h.below)) (h.context.small 2) (source-small Wide s 0 m r h.memory) (h.context.small 5) in
     let guard = growth-ends m q first past at record { memory = h.memory; context = context; pc = refl; words = words; begins = omega arith; within = omega (arith, e); below = h.below } in
     let sp : reg b 1 ≡ reg r 1 = after-other Wide s r 1 steps in
-    let call-at : IsFetched m (at + 14) (instr.One Call Wide (src.Immediate 0xF006)) 2 = subst (λ (p : ℕ). IsFetched m p (instr.One Call Wide (src.Immediate 0xF006)) 2) (omega arith) last in
+    let call-at : IsFetched m (at + 14) (instr.One Call Wide (src.Immediate CALLS)) 2 = subst (λ (p : ℕ). IsFetched m p (instr.One Call Wide (src.Immediate CALLS)) 2) (omega arith) last in
     record {
       goes = λ p. record { y = reg r 2; runs = follow m first past 1 r q _ run (calls-end m r q first past (at + 14) n 4 s v (reg r 2) h f a (omega (arith, even-first)) (omega (arith, e)) (omega (arith, e)) call-at (guard.passes (omega (arith, p, sp)))) };
-      halts = λ p. halted m r b first past 1 at (reg r 2) v (reg r 5) 0xF002 v (same-self (reg r 2)) run (guard.stops (omega (arith, p, sp)));
+      halts = λ p. halted m r b first past 1 at (reg r 2) v (reg r 5) STACK_FAULT v (same-self (reg r 2)) run (guard.stops (omega (arith, p, sp)));
     }

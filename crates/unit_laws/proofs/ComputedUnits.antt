@@ -26,6 +26,7 @@ use Rattle.unit_laws.proofs.Guards.{pop-ends}
 use Rattle.unit_laws.proofs.GuardedUnits.{stopped}
 use Rattle.unit_laws.proofs.Sizes.{source-small, after-context}
 use Rattle.unit_laws.proofs.IntoR4.{to-register, moves}
+use Rattle.kernel_model.specs.declared.entries.TheConstants.{FIRST_ENTRY, GOES, STACK_FAULT}
 
 -- ---- where a unit begins
 
@@ -67,24 +68,24 @@ entered m r past n s a x y h f g e b l t =
     ∙ ap (λ (p : ℕ). silent (held (after_source Wide s r) p (reg r 2) x y)) (omega (arith, t))))
 
 -- `MOV src,R4` and `MOV #F004,PC`, from an address in the unit on
-computed-runs : (m r : List ℕ) (first past at next n : ℕ) (s : Src) (x y : ℕ) → IsContext r → IsMemory m → first ≤ at → at % 2 ≡ 0 → next ≡ at + 2 * n → past ≡ next + 4 → past ≤ 0xF000 → x < 65536 → y < 65536
-    → SrcFits s → SrcFree s → IsFetched m at (instr.Two Mov Wide s (dst.Reg 4)) n → IsFetched m next (branch 0xF004) 2
-    → RunsUnit m first past (held r at (reg r 2) x y) (silent (held (after_source Wide s r) 0xF004 (reg r 2) (source_value Wide s 0 m r) y))
+computed-runs : (m r : List ℕ) (first past at next n : ℕ) (s : Src) (x y : ℕ) → IsContext r → IsMemory m → first ≤ at → at % 2 ≡ 0 → next ≡ at + 2 * n → past ≡ next + 4 → past ≤ FIRST_ENTRY → x < 65536 → y < 65536
+    → SrcFits s → SrcFree s → IsFetched m at (instr.Two Mov Wide s (dst.Reg 4)) n → IsFetched m next (branch GOES) 2
+    → RunsUnit m first past (held r at (reg r 2) x y) (silent (held (after_source Wide s r) GOES (reg r 2) (source_value Wide s 0 m r) y))
 computed-runs m r first past at next n s x y h mem b e g j l u w f a fetched last =
     let q = held (after_source Wide s r) next (reg r 2) (source_value Wide s 0 m r) y in
     let some : 1 ≤ n = some-words m at (instr.Two Mov Wide s (dst.Reg 4)) n fetched in
     let run : Runs m first past 1 (held r at (reg r 2) x y) q = moves m r first past at next n s x y h f a e g some b (omega (arith, j)) l fetched in
-    branch-ends 0xF004 m (after_source Wide s r) first past 1 next (reg r 2) (source_value Wide s 0 m r) y (held r at (reg r 2) x y) (after-context Wide s r h) refl (omega arith) (omega (arith, l))
+    branch-ends GOES m (after_source Wide s r) first past 1 next (reg r 2) (source_value Wide s 0 m r) y (held r at (reg r 2) x y) (after-context Wide s r h) refl (omega arith) (omega (arith, l))
     (omega (arith, e, g)) (omega (arith, j)) (h.small 2) (source-small Wide s 0 m r mem) w last run
 
 pub computed-unit : ComputedUnitLaw
 computed-unit m r first past s n h fetched last e f a =
     let even-first = first-even m r first past h in
     let run = computed-runs m r first past first (first + 2 * n) n s (reg r 4) (reg r 5) h.context h.memory (omega arith) even-first refl (omega (arith, e)) h.below (h.context.small 4) (h.context.small 5) f a fetched last in
-    let from = subst (λ (q : List ℕ). RunsUnit m first past q (silent (held (after_source Wide s r) 0xF004 (reg r 2) (source_value Wide s 0 m r) (reg r 5)))) (as_held r first h.context h.pc) run in
+    let from = subst (λ (q : List ℕ). RunsUnit m first past q (silent (held (after_source Wide s r) GOES (reg r 2) (source_value Wide s 0 m r) (reg r 5)))) (as_held r first h.context h.pc) run in
     record {
       y = reg r 5;
-      runs = subst (RunsUnit m first past r) (entered m r past n s 0xF004 (source_value Wide s 0 m r) (reg r 5) h.context f a (omega (arith, e, even-first)) (omega (arith, e)) (omega (arith, h.below)) refl) from;
+      runs = subst (RunsUnit m first past r) (entered m r past n s GOES (source_value Wide s 0 m r) (reg r 5) h.context f a (omega (arith, e, even-first)) (omega (arith, e)) (omega (arith, h.below)) refl) from;
     }
 
 -- ---- a return
@@ -102,8 +103,8 @@ return-unit m r first past h words fetched last e =
     let target = source_value Wide (src.AutoInc 1) 0 m r in
     let run = computed-runs m r first past (first + 14) (first + 16) 1 (src.AutoInc 1) (reg r 4) (reg r 2) h.context h.memory (omega arith) (omega (arith, even-first)) (omega arith) (omega (arith, e)) h.below
     (h.context.small 4) (h.context.small 2) popped-fits popped-free fetched last in
-    let same = entered m r past 1 (src.AutoInc 1) 0xF004 target (reg r 2) h.context popped-fits popped-free (omega (arith, e, even-first)) (omega (arith, e)) (omega (arith, h.below)) refl in
+    let same = entered m r past 1 (src.AutoInc 1) GOES target (reg r 2) h.context popped-fits popped-free (omega (arith, e, even-first)) (omega (arith, e)) (omega (arith, h.below)) refl in
     record {
       goes = λ p. record { y = reg r 2; runs = follow m first past 4 r (held r (first + 14) (reg r 2) (reg r 4) (reg r 2)) _ (guard.passes p) (subst (RunsUnit m first past (held r (first + 14) (reg r 2) (reg r 4) (reg r 2))) same run) };
-      halts = λ p. stopped m r first past 0xF002 (reg r 4) (guard.stops p);
+      halts = λ p. stopped m r first past STACK_FAULT (reg r 4) (guard.stops p);
     }

@@ -26,6 +26,7 @@ use Rattle.unit_laws.proofs.Guards.{store-ends, growth-ends, pop-ends}
 use Rattle.unit_laws.proofs.Guarded.{set-length, reg-other, held-spread, guarded, through}
 use Rattle.unit_laws.proofs.AtR4.{at-r4}
 use Rattle.unit_laws.proofs.GoingOn.{pc-set, goes-on}
+use Rattle.kernel_model.specs.declared.entries.TheConstants.{STACK_FAULT, STORE_FAULT}
 
 -- a guard that stops ends the unit at its entry
 pub stopped : (m r : List ℕ) (first past entry x : ℕ) → Stops m r first past entry x → Halts m r first past entry r
@@ -54,7 +55,7 @@ growth-unit m r first past i n g w f e b a out =
     let ends = growth-ends m r first past first (at-guard m r first past _ g w (omega (arith, e, b))) in
     record {
       goes = λ p. followed m r first past 4 (first + 14) (reg r 4) i n g.context (omega (arith, g.pc, g.context.pc_even)) (omega (arith, e)) (ends.passes p) a f out;
-      halts = λ p. stopped m r first past 0xF002 (reg r 4) (ends.stops p);
+      halts = λ p. stopped m r first past STACK_FAULT (reg r 4) (ends.stops p);
     }
 
 pub pop-unit : PopUnitLaw
@@ -62,7 +63,7 @@ pop-unit m r first past i n g w f e b a out =
     let ends = pop-ends m r first past first (at-guard m r first past _ g w (omega (arith, e, b))) in
     record {
       goes = λ p. followed m r first past 4 (first + 14) (reg r 4) i n g.context (omega (arith, g.pc, g.context.pc_even)) (omega (arith, e)) (ends.passes p) a f out;
-      halts = λ p. stopped m r first past 0xF002 (reg r 4) (ends.stops p);
+      halts = λ p. stopped m r first past STACK_FAULT (reg r 4) (ends.stops p);
     }
 
 -- ---- a store guard
@@ -167,7 +168,7 @@ store-unit m r first past n x lo hi op w s d k g f e free cell steps =
     record {
       goes = λ p. replaced m r first past 8 (first + 26) a (instr.Two op w s (dst.Indexed 4 0)) (instr.Two op w s d) k k h (omega (arith, even_first)) (omega (arith, e, even_first)) (omega (arith, g.at.below)) (omega (arith, e))
           (ends.passes p.0 p.1) f last (free, cell-free d n x g.register cell);
-      halts = λ p. stopped m r first past 0xF000 a (ends.stops p);
+      halts = λ p. stopped m r first past STORE_FAULT a (ends.stops p);
     }
 
 pub change-unit : ChangeUnitLaw
@@ -182,5 +183,5 @@ change-unit m r first past n x lo hi op w s k g f e c cell b t =
     record {
       goes = λ p. replaced m r first past 8 (first + 26) a (instr.One op w (src.Indirect 4)) (instr.One op w s) 1 k h (omega (arith, even_first)) (omega (arith, e, even_first)) (omega (arith, g.at.below)) (omega (arith, e, t))
           (ends.passes p.0 p.1) f last (change-goes-on op w s c (operand-free s n x g.register cell));
-      halts = λ p. stopped m r first past 0xF000 a (ends.stops p);
+      halts = λ p. stopped m r first past STORE_FAULT a (ends.stops p);
     }

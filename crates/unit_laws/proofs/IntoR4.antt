@@ -23,6 +23,7 @@ use Rattle.unit_laws.specs.Rows.{IsFree, SrcFree}
 use Rattle.unit_laws.proofs.Contexts.{as_held}
 use Rattle.unit_laws.proofs.Frame.{source-spread, two_from, effect_of}
 use Rattle.unit_laws.proofs.Guarded.{reg-other, held-spread}
+use Rattle.kernel_model.specs.declared.entries.TheConstants.{FIRST_ENTRY}
 
 -- ---- a source that a unit may move
 
@@ -135,7 +136,7 @@ into-r4 op w s n m r at x y h f a t e l = to-register op w s 4 n m r at x y h f 
 -- ---- as a step inside a unit
 
 pub operates : (m r : List ℕ) (first past at next n : ℕ) (op : Op2) (w : Width) (s : Src) (x y : ℕ) → IsContext r → SrcFits s → SrcFree s → writes op ≡ true → at % 2 ≡ 0 → next ≡ at + 2 * n → 1 ≤ n
-    → first ≤ at → next < past → past ≤ 0xF000 → IsFetched m at (instr.Two op w s (dst.Reg 4)) n
+    → first ≤ at → next < past → past ≤ FIRST_ENTRY → IsFetched m at (instr.Two op w s (dst.Reg 4)) n
     → Runs m first past 1 (held r at (reg r 2) x y) (let o = alu op w (source_value w s 0 m r) (low w x) (reg r 2) in held (after_source w s r) next o.status o.value y)
 operates m r first past at next n op w s x y h f a t e g some b i l fetched =
     let o = alu op w (source_value w s 0 m r) (low w x) (reg r 2) in
@@ -145,7 +146,7 @@ operates m r first past at next n op w s x y h f a t e g some b i l fetched =
     Goes 0 c q q (instr.Two op w s (dst.Reg 4)) n fetched does-so (omega (arith, some, b, g), i) (Stays q)
 
 pub moves : (m r : List ℕ) (first past at next n : ℕ) (s : Src) (x y : ℕ) → IsContext r → SrcFits s → SrcFree s → at % 2 ≡ 0 → next ≡ at + 2 * n → 1 ≤ n
-    → first ≤ at → next < past → past ≤ 0xF000 → IsFetched m at (instr.Two Mov Wide s (dst.Reg 4)) n
+    → first ≤ at → next < past → past ≤ FIRST_ENTRY → IsFetched m at (instr.Two Mov Wide s (dst.Reg 4)) n
     → Runs m first past 1 (held r at (reg r 2) x y) (held (after_source Wide s r) next (reg r 2) (source_value Wide s 0 m r) y)
 unfolding alu
 moves m r first past at next n s x y h f a e g some b i l fetched = operates m r first past at next n Mov Wide s x y h f a refl e g some b i l fetched

@@ -17,6 +17,7 @@ use Rattle.std.specs.Prelude.{◌==◌}
 use Rattle.std.proofs.lemmas.Bool.Decides.{nat_tests}
 use Rattle.unit_laws.specs.Running.{held, silent}
 use Rattle.unit_laws.specs.Lines.{Saves, Loads, Adds, Compares, ComparesSp, ComparesTop, ComparesNew, ComparesNewTop, Jumps, Branches, Restores, instr_of, IsIndexed, compared, LineLaw}
+use Rattle.kernel_model.specs.declared.map.TheConstants.{STACK_LIMIT, STACK_TOP}
 
 -- silent steps to the same four registers
 same : (r : List ℕ) (p q s t x v y w : ℕ) → p ≡ q → s ≡ t → x ≡ v → y ≡ w → silent (held r p s x y) ≡ silent (held r q t v w)
@@ -73,19 +74,19 @@ compares-does : (v : ℕ) (m r : List ℕ) (pc sr x y : ℕ) → does m (held r 
 unfolding does two set_reg source_value after_source place_to value_in put_context put_pairs
 compares-does v m r pc sr x y = refl
 
-sp-does : (m r : List ℕ) (pc sr x y : ℕ) → does m (held r pc sr x y) (instr_of ComparesSp) 2 ≡ silent (held r (even (sum_of pc 4)) (compared (word_at m 0x0200) (reg r 1 % 65536) sr) x y)
+sp-does : (m r : List ℕ) (pc sr x y : ℕ) → does m (held r pc sr x y) (instr_of ComparesSp) 2 ≡ silent (held r (even (sum_of pc 4)) (compared (word_at m STACK_LIMIT) (reg r 1 % 65536) sr) x y)
 unfolding does two set_reg source_value after_source place_to value_in put_context put_pairs
 sp-does m r pc sr x y = refl
 
-top-does : (m r : List ℕ) (pc sr x y : ℕ) → does m (held r pc sr x y) (instr_of ComparesTop) 2 ≡ silent (held r (even (sum_of pc 4)) (compared (reg r 1 % 65536) (word_at m 0x0202) sr) x y)
+top-does : (m r : List ℕ) (pc sr x y : ℕ) → does m (held r pc sr x y) (instr_of ComparesTop) 2 ≡ silent (held r (even (sum_of pc 4)) (compared (reg r 1 % 65536) (word_at m STACK_TOP) sr) x y)
 unfolding does two set_reg source_value after_source place_to value_in put_context put_pairs
 top-does m r pc sr x y = refl
 
-new-does : (m r : List ℕ) (pc sr x y : ℕ) → does m (held r pc sr x y) (instr_of ComparesNew) 2 ≡ silent (held r (even (sum_of pc 4)) (compared (word_at m 0x0200) (x % 65536) sr) x y)
+new-does : (m r : List ℕ) (pc sr x y : ℕ) → does m (held r pc sr x y) (instr_of ComparesNew) 2 ≡ silent (held r (even (sum_of pc 4)) (compared (word_at m STACK_LIMIT) (x % 65536) sr) x y)
 unfolding does two set_reg source_value after_source place_to value_in put_context put_pairs
 new-does m r pc sr x y = refl
 
-new_top-does : (m r : List ℕ) (pc sr x y : ℕ) → does m (held r pc sr x y) (instr_of ComparesNewTop) 2 ≡ silent (held r (even (sum_of pc 4)) (compared (x % 65536) (word_at m 0x0202) sr) x y)
+new_top-does : (m r : List ℕ) (pc sr x y : ℕ) → does m (held r pc sr x y) (instr_of ComparesNewTop) 2 ≡ silent (held r (even (sum_of pc 4)) (compared (x % 65536) (word_at m STACK_TOP) sr) x y)
 unfolding does two set_reg source_value after_source place_to value_in put_context put_pairs
 new_top-does m r pc sr x y = refl
 
@@ -134,13 +135,13 @@ line-does (Adds v) m r pc sr x y h k t l = adds-does v m r pc sr x y ∙ same r 
 line-does (Compares v) m r pc sr x y h k t l = compares-does v m r pc sr x y ∙ same r _ _ _ _ _ _ _ _ (pc-on pc 4 k.pc_even refl l)
     (ap (λ (j : ℕ). compared j (x % 65536) sr) (small v t) ∙ ap (λ (j : ℕ). compared v j sr) (small x (k.small 4))) refl refl
 line-does ComparesSp m r pc sr x y h k t l = sp-does m r pc sr x y ∙ same r _ _ _ _ _ _ _ _ (pc-on pc 4 k.pc_even refl l)
-    (ap (λ (j : ℕ). compared (word_at m 0x0200) j sr) (small (reg r 1) (h.small 1))) refl refl
+    (ap (λ (j : ℕ). compared (word_at m STACK_LIMIT) j sr) (small (reg r 1) (h.small 1))) refl refl
 line-does ComparesTop m r pc sr x y h k t l = top-does m r pc sr x y ∙ same r _ _ _ _ _ _ _ _ (pc-on pc 4 k.pc_even refl l)
-    (ap (λ (j : ℕ). compared j (word_at m 0x0202) sr) (small (reg r 1) (h.small 1))) refl refl
+    (ap (λ (j : ℕ). compared j (word_at m STACK_TOP) sr) (small (reg r 1) (h.small 1))) refl refl
 line-does ComparesNew m r pc sr x y h k t l = new-does m r pc sr x y ∙ same r _ _ _ _ _ _ _ _ (pc-on pc 4 k.pc_even refl l)
-    (ap (λ (j : ℕ). compared (word_at m 0x0200) j sr) (small x (k.small 4))) refl refl
+    (ap (λ (j : ℕ). compared (word_at m STACK_LIMIT) j sr) (small x (k.small 4))) refl refl
 line-does ComparesNewTop m r pc sr x y h k t l = new_top-does m r pc sr x y ∙ same r _ _ _ _ _ _ _ _ (pc-on pc 4 k.pc_even refl l)
-    (ap (λ (j : ℕ). compared j (word_at m 0x0202) sr) (small x (k.small 4))) refl refl
+    (ap (λ (j : ℕ). compared j (word_at m STACK_TOP) sr) (small x (k.small 4))) refl refl
 line-does (Jumps c j) m r pc sr x y h k t l = jumps-does c j m r pc sr x y ∙ same r _ _ _ _ _ _ _ _ (jumps-pc (holds c sr) pc j k.pc_even l) refl refl refl
 line-does (Branches v) m r pc sr x y h k t l = branches-does v m r pc sr x y ∙ same r _ _ _ _ _ _ _ _ (omega (arith, t, l)) refl refl refl
 line-does Restores m r pc sr x y h k t l = restores-does m r pc sr x y ∙ same r _ _ _ _ _ _ _ _ (pc-on pc 2 k.pc_even refl l) (small y (k.small 5)) refl refl

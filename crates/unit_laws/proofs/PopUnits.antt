@@ -26,6 +26,7 @@ use Rattle.unit_laws.proofs.Guards.{pop-ends}
 use Rattle.unit_laws.proofs.IntoR4.{after-held, passed-held, moves}
 use Rattle.unit_laws.proofs.GuardedUnits.{stopped}
 use Rattle.unit_laws.proofs.ComputedUnits.{first-even, guard-first, set-held, popped-fits, popped-free}
+use Rattle.kernel_model.specs.declared.entries.TheConstants.{STACK_FAULT}
 
 -- ---- an operation from its source on
 
@@ -148,5 +149,5 @@ pop-into-unit m r first past op w d n h words popped fetched e some a =
     let unit = pops-end m r first past (first + 16) n op w d (reg r 2) h a (omega (arith, even-first)) (omega (arith, e)) fetched in
     record {
       goes = λ p. record { x = v; y = reg r 2; runs = follow m first past 4 r c _ (guard.passes p) (follow m first past 1 c q _ run unit) };
-      halts = λ p. stopped m r first past 0xF002 (reg r 4) (guard.stops p);
+      halts = λ p. stopped m r first past STACK_FAULT (reg r 4) (guard.stops p);
     }

@@ -25,6 +25,7 @@ use Rattle.unit_laws.proofs.Guards.{sp-ends}
 use Rattle.unit_laws.proofs.Sizes.{source-small, result-small, status-small, after-context}
 use Rattle.unit_laws.proofs.IntoR4.{to-register, moves, operates}
 use Rattle.unit_laws.proofs.ComputedUnits.{first-even, halted, set-held}
+use Rattle.kernel_model.specs.declared.entries.TheConstants.{STACK_FAULT}
 
 -- what `op src,SP` gives SR, as `new_sp` is what it gives SP
 abbrev pub new_sr : (m r : List ℕ) → Op2 → Width → Src → ℕ
@@ -101,5 +102,5 @@ set-sp-unit m r first past op w s n h taken fetched some words given e t f a ste
     let give : IsFetched m (at + 20) give_sp 1 = subst (λ (p : ℕ). IsFetched m p give_sp 1) (omega arith) given in
     record {
       goes = λ p. record { x = v; y = sr; runs = follow m first past 2 r q _ run (sets-end m r q first past (at + 20) n 6 op w s h t f a steps (omega (arith, even-first)) (omega (arith, e)) (omega (arith, e)) give (guard.passes p.0 p.1)) };
-      halts = λ p. halted m r b first past 2 at sr v (reg r 5) 0xF002 v (operation-same op w (source_value w s 0 m r) (low w (reg r 1)) (reg r 2)) run (guard.stops p);
+      halts = λ p. halted m r b first past 2 at sr v (reg r 5) STACK_FAULT v (operation-same op w (source_value w s 0 m r) (low w (reg r 1)) (reg r 2)) run (guard.stops p);
     }

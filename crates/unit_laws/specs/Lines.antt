@@ -16,6 +16,7 @@ use Rattle.msp_encode.specs.declared.instr.Cond.{Cond}
 use Rattle.msp_encode.specs.declared.instr.Instr.{Instr}
 use Rattle.msp_encode.specs.declared.instr.Instr.TheVariants as instr
 use Rattle.unit_laws.specs.Running.{held, silent}
+use Rattle.kernel_model.specs.declared.map.TheConstants.{STACK_LIMIT, STACK_TOP}
 
 pub data Line : Type 0 where
   -- `MOV SR,R5`, 4205
@@ -50,10 +51,10 @@ instr_of Saves = instr.Two Mov Wide (src.Reg 2) (dst.Reg 5)
 instr_of (Loads n) = instr.Two Mov Wide (load n) (dst.Reg 4)
 instr_of (Adds x) = instr.Two Add Wide (src.Immediate x) (dst.Reg 4)
 instr_of (Compares v) = instr.Two Cmp Wide (src.Immediate v) (dst.Reg 4)
-instr_of ComparesSp = instr.Two Cmp Wide (src.Absolute 0x0200) (dst.Reg 1)
-instr_of ComparesTop = instr.Two Cmp Wide (src.Reg 1) (dst.Absolute 0x0202)
-instr_of ComparesNew = instr.Two Cmp Wide (src.Absolute 0x0200) (dst.Reg 4)
-instr_of ComparesNewTop = instr.Two Cmp Wide (src.Reg 4) (dst.Absolute 0x0202)
+instr_of ComparesSp = instr.Two Cmp Wide (src.Absolute STACK_LIMIT) (dst.Reg 1)
+instr_of ComparesTop = instr.Two Cmp Wide (src.Reg 1) (dst.Absolute STACK_TOP)
+instr_of ComparesNew = instr.Two Cmp Wide (src.Absolute STACK_LIMIT) (dst.Reg 4)
+instr_of ComparesNewTop = instr.Two Cmp Wide (src.Reg 4) (dst.Absolute STACK_TOP)
 instr_of (Jumps c k) = instr.Jump c (pos k)
 instr_of (Branches v) = instr.Two Mov Wide (src.Immediate v) (dst.Reg 0)
 instr_of Restores = instr.Two Mov Wide (src.Reg 5) (dst.Reg 2)
@@ -112,10 +113,10 @@ sr_after Saves m r sr x y = sr
 sr_after (Loads n) m r sr x y = sr
 sr_after (Adds v) m r sr x y = (alu Add Wide v x sr).status
 sr_after (Compares v) m r sr x y = compared v x sr
-sr_after ComparesSp m r sr x y = compared (word_at m 0x0200) (reg r 1) sr
-sr_after ComparesTop m r sr x y = compared (reg r 1) (word_at m 0x0202) sr
-sr_after ComparesNew m r sr x y = compared (word_at m 0x0200) x sr
-sr_after ComparesNewTop m r sr x y = compared x (word_at m 0x0202) sr
+sr_after ComparesSp m r sr x y = compared (word_at m STACK_LIMIT) (reg r 1) sr
+sr_after ComparesTop m r sr x y = compared (reg r 1) (word_at m STACK_TOP) sr
+sr_after ComparesNew m r sr x y = compared (word_at m STACK_LIMIT) x sr
+sr_after ComparesNewTop m r sr x y = compared x (word_at m STACK_TOP) sr
 sr_after (Jumps c k) m r sr x y = sr
 sr_after (Branches v) m r sr x y = sr
 sr_after Restores m r sr x y = y

@@ -27,6 +27,8 @@ use Rattle.unit_laws.specs.Lines.{IsIndexed}
 use Rattle.unit_laws.specs.Guards.{WordsAt, store_words, growth_words, pop_words, sp_words}
 use Rattle.unit_laws.specs.Frame.{Avoids, InstrAvoids, spread_effect}
 use Rattle.unit_laws.specs.Guarded.{IsCell, IsCellOperand, Steps}
+use Rattle.kernel_model.specs.declared.map.TheConstants.{STACK_LIMIT, STACK_TOP}
+use Rattle.kernel_model.specs.declared.entries.TheConstants.{CALLS, FIRST_ENTRY, GOES, STACK_FAULT, STORE_FAULT}
 
 -- ---- operands that a unit may move
 
@@ -101,7 +103,7 @@ pub record IsAtFirst (m r : List ℕ) (first past : ℕ) : Type 0 where
   pub memory : IsMemory m
   pub context : IsContext r
   pub pc : reg r 0 ≡ first
-  pub below : past ≤ 0xF000
+  pub below : past ≤ FIRST_ENTRY
 
 -- `MOV #x,PC`
 abbrev pub branch : ℕ → Instr
@@ -150,8 +152,8 @@ JumpUnitLaw = (m r : List ℕ) (first past x : ℕ) (c : Cond) → IsAtFirst m r
 
 -- a computed jump
 abbrev pub ComputedUnitLaw : Type 0
-ComputedUnitLaw = (m r : List ℕ) (first past : ℕ) (s : Src) (n : ℕ) → IsAtFirst m r first past → IsFetched m first (instr.Two Mov Wide s (dst.Reg 4)) n → IsFetched m (first + 2 * n) (branch 0xF004) 2
-    → past ≡ first + (4 + 2 * n) → SrcFits s → SrcFree s → Hands m r first past (ended past m r (instr.Two Mov Wide s (dst.Reg 0)) n) 0xF004 (source_value Wide s 0 m r)
+ComputedUnitLaw = (m r : List ℕ) (first past : ℕ) (s : Src) (n : ℕ) → IsAtFirst m r first past → IsFetched m first (instr.Two Mov Wide s (dst.Reg 4)) n → IsFetched m (first + 2 * n) (branch GOES) 2
+    → past ≡ first + (4 + 2 * n) → SrcFits s → SrcFree s → Hands m r first past (ended past m r (instr.Two Mov Wide s (dst.Reg 0)) n) GOES (source_value Wide s 0 m r)
 
 -- ---- a store guard
 
@@ -175,13 +177,13 @@ pub record IsAtStore (m r : List ℕ) (first past n x lo hi : ℕ) : Type 0 wher
 abbrev pub StoreUnitLaw : Type 0
 StoreUnitLaw = (m r : List ℕ) (first past n x lo hi : ℕ) (op : Op2) (w : Width) (s : Src) (d : Dst) (k : ℕ) → IsAtStore m r first past n x lo hi
     → IsFetched m (first + 26) (instr.Two op w s (dst.Indexed 4 0)) k → past ≡ first + (26 + 2 * k) → SrcFree s → IsCell d n x → (Steps s n → ⊥)
-    → Checked m r first past 0xF000 r (IsIn lo hi (sum_of x (reg r n))) (IsOut lo hi (sum_of x (reg r n))) (Follows m r first past (ended past m r (instr.Two op w s d) k))
+    → Checked m r first past STORE_FAULT r (IsIn lo hi (sum_of x (reg r n))) (IsOut lo hi (sum_of x (reg r n))) (Follows m r first past (ended past m r (instr.Two op w s d) k))
 
 -- RRC, RRA, SWPB and SXT
 abbrev pub ChangeUnitLaw : Type 0
 ChangeUnitLaw = (m r : List ℕ) (first past n x lo hi : ℕ) (op : Op1) (w : Width) (s : Src) (k : ℕ) → IsAtStore m r first past n x lo hi
     → IsFetched m (first + 26) (instr.One op w (src.Indirect 4)) 1 → past ≡ first + 28 → changes op ≡ true → IsCellOperand s n x → 1 ≤ k → k ≤ 2
-    → Checked m r first past 0xF000 r (IsIn lo hi (sum_of x (reg r n))) (IsOut lo hi (sum_of x (reg r n))) (Follows m r first past (ended past m r (instr.One op w s) k))
+    → Checked m r first past STORE_FAULT r (IsIn lo hi (sum_of x (reg r n))) (IsOut lo hi (sum_of x (reg r n))) (Follows m r first past (ended past m r (instr.One op w s) k))
 
 -- ---- a growth guard
 
@@ -189,13 +191,13 @@ ChangeUnitLaw = (m r : List ℕ) (first past n x lo hi : ℕ) (op : Op1) (w : Wi
 abbrev pub GrowthUnitLaw : Type 0
 GrowthUnitLaw = (m r : List ℕ) (first past : ℕ) (i : Instr) (n : ℕ) → IsAtFirst m r first past → WordsAt m first 0 growth_words → IsFetched m (first + 14) i n → past ≡ first + (14 + 2 * n) → 1 ≤ n
     → InstrAvoids i → (IsInside first past (reg (ended past m r i n).context 0) → ⊥)
-    → Checked m r first past 0xF002 r (word_at m 0x0200 ≤ reg r 1) (reg r 1 < word_at m 0x0200) (Follows m r first past (ended past m r i n))
+    → Checked m r first past STACK_FAULT r (word_at m STACK_LIMIT ≤ reg r 1) (reg r 1 < word_at m STACK_LIMIT) (Follows m r first past (ended past m r i n))
 
 -- a computed call
 abbrev pub CalleeUnitLaw : Type 0
 CalleeUnitLaw = (m r : List ℕ) (first past : ℕ) (s : Src) (n : ℕ) → IsAtFirst m r first past → IsFetched m first (instr.Two Mov Wide s (dst.Reg 4)) n → 1 ≤ n → WordsAt m (first + 2 * n) 0 growth_words
-    → IsFetched m (first + (14 + 2 * n)) (instr.One Call Wide (src.Immediate 0xF006)) 2 → past ≡ first + (18 + 2 * n) → SrcFits s → SrcFree s → (Steps s 1 → ⊥)
-    → Checked m r first past 0xF002 (after_source Wide s r) (word_at m 0x0200 ≤ reg r 1) (reg r 1 < word_at m 0x0200) (Hands m r first past (ended past m r (instr.One Call Wide s) n) 0xF006 (source_value Wide s 0 m r))
+    → IsFetched m (first + (14 + 2 * n)) (instr.One Call Wide (src.Immediate CALLS)) 2 → past ≡ first + (18 + 2 * n) → SrcFits s → SrcFree s → (Steps s 1 → ⊥)
+    → Checked m r first past STACK_FAULT (after_source Wide s r) (word_at m STACK_LIMIT ≤ reg r 1) (reg r 1 < word_at m STACK_LIMIT) (Hands m r first past (ended past m r (instr.One Call Wide s) n) CALLS (source_value Wide s 0 m r))
 
 -- ---- a pop guard
 
@@ -203,19 +205,19 @@ CalleeUnitLaw = (m r : List ℕ) (first past : ℕ) (s : Src) (n : ℕ) → IsAt
 abbrev pub PopUnitLaw : Type 0
 PopUnitLaw = (m r : List ℕ) (first past : ℕ) (i : Instr) (n : ℕ) → IsAtFirst m r first past → WordsAt m first 0 pop_words → IsFetched m (first + 14) i n → past ≡ first + (14 + 2 * n) → 1 ≤ n
     → InstrAvoids i → (IsInside first past (reg (ended past m r i n).context 0) → ⊥)
-    → Checked m r first past 0xF002 r (reg r 1 ≢ word_at m 0x0202) (reg r 1 ≡ word_at m 0x0202) (Follows m r first past (ended past m r i n))
+    → Checked m r first past STACK_FAULT r (reg r 1 ≢ word_at m STACK_TOP) (reg r 1 ≡ word_at m STACK_TOP) (Follows m r first past (ended past m r i n))
 
 -- `op @SP+,dst` otherwise
 abbrev pub PopIntoUnitLaw : Type 0
 PopIntoUnitLaw = (m r : List ℕ) (first past : ℕ) (op : Op2) (w : Width) (d : Dst) (n : ℕ) → IsAtFirst m r first past → WordsAt m first 0 pop_words → IsFetched m (first + 14) pop_r4 1
     → IsFetched m (first + 16) (instr.Two op w (src.Reg 4) d) n → past ≡ first + (16 + 2 * n) → 1 ≤ n → DstFree d
-    → Checked m r first past 0xF002 r (reg r 1 ≢ word_at m 0x0202) (reg r 1 ≡ word_at m 0x0202) (Follows m r first past (ended past m r (instr.Two op w (src.AutoInc 1) d) n))
+    → Checked m r first past STACK_FAULT r (reg r 1 ≢ word_at m STACK_TOP) (reg r 1 ≡ word_at m STACK_TOP) (Follows m r first past (ended past m r (instr.Two op w (src.AutoInc 1) d) n))
 
 -- a return
 abbrev pub ReturnUnitLaw : Type 0
-ReturnUnitLaw = (m r : List ℕ) (first past : ℕ) → IsAtFirst m r first past → WordsAt m first 0 pop_words → IsFetched m (first + 14) pop_r4 1 → IsFetched m (first + 16) (branch 0xF004) 2 → past ≡ first + 20
-    → Checked m r first past 0xF002 r (reg r 1 ≢ word_at m 0x0202) (reg r 1 ≡ word_at m 0x0202)
-    (Hands m r first past (ended past m r (instr.Two Mov Wide (src.AutoInc 1) (dst.Reg 0)) 1) 0xF004 (source_value Wide (src.AutoInc 1) 0 m r))
+ReturnUnitLaw = (m r : List ℕ) (first past : ℕ) → IsAtFirst m r first past → WordsAt m first 0 pop_words → IsFetched m (first + 14) pop_r4 1 → IsFetched m (first + 16) (branch GOES) 2 → past ≡ first + 20
+    → Checked m r first past STACK_FAULT r (reg r 1 ≢ word_at m STACK_TOP) (reg r 1 ≡ word_at m STACK_TOP)
+    (Hands m r first past (ended past m r (instr.Two Mov Wide (src.AutoInc 1) (dst.Reg 0)) 1) GOES (source_value Wide (src.AutoInc 1) 0 m r))
 
 -- ---- an SP guard
 
@@ -225,16 +227,16 @@ new_sp m r op w s = (alu op w (source_value w s 0 m r) (low w (reg r 1)) (reg r 
 
 -- from the current limit to the current top
 abbrev pub IsWithin : (m : List ℕ) → ℕ → Type 0
-IsWithin m v = (word_at m 0x0200 ≤ v) × (v ≤ word_at m 0x0202)
+IsWithin m v = (word_at m STACK_LIMIT ≤ v) × (v ≤ word_at m STACK_TOP)
 
 abbrev pub IsBeyond : (m : List ℕ) → ℕ → Type 0
-IsBeyond m v = (v < word_at m 0x0200) ⊎ (word_at m 0x0202 < v)
+IsBeyond m v = (v < word_at m STACK_LIMIT) ⊎ (word_at m STACK_TOP < v)
 
 -- `op src,SP`
 abbrev pub SetSpUnitLaw : Type 0
 SetSpUnitLaw = (m r : List ℕ) (first past : ℕ) (op : Op2) (w : Width) (s : Src) (n : ℕ) → IsAtFirst m r first past → IsFetched m first take_sp 1 → IsFetched m (first + 2) (instr.Two op w s (dst.Reg 4)) n → 1 ≤ n
     → WordsAt m (first + (2 + 2 * n)) 0 sp_words → IsFetched m (first + (22 + 2 * n)) give_sp 1 → past ≡ first + (24 + 2 * n) → writes op ≡ true → SrcFits s → SrcFree s → (Steps s 1 → ⊥)
-    → Checked m r first past 0xF002 (after_source w s r) (IsWithin m (new_sp m r op w s)) (IsBeyond m (new_sp m r op w s)) (Follows m r first past (ended past m r (instr.Two op w s (dst.Reg 1)) n))
+    → Checked m r first past STACK_FAULT (after_source w s r) (IsWithin m (new_sp m r op w s)) (IsBeyond m (new_sp m r op w s)) (Follows m r first past (ended past m r (instr.Two op w s (dst.Reg 1)) n))
 
 -- ---- a context with another PC
 

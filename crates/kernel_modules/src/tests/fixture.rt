@@ -10,13 +10,13 @@ ghost use Rattle.place_model.specs.Settled.{IsSettled};
 ghost use Rattle.kernel_model.specs.Modules.{HasKnownModules};
 
 use super::texts::text;
-use crate::entering::ENDED;
 use crate::*;
 use code_model::marks::Marks;
 use code_model::object::Object;
 use code_model::parts::Kind;
 use flat_mem::FlatMem;
 use kernel_model::laws::empty_is_orderly;
+use kernel_model::states::ENDED;
 use kernel_tables::{AppRow, SysWord, app, clear, get, module, set_app, set_register, thread};
 use kernel_threads::{NONE, dispatch, start};
 use msp_machine::Regs;

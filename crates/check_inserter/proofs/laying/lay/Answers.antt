@@ -5,6 +5,7 @@ use Rattle.insert_model.specs.Faults.{most_words}
 use Rattle.check_inserter.specs.Places.{IsUnlaid}
 use Rattle.check_inserter.proofs.LaidUnits.{IsLaidTo, laid_begins, laid_passes, laid_steps, laid_ends}
 use Rattle.check_inserter.proofs.laying.lay.Goals as goal
+use Rattle.code_model.specs.declared.object.TheConstants.{CODE_WORDS_MAX}
 
 pub loop-line-init : goal.loop-line-init
 loop-line-init c =
@@ -14,7 +15,8 @@ loop-line-init c =
 pub returns-then-len-gt-CODE_WORDS_MAX : goal.returns-then-len-gt-CODE_WORDS_MAX
 unfolding most_words static_bytes
 returns-then-len-gt-CODE_WORDS_MAX c =
-    let big : 8192 < length c.put_unit.new.out.items = omega (arith, c.len-in-loop-line.ensures, c.put_unit.new.out.ok.0) in
+    let big : CODE_WORDS_MAX < length c.put_unit.new.out.items =
+    omega (arith, c.len-in-loop-line.ensures, c.put_unit.new.out.ok.0) in
     subst (λ e. IsUnlaid c.args.o.now e) (sym c.too_large.ensures) (
       refl,
       laid_passes c.args.o.now c.args.lines.now c.loop-line.line-index _ _ c.loop-line.invariant c.loop-line-test.true _ _ refl c.put_unit.new.out.items _ (c.from-size.ensures ∙ c.static_bytes.ensures.size) c.requires.are
@@ -26,7 +28,8 @@ unfolding most_words static_bytes
 loop-line-preserved c =
     let a : c.len.result ≡ length c.loop-line.words.items = omega (arith, c.len.ensures, c.loop-line.words.ok.0) in
     let b : c.len-in-loop-line-2.result ≡ length c.put_unit.new.out.items = omega (arith, c.len-in-loop-line-2.ensures, c.put_unit.new.out.ok.0) in
-    let small : length c.put_unit.new.out.items ≤ 8192 = omega (arith, c.len-in-loop-line.ensures, c.put_unit.new.out.ok.0) in
+    let small : length c.put_unit.new.out.items ≤ CODE_WORDS_MAX =
+    omega (arith, c.len-in-loop-line.ensures, c.put_unit.new.out.ok.0) in
     laid_steps c.args.o.now c.args.lines.now c.loop-line.line-index _ _ c.loop-line.invariant c.loop-line-test.true _ _ refl
     c.put_places.new.places.items _ c.put_unit.new.out.items (c.word_count.result - 1) _ (c.from-size.ensures ∙ c.static_bytes.ensures.size)
     (subst (λ (x : ℕ). c.put_places.new.places.items ≡ c.loop-line.places.items ++ replicate 1 x) a c.in_ok-put_places.ensures)

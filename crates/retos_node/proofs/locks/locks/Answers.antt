@@ -1,5 +1,6 @@
 use Rattle.std.proofs.Common.{◌≡◌, ℕ, List, Bool, true, false, Ok, Err, subst, ap, ◌∙◌, sym, arith}
 use Rattle.machine_model.specs.Context.{reg, set_reg}
+use Rattle.kernel_model.specs.declared.entries.TheConstants.{LOCK}
 use Rattle.kernel_model.specs.Kernel.{Kernel}
 use Rattle.kernel_model.specs.Layout.{kernel_of}
 use Rattle.kernel_model.specs.Sync.{lock_code, locked, is_free_mutex, own_app}
@@ -34,7 +35,7 @@ returns-in-Ok-true c own at marks =
     ∙ sym (value_by m1 m2 (lock_code k1 i) (locked k1 i) (is_free_mutex k1 (own_app k1) i) c.in-Ok-true.field-0 x) ∙ c.in-Ok-true.field-0-test in
     allowed_turn m c.run_next.new.m c.run_next.new.r c.called-told.result Lock w (lock_code k i) (locks w i) a.code
     (marked_turn m c.run_next.new.m c.run_next.new.r c.called-told.result (is_free_mutex k (own_app k) i) (after_leaving Lock w (moved_to_front (locked z i))) (after_leaving Lock w (locked z i)) free
-    (dispatched_turn m c.run_next.new.m r c.run_next.new.r c.args.moment c.called-told.result (called w 0xF016) own at (moved_to_front (locked z i))
+    (dispatched_turn m c.run_next.new.m r c.run_next.new.r c.args.moment c.called-told.result (called w LOCK) own at (moved_to_front (locked z i))
     (dispatches_by (λ j. moved_to_front (locked j i)) m m1 c.run_next.new.m c.run_next.new.r c.args.moment z c.save_zero.ensures.leaves
     (dispatches_by moved_to_front m1 m2 c.run_next.new.m c.run_next.new.r c.args.moment (locked k1 i) a.leaves
     (dispatches_by (λ j. j) m2 c.to_front.new.m c.run_next.new.m c.run_next.new.r c.args.moment (moved_to_front (kernel_of m2)) c.to_front.ensures.leaves c.run_next.ensures)))
@@ -64,7 +65,7 @@ returns-in-Ok-false c own at marks =
     let r' : List ℕ = c.run_next-in-Ok-false.new.r in
     allowed_turn m m' r' c.called-told.result Lock w (lock_code k i) (locks w i) a.code
     (false_turn m m' r' c.called-told.result (is_free_mutex k (own_app k) i) (after_leaving Lock w (moved_to_front (locked z i))) (after_leaving Lock w (locked z i)) free
-    (dispatched_turn m m' r r' c.args.moment c.called-told.result (called w 0xF016) own at (locked z i)
+    (dispatched_turn m m' r r' c.args.moment c.called-told.result (called w LOCK) own at (locked z i)
     (dispatches_by (λ j. locked j i) m m1 m' r' c.args.moment z c.save_zero.ensures.leaves
     (dispatches_by (λ j. j) m1 m2 m' r' c.args.moment (locked k1 i) a.leaves c.run_next-in-Ok-false.ensures))
     c.called-told.ensures))

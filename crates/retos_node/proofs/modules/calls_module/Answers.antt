@@ -1,5 +1,6 @@
 use Rattle.std.proofs.Common.{ℕ, List, Err, subst}
 use Rattle.machine_model.specs.Context.{reg, set_reg}
+use Rattle.kernel_model.specs.declared.entries.TheConstants.{MODULE_CALL}
 use Rattle.kernel_model.specs.Kernel.{Kernel}
 use Rattle.kernel_model.specs.Layout.{kernel_of}
 use Rattle.kernel_model.specs.Modules.{enter_code, entered, entered_context}
@@ -19,7 +20,7 @@ returns-in-Err c own at marks =
     refused_by c.args.m.now m1 (enter_code k (reg r 12)) (entered k r) tt c.in-Err.code
     (sync_by c.args.m.now m1 (enter_code k (reg r 12)) (entered k r) (Err c.in-Err.code) c.in-Err.ensures.answer) in
     refused_turn c.args.m.now c.go_on.new.m r c.go_on.new.r c.args.moment c.called-told.result own at ModuleCall (enter_code k (reg r 12)) c.in-Err.code n
-    (goes_straight (entered k r) (entered_context k r) (called (work_of c.args.m.now r c.args.moment own at) 0xF022))
+    (goes_straight (entered k r) (entered_context k r) (called (work_of c.args.m.now r c.args.moment own at) MODULE_CALL))
     why.code_is c.code_number.ensures c.called-told.ensures
     (subst (λ (x : List ℕ). DispatchesFrom x c.go_on.new.m c.go_on.new.r c.args.moment (moved_to_front (saved (kernel_of x) (set_reg r 12 n)))) why.same
     (subst (λ (x : List ℕ). DispatchesFrom m1 c.go_on.new.m c.go_on.new.r c.args.moment (moved_to_front (saved (kernel_of m1) (set_reg x 12 n))))
