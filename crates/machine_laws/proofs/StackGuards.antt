@@ -16,8 +16,9 @@ use Rattle.msp_encode.specs.declared.instr.Instr.TheVariants as instr
 use Rattle.machine_laws.specs.Steady.{IsSteady, Bounds, AreBounds, Limits}
 use Rattle.machine_laws.specs.Places.{ComparesLimit, JumpsIfRoom, GrowthFails, GrowthRestores, Grows, ComparesTop, JumpsIfFilled, PopFails, PopRestores, Pops, ComparesNewLow, JumpsIfNewLow, ComparesNewHigh, JumpsIfNewHigh, SpFails, SpRestores, SetsSp}
 use Rattle.machine_laws.specs.Own.{GuardAt, IsGuardAt, IsAtOwn, GoesTo, Faults}
-use Rattle.machine_laws.proofs.Flags.{status-with_flags, with_flags-small, carry-with_flags, is_zero-with_flags, at_least, apart}
-use Rattle.machine_laws.proofs.Words.{words, set-context}
+use Rattle.machine_model.proofs.Flags.{with_flags-small, carry-with_flags, is_zero-with_flags}
+use Rattle.machine_laws.proofs.Flags.{status-with_flags, at_least, apart}
+use Rattle.machine_model.proofs.Contexts.{words, set-context}
 use Rattle.machine_laws.proofs.Jumps.{jump-taken, jump-passed, goes}
 
 pub compares_limit-on : (g : GuardAt) (b : Bounds) (kb : ℕ) (m r : List ℕ) → IsGuardAt g → AreBounds b → Limits m b.low b.top → IsSteady kb b.low b.top r → IsContext (words r) → IsAtOwn ComparesLimit g b kb r

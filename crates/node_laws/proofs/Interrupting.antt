@@ -5,7 +5,7 @@ use Rattle.machine_model.specs.Memory.{even, word_at, put_all, IsMemory}
 use Rattle.machine_model.specs.Context.{reg, set_reg, IsContext}
 use Rattle.machine_model.specs.Does.{Effect, lowered}
 use Rattle.machine_model.specs.Operands.{sum_of}
-use Rattle.machine_laws.proofs.Words.{as_words, set-context}
+use Rattle.machine_model.proofs.Contexts.{as_words, set-context}
 use Rattle.machine_laws.proofs.Registers.{reg_other, pc_same, sp_same, sr_same}
 use Rattle.kernel_model.specs.declared.kinds.Kind.{Kind}
 use Rattle.kernel_model.specs.declared.kinds.Kind.TheVariants.{App, Module}
