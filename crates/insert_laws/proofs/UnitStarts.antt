@@ -23,7 +23,8 @@ use Rattle.code_model.specs.Relocs.{Unrelocated}
 use Rattle.code_model.specs.Guards.{guard_words, FitAll, IsQuiet, Pops, IsAtR4, IsPlainStore, IsStoreForm, IsGrowthForm, IsPopForm, IsSpForm, Serves, Guarded, CoversBy, Covers, Covered, Own, UnitStart}
 use Rattle.insert_model.specs.declared.piece.Piece.{Piece}
 use Rattle.insert_model.specs.declared.piece.Word.{Word}
-use Rattle.insert_model.specs.Words.{count, piece_words, unit_words}
+use Rattle.msp_encode.specs.Spelled.{count}
+use Rattle.insert_model.specs.Words.{piece_words, unit_words}
 use Rattle.insert_model.specs.Inserted.{place_map}
 use Rattle.insert_model.specs.Guards.{save}
 use Rattle.insert_laws.specs.Pieces.{pieces, moved_src, moved_dst, moved_instr, standing, PieceAt}

@@ -1,5 +1,6 @@
 pub mod Flags
 pub mod Jumps
+pub mod GuardSteps
 pub mod StoreGuard
 pub mod StackGuards
 pub mod Places
