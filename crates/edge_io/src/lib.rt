@@ -8,10 +8,9 @@
 //! `StdSink` stand over files and standard streams, and tell no contents. The crate stands on `std` alone.
 #![tactic(auto)]
 
-mod bytes;
-mod calls;
 mod counts;
 pub mod folder;
+pub mod items;
 pub mod lists;
 pub mod mem_folder;
 pub mod mem_sink;
