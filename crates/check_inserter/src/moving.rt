@@ -156,7 +156,7 @@ pub(crate) fn word_in(bytes: &[u8], at: usize) -> u16
     requires { at + 2 ≤ length bytes.now }
     ensures { result ≡ word_in bytes.now at }
 {
-    bytes[at] as u16 + 256 * bytes[at + 1] as u16
+    u16::from_le_bytes([bytes[at], bytes[at + 1]])
 }
 
 /// The exports with their new offsets.

@@ -109,7 +109,7 @@ impl FlatMem {
         ensures { result ≡ word_at self.now at }
     {
         let low = even(at);
-        self.cell(low) as u16 + 256 * self.cell(low + 1) as u16
+        u16::from_le_bytes([self.cell(low), self.cell(low + 1)])
     }
 
     /// Writes a word at an address with bit 0 cleared.
