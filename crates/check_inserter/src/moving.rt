@@ -146,8 +146,9 @@ fn move_datum(o: &Object, laid: &Laid, bytes: &mut [u8], reloc: Reloc)
     if !reloc.in_code && reloc.kind == RelKind::Code {
         let at = usize::from(reloc.offset);
         let word = place_of(o, laid, word_in(bytes, at));
-        bytes[at] = (word % 256) as u8;
-        bytes[at + 1] = (word / 256) as u8;
+        let halves = word.to_le_bytes();
+        bytes[at] = halves[0];
+        bytes[at + 1] = halves[1];
     }
 }
 

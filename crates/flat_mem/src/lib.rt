@@ -121,8 +121,9 @@ impl FlatMem {
     {
         let first = even(at);
         self.is_flat();
-        self.set_cell(first, (value % 256) as u8);
-        self.set_cell(first + 1, (value / 256) as u8);
+        let bytes = value.to_le_bytes();
+        self.set_cell(first, bytes[0]);
+        self.set_cell(first + 1, bytes[1]);
     }
 
     /// Writes bytes from an address on. They have to end by the memory's end.

@@ -274,8 +274,7 @@ fn word(names: &Names, p: Progress, out: &mut Built, base: Base, word: u16) -> R
     }
     let at = out.initialised.len() as u32;
     let word = word_on(names, p, Use::Immediate, at, base, word);
-    out.initialised.push((word % 256) as u8)?;
-    out.initialised.push((word / 256) as u8)?;
+    out.initialised.extend_from_slice(&word.to_le_bytes())?;
     let kind = relocation_on(names, Use::Immediate, base);
     push_relocation(&mut out.data_relocs, false, at, kind)?;
     Ok(())
