@@ -1,5 +1,4 @@
 mod Examples
-pub mod SpellLaw
 pub mod LegalLaw
 pub mod Appended
 pub mod Choices

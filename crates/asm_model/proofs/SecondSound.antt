@@ -27,7 +27,7 @@ use Rattle.asm_model.specs.Names.{value_of}
 use Rattle.asm_model.specs.Expressions.{is_plain}
 use Rattle.asm_model.specs.Drafts.{code_words, initialised_bytes}
 use Rattle.asm_model.specs.FirstPass.{Fault, behind_line}
-use Rattle.asm_model.specs.Spelled.{spelling}
+use Rattle.msp_encode.specs.Spelled.{spelling}
 use Rattle.asm_model.specs.SecondPass.{Known, source_use, destination_use, is_known, is_place_of_code, place_relocation, relocation, relocation_at, source_with, destination_with, placed_source, placed_destination, placed_word, behind_source, Settled, settled, settle, instr_suits, in_reach, jump_offset, Output, empty_output, code_end, with_instr, with_data, bytes_of, put_operation, code_place, put_jump_to, put_jump, put_word, below_end, start_of, enter_at, export_at, put_piece, second_pass}
 use Rattle.asm_model.specs.Sound.{code_total, initialised_total, entry_count, export_count, entry_total, export_total, least_total, least_behind, IsSoundPiece, ArePieces}
 use Rattle.asm_model.proofs.Choices.{if_true, if_not, lt_of}

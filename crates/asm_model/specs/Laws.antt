@@ -1,19 +1,14 @@
 -- What holds of the definitions.
 use Rattle.std.specs.Prelude.{◌≡◌, ℕ, ◌<◌, true, List, slice_index, Ok}
 use Rattle.msp_encode.specs.declared.instr.Instr.{Instr}
-use Rattle.msp_encode.specs.Spelling.{Legal, Spells}
+use Rattle.msp_encode.specs.Spelling.{Legal}
 use Rattle.code_model.specs.Fields.{Fields, Meets}
 use Rattle.asm_model.specs.Lines.{lines_of}
 use Rattle.asm_model.specs.Instructions.{is_legal}
 use Rattle.asm_model.specs.Drafts.{Draft, empty_draft}
 use Rattle.asm_model.specs.FirstPass.{first_pass}
-use Rattle.asm_model.specs.Spelled.{spelling}
 use Rattle.asm_model.specs.Assembled.{assembled}
 use Rattle.asm_model.specs.Sound.{IsSound}
-
--- the words of a legal instruction spell it
-abbrev pub WordsSpell : Type 0
-WordsSpell = (i : Instr) → Legal i → Spells i (spelling i)
 
 -- the test of legal instructions is right
 abbrev pub TestedIsLegal : Type 0

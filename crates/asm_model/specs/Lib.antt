@@ -9,7 +9,6 @@ pub mod Instructions
 pub mod Drafts
 pub mod Directives
 pub mod FirstPass
-pub mod Spelled
 pub mod SecondPass
 pub mod Assembled
 pub mod Sound

@@ -28,7 +28,7 @@ use Rattle.asm_model.specs.declared.progress.Progress.{Progress}
 use Rattle.asm_model.specs.Names.{value_of}
 use Rattle.asm_model.specs.Drafts.{Draft}
 use Rattle.asm_model.specs.FirstPass.{Fault, behind_line}
-use Rattle.asm_model.specs.Spelled.{spelling}
+use Rattle.msp_encode.specs.Spelled.{spelling}
 
 -- all names, and how many code words and initialised bytes there are
 pub record Known : Type 0 where

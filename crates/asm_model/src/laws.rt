@@ -1,15 +1,8 @@
 //! What holds of the definitions, for callers: each law is a function that does nothing.
 
-ghost use Rattle.asm_model.specs.Laws.{WordsSpell, TestedIsLegal, DraftsAreSound, ResultsMeetTheForm};
+ghost use Rattle.asm_model.specs.Laws.{TestedIsLegal, DraftsAreSound, ResultsMeetTheForm};
 
 use msp_encode::laws::legal_by_cases;
-
-/// The words of a legal instruction spell it.
-pub fn words_spell()
-    ensures { WordsSpell }
-{
-    legal_by_cases();
-}
 
 /// The test of legal instructions is right.
 pub fn tested_is_legal()

@@ -23,6 +23,7 @@ use Rattle.check_inserter.specs.declared.laying.Laid.{Laid}
 use Rattle.check_inserter.specs.Read.{IsSource}
 use Rattle.check_inserter.specs.Places.{IsLaid}
 use Rattle.check_inserter.proofs.UnitSizes.{start_moves}
+use Rattle.insert_laws.proofs.Static.{init_length}
 
 pub source_of : (o : Object) (ls : List Line) → IsSource o ls → IsSource o (lines (fields o))
 source_of o ls s = subst (IsSource o) s.are s
@@ -171,28 +172,6 @@ even_count [] low top even all r = omega arith
 even_count (x ∷ rs) low top even all r =
     let next : 2 * length rs ≤ top - (key x + 1 + 1) = even_count rs (key x + 1 + 1) top (omega (arith, all.0.0)) all.1 (even_rises (key x + 1) top rs (omega (arith, all.0.0)) all.1 r.1) in
     omega (arith, all.0.1, r.0)
-
--- ---- initialised bytes
-
-with_word_length : (bs : List ℕ) (d v : ℕ) → length (with_word bs d v) ≡ length bs
-with_word_length bs d v = length-set (slice_set bs d (v % 256)) (d + 1) (v / 256) ∙ length-set bs d (v % 256)
-
-moved_at_length : (go : ℕ → ℕ) (bs : List ℕ) (d : ℕ) (k : RelKind) → length (moved_at go bs d k) ≡ length bs
-moved_at_length go bs d Code = with_word_length bs d _
-moved_at_length go bs d Data = refl
-moved_at_length go bs d Lo = refl
-moved_at_length go bs d Hi = refl
-
-moved_length : (go : ℕ → ℕ) (bs : List ℕ) (r : Reloc) → length (moved_data go bs r) ≡ length bs
-moved_length go bs r = by r.in_code refl
-  where
-    by : (b : Bool) → r.in_code ≡ b → length (moved_data go bs r) ≡ length bs
-    by true e = rw e refl
-    by false e = rw e (moved_at_length go bs r.offset r.kind)
-
-init_length : (go : ℕ → ℕ) (rs : List Reloc) (bs : List ℕ) → length (fold (moved_data go) bs rs) ≡ length bs
-init_length go [] bs = refl
-init_length go (r ∷ rs) bs = init_length go rs (moved_data go bs r) ∙ moved_length go bs r
 
 -- ---- places
 

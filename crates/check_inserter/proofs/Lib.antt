@@ -3,7 +3,6 @@ pub mod Firsts
 pub mod Reading
 pub mod LaidUnits
 pub mod WordKinds
-pub mod Spelled
 pub mod Growing
 pub mod Startings
 pub mod Faulty

@@ -11,7 +11,7 @@ use Rattle.code_laws.specs.Laws.{StartsApart}
 use Rattle.static_checker.specs.declared.spot.Spot.{Spot}
 use Rattle.static_checker.specs.Spots.{IsSpot}
 use Rattle.insert_model.specs.declared.line.Line.{Line}
-use Rattle.insert_model.specs.Words.{count}
+use Rattle.msp_encode.specs.Spelled.{count}
 use Rattle.insert_model.specs.Source.{line_at, lines_from, lines}
 use Rattle.insert_model.specs.Laws.{SizeLaw, LineLaw}
 use Rattle.check_inserter.specs.Read.{StartsIn, IsWhole, AreWhole, IsRow, IsSource}

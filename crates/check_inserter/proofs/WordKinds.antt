@@ -6,7 +6,7 @@ use Rattle.msp_encode.specs.declared.instr.Instr.{Instr}
 use Rattle.code_model.specs.declared.object.Object.{Object}
 use Rattle.code_model.specs.declared.parts.RelKind.{RelKind}
 use Rattle.insert_model.specs.declared.line.Line.{Line}
-use Rattle.insert_model.specs.Words.{count}
+use Rattle.msp_encode.specs.Spelled.{count}
 use Rattle.insert_model.specs.Source.{on_word, kind_at, kind_within, line_at}
 use Rattle.check_inserter.specs.Read.{AreKinds}
 

@@ -11,7 +11,7 @@ use Rattle.insert_model.specs.declared.fault.InsertFault.{InsertFault}
 use Rattle.insert_model.specs.declared.fault.InsertFault.TheVariants.{At, Memory}
 use Rattle.insert_model.specs.declared.fault.InsertKind.TheVariants.{NotDecoded}
 use Rattle.insert_model.specs.declared.line.Line.{Line}
-use Rattle.insert_model.specs.Words.{count}
+use Rattle.msp_encode.specs.Spelled.{count}
 use Rattle.insert_model.specs.Source.{kind_at, lines}
 use Rattle.insert_model.specs.Faults.{IsUndecoded}
 

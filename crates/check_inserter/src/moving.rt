@@ -147,8 +147,9 @@ fn move_datum(o: &Object, laid: &Laid, bytes: &mut [u8], reloc: Reloc)
     if !reloc.in_code && reloc.kind == RelKind::Code {
         let at = usize::from(reloc.offset);
         let word = place_of(o, laid, word_in(bytes, at));
-        bytes[at] = (word % 256) as u8;
-        bytes[at + 1] = (word / 256) as u8;
+        let halves = word.to_le_bytes();
+        bytes[at] = halves[0];
+        bytes[at + 1] = halves[1];
     }
 }
 
@@ -157,7 +158,7 @@ pub(crate) fn word_in(bytes: &[u8], at: usize) -> u16
     requires { at + 2 ≤ length bytes.now }
     ensures { result ≡ word_in bytes.now at }
 {
-    bytes[at] as u16 + 256 * bytes[at + 1] as u16
+    u16::from_le_bytes([bytes[at], bytes[at + 1]])
 }
 
 /// The exports with their new offsets.

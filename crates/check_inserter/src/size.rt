@@ -2,7 +2,7 @@
 
 ghost use Rattle.std.specs.Prelude.{◌≡◌, ◌≤◌, length};
 ghost use Rattle.msp_encode.specs.Spelling.{dst_words};
-ghost use Rattle.insert_model.specs.Words.{count};
+ghost use Rattle.msp_encode.specs.Spelled.{count};
 
 use msp_encode::instr::{Dst, Instr};
 use static_checker::forms::src_size;

@@ -5,7 +5,7 @@ ghost use Rattle.code_model.specs.declared.object.TheConstants.{CODE_WORDS_MAX};
 ghost use Rattle.code_model.specs.declared.parts.Reloc.{Reloc};
 ghost use Rattle.code_model.specs.Form.{RelocFits};
 ghost use Rattle.insert_model.specs.declared.line.Line.{Line};
-ghost use Rattle.insert_model.specs.Words.{count};
+ghost use Rattle.msp_encode.specs.Spelled.{count};
 ghost use Rattle.insert_model.specs.Source.{on_word, line_at};
 ghost use Rattle.check_inserter.specs.Read.{AreKinds, IsSource, IsUnread};
 ghost use Rattle.static_checker.specs.Spots.{IsSpot};

@@ -5,7 +5,7 @@ ghost use Rattle.msp_encode.specs.Spelling.{src_words, dst_words};
 ghost use Rattle.code_model.specs.declared.object.TheConstants.{CODE_WORDS_MAX};
 ghost use Rattle.code_model.specs.Starts.{AreStarts};
 ghost use Rattle.code_model.specs.Rules.{IsJumpEntry, IsCallEntry};
-ghost use Rattle.insert_model.specs.Words.{count};
+ghost use Rattle.msp_encode.specs.Spelled.{count};
 ghost use Rattle.insert_model.specs.Source.{own_piece, own};
 ghost use Rattle.insert_model.specs.Faults.{IsStartOffset, JumpsAmiss, IsSourceJump, IsSourceCall, NamesStart, IsSourceTarget, IsSourceCallee, MissesTarget, MissesCallee, GoesAmiss, WordMisses, OperandsMiss, NamesAmiss, RunsOut, GoesWrong};
 ghost use Rattle.check_inserter.specs.Read.{IsWhole};

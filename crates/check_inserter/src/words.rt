@@ -2,14 +2,15 @@
 
 ghost use Rattle.std.specs.Prelude.{◌≡◌, ◌++◌, [], ◌∷◌, length, OnOk};
 ghost use Rattle.msp_encode.specs.Spelling.{InstrFits, First, src_words, dst_words};
-ghost use Rattle.insert_model.specs.Words.{first_word, with_kind, operand_words, piece_words, unit_words};
+ghost use Rattle.msp_encode.specs.Spelled.{first_word};
+ghost use Rattle.insert_model.specs.Words.{with_kind, operand_words, piece_words, unit_words};
 ghost use Rattle.check_inserter.specs.Fitting.{AllFit};
 
 use code_model::parts::RelKind;
 use insert_model::piece::{Piece, Word};
 use msp_encode::encode;
 use msp_encode::instr::{Dst, Instr, Src};
-use msp_encode::laws::legal_by_cases;
+use msp_encode::laws::{legal_by_cases, one_spelling, spelling_spells};
 use std::alloc::AllocError;
 
 /// Appends the words of pieces, one piece after another.
@@ -61,6 +62,8 @@ fn first_word(i: &Instr) -> u16
     ensures { result ≡ first_word i.now }
 {
     legal_by_cases();
+    spelling_spells();
+    one_spelling();
     let words = encode(i);
     words[0]
 }

@@ -2,8 +2,13 @@
 
 ghost use Rattle.std.specs.Prelude.{◌≡◌, ◌≤◌, ◌++◌, length, drop};
 
-pub use crate::bytes::Bytes;
-pub use crate::calls::Calls;
+pub use crate::items::Items;
+
+/// A list of bytes.
+pub type Bytes = Items<u8>;
+
+/// A list of numbers of calls, each of 32 bits.
+pub type Calls = Items<u32>;
 
 /// Writes these bytes over the first of a slice that has room for them.
 pub(crate) fn copy_over(into: &mut [u8], from: &[u8])

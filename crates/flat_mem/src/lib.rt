@@ -109,7 +109,7 @@ impl FlatMem {
         ensures { result ≡ word_at self.now at }
     {
         let low = even(at);
-        self.cell(low) as u16 + 256 * self.cell(low + 1) as u16
+        u16::from_le_bytes([self.cell(low), self.cell(low + 1)])
     }
 
     /// Writes a word at an address with bit 0 cleared.
@@ -121,8 +121,9 @@ impl FlatMem {
     {
         let first = even(at);
         self.is_flat();
-        self.set_cell(first, (value % 256) as u8);
-        self.set_cell(first + 1, (value / 256) as u8);
+        let bytes = value.to_le_bytes();
+        self.set_cell(first, bytes[0]);
+        self.set_cell(first + 1, bytes[1]);
     }
 
     /// Writes bytes from an address on. They have to end by the memory's end.

@@ -9,7 +9,7 @@ use Rattle.code_model.specs.declared.parts.RelKind.TheVariants.{Code, Data}
 use Rattle.code_model.specs.declared.parts.Reloc.{Reloc}
 use Rattle.code_model.specs.Starts.{Start}
 use Rattle.insert_model.specs.declared.line.Line.{Line}
-use Rattle.insert_model.specs.Words.{count}
+use Rattle.msp_encode.specs.Spelled.{count}
 use Rattle.insert_model.specs.Source.{kind_at, kind_within, line_at}
 use Rattle.insert_model.specs.Faults.{IsStartOffset}
 use Rattle.insert_laws.specs.Shapes.{IsCleanLine}

@@ -11,7 +11,7 @@ use Rattle.code_model.specs.Starts.{Stands, Start}
 use Rattle.code_model.specs.Verdicts.{AllSpelled}
 use Rattle.code_laws.specs.Laws.{OneStands}
 use Rattle.insert_model.specs.declared.line.Line.{Line}
-use Rattle.insert_model.specs.Words.{count, spelling}
+use Rattle.msp_encode.specs.Spelled.{count, spelling}
 use Rattle.insert_model.specs.Source.{line_at, lines_from, lines}
 use Rattle.insert_model.specs.Faults.{IsStartOffset}
 use Rattle.insert_model.specs.Laws.{LineLaw}

@@ -3,7 +3,7 @@ use Rattle.std.proofs.Common.{◌≡◌, ℕ, ◌+◌, ◌*◌, List, [], ◌∷
 use Rattle.std.proofs.lemmas.Int.{ints}
 use Rattle.std.proofs.lemmas.List.Concat.{flat_map-append}
 use Rattle.msp_encode.specs.declared.instr.Instr.{Instr}
-use Rattle.insert_model.specs.Words.{two_word, one_word, jump_word, spelling}
+use Rattle.msp_encode.specs.Spelled.{two_word, one_word, jump_word, spelling}
 use Rattle.insert_laws.specs.Pieces.{size_of}
 use Rattle.insert_laws.proofs.Streams.{FitEach, words_of, size_is}
 use Rattle.gen_model.specs.declared.block.Block.{Block}

@@ -26,7 +26,8 @@ use Rattle.insert_model.specs.declared.aim.Aim.TheVariants.{ToPc, ToSp, ToMemory
 use Rattle.insert_model.specs.declared.line.Line.{Line}
 use Rattle.insert_model.specs.declared.piece.Piece.{Piece}
 use Rattle.insert_model.specs.declared.piece.Word.{Word}
-use Rattle.insert_model.specs.Words.{count, with_kind, operand_words, piece_words, unit_words}
+use Rattle.msp_encode.specs.Spelled.{count}
+use Rattle.insert_model.specs.Words.{with_kind, operand_words, piece_words, unit_words}
 use Rattle.insert_model.specs.Source.{own_piece, own}
 use Rattle.insert_model.specs.Guards.{base, plain, branch, take_sp, pop_r4, give_sp, store_guard, growth_guard, pop_guard, sp_guard}
 use Rattle.insert_model.specs.Units.{aim, aim_one, writes, is_popped, is_immediate, is_pc, is_plain_pop, into_r4, through_r4, from_r4, popping, writing, changing, calling_value, one_unit, target_offset, jump_unit, unit_of, unit}

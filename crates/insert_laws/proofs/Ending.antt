@@ -30,7 +30,8 @@ use Rattle.code_model.specs.Verdicts.{AllSpelled}
 use Rattle.code_laws.specs.Laws.{IsSame, OneStands}
 use Rattle.insert_model.specs.declared.line.Line.{Line}
 use Rattle.insert_model.specs.declared.piece.Piece.{Piece}
-use Rattle.insert_model.specs.Words.{spelling, count, unit_words}
+use Rattle.msp_encode.specs.Spelled.{spelling, count}
+use Rattle.insert_model.specs.Words.{unit_words}
 use Rattle.insert_model.specs.Source.{line_at, lines_from, lines, own}
 use Rattle.insert_model.specs.Guards.{branch, pop_r4, pop_guard}
 use Rattle.insert_model.specs.Units.{static_bytes, aim, is_popped, is_immediate, into_r4, popping, writing, two_unit, target_offset, jump_unit, unit_of, unit}

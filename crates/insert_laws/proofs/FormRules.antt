@@ -27,7 +27,8 @@ use Rattle.code_model.specs.Guards.{Guarded, Own}
 use Rattle.code_model.specs.Rules.{IsReti, WritesReg, IsBranch, WritesMemory, WritesWild, ReadsStack, IsPushOrCall, IsGuardedStore, BreaksAt, HasWrongReloc, Refuses}
 use Rattle.code_laws.specs.Laws.{IsSame, OneStands}
 use Rattle.insert_model.specs.declared.piece.Piece.{Piece}
-use Rattle.insert_model.specs.Words.{count, unit_words}
+use Rattle.msp_encode.specs.Spelled.{count}
+use Rattle.insert_model.specs.Words.{unit_words}
 use Rattle.insert_model.specs.Source.{lines}
 use Rattle.insert_model.specs.Units.{static_bytes}
 use Rattle.insert_model.specs.Inserted.{moved, place_map, with_guards, inserted}

@@ -19,7 +19,8 @@ use Rattle.code_model.specs.Relocs.{HasReloc, Unrelocated}
 use Rattle.code_model.specs.Guards.{guard_words, IsLoad, Takes, FitAll}
 use Rattle.insert_model.specs.declared.piece.Piece.{Piece}
 use Rattle.insert_model.specs.declared.piece.Word.{Word}
-use Rattle.insert_model.specs.Words.{two_word, jump_word, piece_words, unit_words}
+use Rattle.msp_encode.specs.Spelled.{two_word, jump_word}
+use Rattle.insert_model.specs.Words.{piece_words, unit_words}
 use Rattle.insert_model.specs.Inserted.{moved, moved_value, place_map}
 use Rattle.insert_model.specs.Guards.{save, mov, on_r4, jump, branch, restore, growth_guard, pop_guard, sp_guard}
 use Rattle.insert_laws.specs.Pieces.{pieces}

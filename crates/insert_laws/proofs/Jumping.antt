@@ -21,7 +21,8 @@ use Rattle.code_model.specs.Rules.{IsAlways, IsJmp, IsJumpTarget, JumpsAstray, B
 use Rattle.code_laws.specs.Laws.{IsSame, OneStands, GuardedLeaves}
 use Rattle.insert_model.specs.declared.line.Line.{Line}
 use Rattle.insert_model.specs.declared.piece.Piece.{Piece}
-use Rattle.insert_model.specs.Words.{count, piece_words}
+use Rattle.msp_encode.specs.Spelled.{count}
+use Rattle.insert_model.specs.Words.{piece_words}
 use Rattle.insert_model.specs.Source.{lines, own}
 use Rattle.insert_model.specs.Guards.{jump, branch}
 use Rattle.insert_model.specs.Units.{static_bytes, target_offset, jump_unit, unit_of, unit}

@@ -17,7 +17,8 @@ use Rattle.code_model.specs.Relocs.{HasReloc, Unrelocated}
 use Rattle.code_model.specs.Rules.{IsUnitOffset, GoesAstray, BreaksAt}
 use Rattle.code_laws.specs.Laws.{IsSame, OneStands}
 use Rattle.insert_model.specs.declared.piece.Piece.{Piece}
-use Rattle.insert_model.specs.Words.{count, operand_words, piece_words, unit_words}
+use Rattle.msp_encode.specs.Spelled.{count}
+use Rattle.insert_model.specs.Words.{operand_words, piece_words, unit_words}
 use Rattle.insert_model.specs.Source.{lines}
 use Rattle.insert_model.specs.Units.{static_bytes}
 use Rattle.insert_model.specs.Inserted.{place_map, with_guards, inserted}

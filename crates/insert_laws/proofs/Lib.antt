@@ -1,4 +1,3 @@
-pub mod Spelled
 pub mod Streams
 pub mod Standing
 pub mod UnitsFit

@@ -9,7 +9,7 @@ use Rattle.code_model.specs.Fields.{Fields, fields}
 use Rattle.code_model.specs.Starts.{Stands, Start}
 use Rattle.code_laws.specs.Laws.{OneStands}
 use Rattle.insert_model.specs.declared.piece.Piece.{Piece}
-use Rattle.insert_model.specs.Words.{count}
+use Rattle.msp_encode.specs.Spelled.{count}
 use Rattle.insert_model.specs.Source.{lines}
 use Rattle.insert_model.specs.Units.{static_bytes}
 use Rattle.insert_model.specs.Inserted.{place_map, with_guards, inserted}

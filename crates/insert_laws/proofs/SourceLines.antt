@@ -11,7 +11,7 @@ use Rattle.code_model.specs.Fields.{fields}
 use Rattle.code_model.specs.Starts.{Stands, Reached, Start, IsSpelled}
 use Rattle.code_model.specs.Verdicts.{AllSpelled}
 use Rattle.insert_model.specs.declared.line.Line.{Line}
-use Rattle.insert_model.specs.Words.{count}
+use Rattle.msp_encode.specs.Spelled.{count}
 use Rattle.insert_model.specs.Source.{line_at, lines_from, lines}
 use Rattle.insert_model.specs.Laws.{SizeLaw, LineLaw}
 use Rattle.insert_laws.specs.Lines.{IsInstruction, LinesAreSpelled}

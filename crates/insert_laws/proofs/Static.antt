@@ -49,7 +49,7 @@ moved_length go bs r = by r.in_code refl
     by true e = rw e refl
     by false e = rw e (moved_at_length go bs r.offset r.kind)
 
-init_length : (go : ℕ → ℕ) (rs : List Reloc) (bs : List ℕ) → length (fold (moved_data go) bs rs) ≡ length bs
+pub init_length : (go : ℕ → ℕ) (rs : List Reloc) (bs : List ℕ) → length (fold (moved_data go) bs rs) ≡ length bs
 init_length go [] bs = refl
 init_length go (r ∷ rs) bs = init_length go rs (moved_data go bs r) ∙ moved_length go bs r
 

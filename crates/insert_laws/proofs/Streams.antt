@@ -7,9 +7,9 @@ use Rattle.msp_encode.specs.declared.instr.Instr.{Instr}
 use Rattle.msp_encode.specs.Spelling.{Spells, InstrFits}
 use Rattle.code_model.specs.Starts.{Begins, Stands, Steps, Reached, Start}
 use Rattle.code_laws.specs.Laws.{IsSame, OneStands}
-use Rattle.insert_model.specs.Words.{count, spelling}
+use Rattle.msp_encode.specs.Spelled.{count, spelling}
 use Rattle.insert_laws.specs.Pieces.{size_of}
-use Rattle.insert_laws.proofs.Spelled.{spells}
+use Rattle.msp_encode.proofs.Spelled.{spells}
 
 abbrev pub FitEach : List Instr → Type 0
 FitEach [] = Unit {0}

@@ -31,7 +31,7 @@ use Rattle.insert_model.specs.declared.fault.InsertKind.TheVariants.{BadTarget}
 use Rattle.insert_model.specs.declared.line.Line.{Line}
 use Rattle.insert_model.specs.declared.piece.Piece.{Piece}
 use Rattle.insert_model.specs.declared.piece.Word.{Word}
-use Rattle.insert_model.specs.Words.{count}
+use Rattle.msp_encode.specs.Spelled.{count}
 use Rattle.insert_model.specs.Source.{own, line_at, with_line, lines_from, lines}
 use Rattle.insert_model.specs.declared.aim.Aim.{Aim}
 use Rattle.insert_model.specs.declared.aim.Aim.TheVariants.{ToPc, ToSp, ToMemory, Elsewhere}

@@ -25,7 +25,8 @@ use Rattle.code_laws.specs.Laws.{GuardedLeaves}
 use Rattle.code_laws.proofs.Begins.{guard_begins}
 use Rattle.insert_model.specs.declared.piece.Piece.{Piece}
 use Rattle.insert_model.specs.declared.piece.Word.{Word}
-use Rattle.insert_model.specs.Words.{count, piece_words, unit_words}
+use Rattle.msp_encode.specs.Spelled.{count}
+use Rattle.insert_model.specs.Words.{piece_words, unit_words}
 use Rattle.insert_model.specs.Inserted.{place_map}
 use Rattle.insert_model.specs.Guards.{save}
 use Rattle.insert_laws.specs.Pieces.{pieces, moved_src, moved_dst, moved_instr, standing, PieceAt}

@@ -13,7 +13,8 @@ use Rattle.code_model.specs.Verdicts.{AllSpelled, IsAccepted, IsVerdict, IsAccep
 use Rattle.code_model.specs.declared.parts.RelKind.{RelKind}
 use Rattle.code_model.specs.Relocs.{HasReloc, Unrelocated}
 use Rattle.insert_model.specs.declared.piece.Word.{Word}
-use Rattle.insert_model.specs.Words.{count, unit_words}
+use Rattle.msp_encode.specs.Spelled.{count}
+use Rattle.insert_model.specs.Words.{unit_words}
 use Rattle.insert_model.specs.Inserted.{place_map}
 use Rattle.insert_model.specs.Faults.{IsInserted}
 use Rattle.insert_laws.specs.Pieces.{pieces, standing, PieceAt}

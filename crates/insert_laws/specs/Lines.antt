@@ -7,7 +7,8 @@ use Rattle.code_model.specs.Starts.{Stands, Start}
 use Rattle.code_model.specs.Verdicts.{AllSpelled}
 use Rattle.insert_model.specs.declared.line.Line.{Line}
 use Rattle.insert_model.specs.declared.piece.Word.{Word}
-use Rattle.insert_model.specs.Words.{count, unit_words}
+use Rattle.msp_encode.specs.Spelled.{count}
+use Rattle.insert_model.specs.Words.{unit_words}
 use Rattle.insert_model.specs.Source.{lines}
 use Rattle.insert_model.specs.Units.{static_bytes, unit}
 use Rattle.insert_model.specs.Inserted.{moved, place_map}

@@ -11,7 +11,7 @@ use Rattle.code_model.specs.declared.parts.RelKind.{RelKind}
 use Rattle.code_model.specs.Fields.{Fields}
 use Rattle.insert_model.specs.declared.line.Line.{Line}
 use Rattle.insert_model.specs.declared.piece.Piece.{Piece}
-use Rattle.insert_model.specs.Words.{spelling}
+use Rattle.msp_encode.specs.Spelled.{spelling}
 use Rattle.insert_model.specs.Source.{lines}
 use Rattle.insert_model.specs.Units.{static_bytes, unit}
 use Rattle.insert_model.specs.Inserted.{moved_value, place_map}

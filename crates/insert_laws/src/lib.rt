@@ -2,7 +2,7 @@
 #![tactic(auto)]
 
 ghost use Rattle.insert_laws.specs.Laws.{StartsArePieces, RelocsArePieces, FormRulesPass, StartsAreUnits, EntryRulePasses, TargetRulePasses, EndRulePasses, JumpRulePasses, NothingRefused, VerdictAccepts, InsertedIsAccepted, GuardsOfVersionOne};
-ghost use Rattle.insert_laws.specs.Source.{SpellingLaw, StartsDecided};
+ghost use Rattle.insert_laws.specs.Source.{StartsDecided};
 ghost use Rattle.insert_laws.specs.Lines.{CodeIsPieces, LinesAreClean, LinesAreSpelled, LinesHaveUnits, PlacesWithin};
 
 use code_laws::{guarded_leaves, guards_apart, next_start, one_stands, starts_apart};
@@ -138,11 +138,6 @@ pub fn guards_of_version_one()
     first_word_decides();
     guards_apart();
 }
-
-/// The words of a legal instruction spell it.
-pub fn spelling_spells()
-    ensures { SpellingLaw }
-{}
 
 /// Whether an instruction of the source starts at a place is decided, for an object that was given guards.
 pub fn starts_decided()

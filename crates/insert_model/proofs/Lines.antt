@@ -9,7 +9,7 @@ use Rattle.msp_decode.specs.Laws.{OneInstruction, FirstWordDecides}
 use Rattle.code_model.specs.declared.parts.Reloc.{Reloc}
 use Rattle.code_model.specs.Starts.{Begins}
 use Rattle.insert_model.specs.declared.line.Line.{Line}
-use Rattle.insert_model.specs.Words.{count}
+use Rattle.msp_encode.specs.Spelled.{count}
 use Rattle.insert_model.specs.Source.{line_at, with_line, lines_from}
 use Rattle.insert_model.specs.Laws.{SizeLaw, LineLaw}
 

@@ -5,7 +5,8 @@ use Rattle.kernel_model.specs.declared.kinds.Kind.TheVariants.{App}
 use Rattle.code_model.specs.declared.parts.Reloc.{Reloc}
 use Rattle.code_model.specs.declared.parts.RelKind.TheVariants.{Code, Lo, Hi}
 use Rattle.code_model.specs.Fields.{Fields, fields_by}
-use Rattle.insert_model.specs.Words.{two_word, one_word, jump_word, piece_words, unit_words}
+use Rattle.msp_encode.specs.Spelled.{two_word, one_word, jump_word}
+use Rattle.insert_model.specs.Words.{piece_words, unit_words}
 use Rattle.insert_model.specs.Source.{kind_at, line_at, lines_from, lines}
 use Rattle.insert_model.specs.Units.{static_bytes, unit}
 use Rattle.insert_model.specs.Inserted.{units, before, place_in, place_map, with_guards}

@@ -29,7 +29,7 @@ use Rattle.insert_model.specs.declared.fault.InsertFault.{InsertFault}
 use Rattle.insert_model.specs.declared.fault.InsertFault.TheVariants.{At, Memory}
 use Rattle.insert_model.specs.declared.line.Line.{Line}
 use Rattle.insert_model.specs.declared.piece.Piece.{Piece}
-use Rattle.insert_model.specs.Words.{count}
+use Rattle.msp_encode.specs.Spelled.{count}
 use Rattle.insert_model.specs.Source.{lines, own}
 use Rattle.insert_model.specs.Units.{static_bytes}
 use Rattle.insert_model.specs.Inserted.{units, word_in, inserted}

@@ -3,7 +3,7 @@ use Rattle.std.specs.Prelude.{◌≡◌, ℕ, ◌+◌, ◌<◌, List, ◌∷◌,
 use Rattle.msp_encode.specs.declared.instr.Instr.{Instr}
 use Rattle.code_model.specs.declared.parts.Reloc.{Reloc}
 use Rattle.code_model.specs.Starts.{Stands}
-use Rattle.insert_model.specs.Words.{count}
+use Rattle.msp_encode.specs.Spelled.{count}
 use Rattle.insert_model.specs.Source.{line_at, lines_from}
 
 -- an instruction that stands at a place has as many words as it is spelled in

@@ -89,6 +89,7 @@ fn add_word(at: u16, value: u16, bytes: &mut Writes)
     ensures longer { length bytes.new ≡ length bytes.old + 2 }
 {
     let low = at / 2 * 2;
-    bytes.add(low + 1, (value / 256) as u8);
-    bytes.add(low, (value % 256) as u8);
+    let halves = value.to_le_bytes();
+    bytes.add(low + 1, halves[1]);
+    bytes.add(low, halves[0]);
 }

@@ -47,7 +47,7 @@ pub fn enter(m: &mut FlatMem, r: &mut Regs) -> Result<(), Code>
     requires settled { IsSettled m.old }
     requires runs { ThreadRuns (kernel_of m.old) }
     requires known { HasKnownModules (kernel_of m.old) }
-    ensures answer { let k = kernel_of m.old in AnswersBy m.old m.new (entered k r.old) (enter_code k (slice_index r.old 12)) result }
+    ensures answer { let k = kernel_of m.old in AnswersBy m.old m.new (enter_code k (slice_index r.old 12)) (entered k r.old) tt result }
     ensures registers { let k = kernel_of m.old in
         BecomesBy r.old r.new (enter_code k (slice_index r.old 12)) (entered_context k r.old) }
     ensures settled { IsSettled m.new }

@@ -19,15 +19,12 @@ use Rattle.place_model.specs.declared.places.Pool.{Pool}
 use Rattle.place_model.specs.declared.places.Pool.TheVariants.{Code, Data}
 use Rattle.place_model.specs.Placing.{app_domain, module_domain, domain_at, pool_range, range_in}
 use Rattle.place_model.specs.Settled.{IsInPool, AreApart, IsAppPlace, IsInUse, IsSettledKernel, IsSettled}
+use Rattle.kernel_threads.proofs.FixtureLemmas.{entry_row, entry_row_is, empty_row_is, empty_state, no_pairs}
 
 -- ---- rows
 
 abbrev the_app : AppRow
 the_app = record { state = 1; code_lo = 0x6000; code_hi = 0x6010; lo = 0x2000; hi = 0x2042; z = 2; stack = 16; threads = 4 }
-
--- a row that keeps an entry in register R0
-abbrev entry_row : (entry : ℕ) → ThreadRow
-entry_row e = record empty_row { regs = set empty_row.regs 0 e }
 
 abbrev rows : List ThreadRow
 rows = set (replicate 32 empty_row) 0 (entry_row 0x6004)
@@ -51,31 +48,7 @@ no_live = row_is (λ r. r.state ≡ free) refl refl
 nowhere : (t : ℕ) → t < 32 → spot_of one_app t ≡ Nowhere
 nowhere t h = ap (λ s. spot (app_of t) s (thread_at one_app t).object) (no_live t h)
 
-entry_row_is : (e : ℕ) → IsThreadRow (entry_row e)
-entry_row_is e = record {
-  registers = length-set empty_row.regs 0 e;
-  state = lit≤ tt;
-  priority = lit≤ tt;
-  waits = λ a b c. refl;
-  takes = λ a. refl;
-  wakes = λ a. (refl, refl);
-}
-
-empty_row_is : IsThreadRow empty_row
-empty_row_is = record {
-  registers = refl;
-  state = lit≤ tt;
-  priority = lit≤ tt;
-  waits = λ a b c. refl;
-  takes = λ a. refl;
-  wakes = λ a. (refl, refl);
-}
-
 -- ---- orderly
-
-empty_state : (t : ℕ) → t < 32 → (thread_at empty t).state ≡ free
-unfolding empty
-empty_state t h = ap (λ (r : ThreadRow). r.state) (get_or-replicate 32 t empty_row free_thread h)
 
 same_listed : (s : Spot) → listed one_app s ≡ listed empty s
 unfolding empty
@@ -87,9 +60,6 @@ same_listed (OnMutex a i) = refl
 same_listed (OnCondition a c) = refl
 same_listed (OnLine n) = refl
 same_listed Calls = refl
-
-no_pairs : (R : ℕ → ℕ → Type 0) → AllPairs R []
-no_pairs R i j d l h = absurd (let past : j < 0 = h in omega arith)
 
 orderly : IsOrderly empty → IsOrderly one_app
 unfolding empty

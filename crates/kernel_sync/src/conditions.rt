@@ -11,7 +11,7 @@ ghost use Rattle.kernel_model.specs.Sync.{broadcasted, gone_for, own_app, owns, 
 ghost use Rattle.kernel_model.specs.Sync.{wait_code, waiting_condition};
 ghost use Rattle.place_model.specs.Settled.{IsSettled};
 ghost use Rattle.sync_laws.specs.Waiters.{AllMayGo};
-ghost use Rattle.kernel_sync.specs.Answers.{AnswersBy};
+ghost use Rattle.kernel_threads.specs.Entries.{AnswersBy};
 
 use crate::Code;
 use crate::caller::{LAST_NUMBER, own_app, own_number, owns};

@@ -11,7 +11,7 @@ ghost use Rattle.kernel_model.specs.Sync.{all_handed_over, given_up, unlock_code
 ghost use Rattle.kernel_model.specs.Sync.{is_free_mutex, lock_code, locked, own_app, own_number, owns};
 ghost use Rattle.kernel_model.specs.Words.{owner_of};
 ghost use Rattle.place_model.specs.Settled.{IsSettled};
-ghost use Rattle.kernel_sync.specs.Answers.{AnswersBy};
+ghost use Rattle.kernel_threads.specs.Entries.{AnswersBy};
 
 use crate::Code;
 use crate::caller::{LAST_NUMBER, own_app, own_number, owns};

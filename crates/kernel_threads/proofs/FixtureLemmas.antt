@@ -32,7 +32,7 @@ abbrev pub second_app : AppRow
 second_app = record { state = 1; code_lo = 0x6010; code_hi = 0x6020; lo = 0x2022; hi = 0x2066; z = 4; stack = 32; threads = 2 }
 
 -- a row that keeps an entry in register R0
-abbrev entry_row : (entry : ℕ) → ThreadRow
+abbrev pub entry_row : (entry : ℕ) → ThreadRow
 entry_row e = record empty_row { regs = set empty_row.regs 0 e }
 
 abbrev rows : List ThreadRow
@@ -64,7 +64,7 @@ no_live = row_is (λ r. r.state ≡ free) refl refl refl
 nowhere : (t : ℕ) → t < 32 → spot_of two_apps t ≡ Nowhere
 nowhere t h = ap (λ s. spot (app_of t) s (thread_at two_apps t).object) (no_live t h)
 
-entry_row_is : (e : ℕ) → IsThreadRow (entry_row e)
+pub entry_row_is : (e : ℕ) → IsThreadRow (entry_row e)
 entry_row_is e = record {
   registers = length-set empty_row.regs 0 e;
   state = lit≤ tt;
@@ -74,7 +74,7 @@ entry_row_is e = record {
   wakes = λ a. (refl, refl);
 }
 
-empty_row_is : IsThreadRow empty_row
+pub empty_row_is : IsThreadRow empty_row
 empty_row_is = record {
   registers = refl;
   state = lit≤ tt;
@@ -101,7 +101,7 @@ same_listed (OnCondition a c) = refl
 same_listed (OnLine n) = refl
 same_listed Calls = refl
 
-no_pairs : (R : ℕ → ℕ → Type 0) → AllPairs R []
+pub no_pairs : (R : ℕ → ℕ → Type 0) → AllPairs R []
 no_pairs R i j d l h = absurd (let past : j < 0 = h in omega arith)
 
 orderly : IsOrderly empty → IsOrderly two_apps

@@ -8,17 +8,16 @@ use Rattle.kernel_model.specs.declared.code.Code.{Code}
 use Rattle.kernel_model.specs.Entries.{next_thread, spawn_code, spawned}
 use Rattle.place_model.specs.Marking.{IsOwnMark}
 
--- with no code there is a new thread, and its number is answered; else the code is, and memory is as it was
+-- with no code the value is answered and the kernel is left; else the code is answered, and memory is as it was
+abbrev pub AnswersBy : {A : Type 0} → (before after : List ℕ) → Option Code → (left : Kernel) → (value : A) → Result A Code → Type 0
+AnswersBy m m' None k v answer = (answer ≡ Ok v) × Leaves m m' k
+AnswersBy m m' (Some code) k v answer = (answer ≡ Err code) × (m' ≡ m)
+
+-- with no code there is a new thread, and its number is answered
 abbrev pub SpawnedBy : (before after registers : List ℕ) → Option Code → Result ℕ Code → Type 0
-SpawnedBy m m' r None answer = (answer ≡ Ok (number_of (next_thread (kernel_of m)))) × Leaves m m' (spawned (kernel_of m) r)
-SpawnedBy m m' r (Some code) answer = (answer ≡ Err code) × (m' ≡ m)
+SpawnedBy m m' r code answer = AnswersBy m m' code (spawned (kernel_of m) r) (number_of (next_thread (kernel_of m))) answer
 
 -- the same, where b says whether R12 is a mark of the running thread's application
 pub record Spawns (before after registers : List ℕ) (answer : Result ℕ Code) (b : Bool) : Type 0 where
   pub marked : IsTrue b ↔ IsOwnMark before (slice_index registers 12)
   pub by_code : SpawnedBy before after registers (spawn_code (kernel_of before) registers b) answer
-
--- with no code memory has the kernel of the rule; else the code is answered, and memory is as it was
-abbrev pub AnswersBy : (before after : List ℕ) → Kernel → Option Code → Result (Unit {0}) Code → Type 0
-AnswersBy m m' k None answer = (answer ≡ Ok tt) × Leaves m m' k
-AnswersBy m m' k (Some code) answer = (answer ≡ Err code) × (m' ≡ m)

@@ -64,7 +64,7 @@ pub fn spawn(m: &mut FlatMem, r: &Regs) -> Result<u8, Code>
 pub fn set_priority(m: &mut FlatMem, r: &Regs) -> Result<(), Code>
     requires settled { IsSettled m.old }
     requires runs { ThreadRuns (kernel_of m.old) }
-    ensures answer { AnswersBy m.old m.new (with_priority (kernel_of m.old) r.now) (priority_code r.now) result }
+    ensures answer { AnswersBy m.old m.new (priority_code r.now) (with_priority (kernel_of m.old) r.now) tt result }
     ensures settled { IsSettled m.new }
 {
     priority_is_settled();

@@ -31,7 +31,7 @@ use thread_laws::{
 pub fn wait_line(m: &mut FlatMem, r: &Regs) -> Result<(), Code>
     requires settled { IsSettled m.old }
     requires runs { ThreadRuns (kernel_of m.old) }
-    ensures answer { AnswersBy m.old m.new (waiting_line (kernel_of m.old) r.now) (line_code r.now) result }
+    ensures answer { AnswersBy m.old m.new (line_code r.now) (waiting_line (kernel_of m.old) r.now) tt result }
     ensures settled { IsSettled m.new }
 {
     waiting_line_is_settled();

@@ -12,11 +12,11 @@ use Rattle.load_model.specs.Images.{is_on, added, added_by}
 
 -- ---- the first that passes
 
-find-none : {X : Type 0} (p : X → Bool) (xs : List X) → ((k : ℕ) (d : X) → k < length xs → p (get_or xs k d) ≡ false) → find p xs ≡ None
+pub find-none : {X : Type 0} (p : X → Bool) (xs : List X) → ((k : ℕ) (d : X) → k < length xs → p (get_or xs k d) ≡ false) → find p xs ≡ None
 find-none p [] h = refl
 find-none {X} p (x ∷ xs) h = ap (λ (b : Bool). cond b (Some x) (find p xs)) (h 0 x (omega arith)) ∙ find-none p xs (λ k d l. h (suc k) d (omega arith))
 
-find-first : {X : Type 0} (p : X → Bool) (xs : List X) (i : ℕ) (q : X) → i < length xs → get_or xs i q ≡ q → p q ≡ true → ((k : ℕ) (d : X) → k < i → p (get_or xs k d) ≡ false) → find p xs ≡ Some q
+pub find-first : {X : Type 0} (p : X → Bool) (xs : List X) (i : ℕ) (q : X) → i < length xs → get_or xs i q ≡ q → p q ≡ true → ((k : ℕ) (d : X) → k < i → p (get_or xs k d) ≡ false) → find p xs ≡ Some q
 find-first p [] i q l e t h = absurd (omega arith)
 find-first p (x ∷ xs) zero q l e t h = ap (λ (b : Bool). cond b (Some x) (find p xs)) (ap p e ∙ t) ∙ ap (λ y. Some y) e
 find-first p (x ∷ xs) (suc i) q l e t h =

@@ -1,8 +1,8 @@
-mod Finding
+pub mod Finding
 mod WordLists
 mod Imaging
-mod AppRows
+pub mod AppRows
 mod Registers
-mod ExportRows
+pub mod ExportRows
 pub mod Settling
 pub mod Apart

@@ -1,12 +1,9 @@
 -- The status register with new flags.
 use Rattle.std.proofs.Common.{◌≡◌, ◌≢◌, ℕ, ◌+◌, ◌-◌, ◌%◌, ◌<◌, ◌≤◌, Bool, true, false, eqb, leb, arith}
 use Rattle.std.proofs.lemmas.Bool.Decides.{nat_tests}
-use Rattle.machine_model.specs.Status.{with_flags, bit, carry, is_zero}
+use Rattle.machine_model.specs.Status.{with_flags}
+use Rattle.machine_model.proofs.Flags.{bit_small}
 use Rattle.machine_laws.specs.Steady.{IsStatus}
-
-pub bit_small : (b : Bool) → bit b ≤ 1
-bit_small true = omega arith
-bit_small false = omega arith
 
 pub status-with_flags : (kb sr : ℕ) (c z n v : Bool) → IsStatus kb sr → IsStatus kb (with_flags sr c z n v)
 unfolding with_flags
@@ -14,21 +11,6 @@ status-with_flags kb sr c z n v h = record {
   high = omega (arith, h.high, bit_small c, bit_small z, bit_small n, bit_small v);
   control = omega (arith, h.control, bit_small c, bit_small z, bit_small n, bit_small v);
 }
-
-pub with_flags-small : (sr : ℕ) (c z n v : Bool) → sr < 65536 → with_flags sr c z n v < 65536
-unfolding with_flags
-with_flags-small sr c z n v h = omega (arith, h, bit_small c, bit_small z, bit_small n, bit_small v)
-
--- C and Z are those that were put in
-pub carry-with_flags : (sr : ℕ) (c z n v : Bool) → carry (with_flags sr c z n v) ≡ c
-unfolding with_flags
-carry-with_flags sr true z n v = grind (arith, nat_tests, bit_small z, bit_small n, bit_small v)
-carry-with_flags sr false z n v = grind (arith, nat_tests, bit_small z, bit_small n, bit_small v)
-
-pub is_zero-with_flags : (sr : ℕ) (c z n v : Bool) → is_zero (with_flags sr c z n v) ≡ z
-unfolding with_flags
-is_zero-with_flags sr c true n v = grind (arith, nat_tests, bit_small c, bit_small n, bit_small v)
-is_zero-with_flags sr c false n v = grind (arith, nat_tests, bit_small c, bit_small n, bit_small v)
 
 -- ---- what a comparison tells: d + (not s) + 1
 

@@ -16,7 +16,8 @@ use Rattle.msp_encode.specs.declared.instr.Dst.TheVariants as dst
 use Rattle.msp_encode.specs.declared.instr.Instr.TheVariants as instr
 use Rattle.machine_laws.specs.Steady.{IsSteady, Bounds, AreBounds}
 use Rattle.machine_laws.specs.Guarded.{IsQuiet, Passes, StoreLaw, StoreLeavesLaw, PushLaw, CallLaw, PopLaw, SpLaw}
-use Rattle.machine_laws.proofs.Values.{alu-status, one-status, word-small}
+use Rattle.machine_model.proofs.Values.{word-small}
+use Rattle.machine_laws.proofs.Statuses.{alu-status, one-status}
 use Rattle.machine_laws.proofs.Registers.{reg_other, pc_same, sp_same, steady-sr, steady-reg, steady-sp, source-read, source-r4, calm-quiet}
 use Rattle.machine_laws.proofs.Operations.{behind, two-writes, one-changes, stored-inside}
 

@@ -9,7 +9,7 @@ use Rattle.msp_encode.specs.declared.instr.Instr.TheVariants as instr
 use Rattle.machine_laws.specs.Steady.{IsStatus, IsSteady, Bounds}
 use Rattle.machine_laws.specs.Places.{GuardPlace, place_offset, place_fact}
 use Rattle.machine_laws.specs.Own.{GuardAt, GoesTo}
-use Rattle.machine_laws.proofs.Words.{words, set-context}
+use Rattle.machine_model.proofs.Contexts.{words, set-context}
 
 -- PC is set to an address, and nothing else happens
 abbrev pub at_pc : List ℕ → ℕ → Effect

@@ -1,10 +1,10 @@
-pub mod Words
 pub mod Flags
 pub mod Jumps
+pub mod GuardSteps
 pub mod StoreGuard
 pub mod StackGuards
 pub mod Places
-pub mod Values
+pub mod Statuses
 pub mod Masks
 pub mod Registers
 pub mod Operations

@@ -7,7 +7,7 @@ use Rattle.machine_model.specs.Memory.{word_at, put_all, IsMemory}
 use Rattle.machine_model.specs.Context.{reg, IsContext}
 use Rattle.machine_model.specs.Operands.{sum_of, put_pairs, stored}
 use Rattle.machine_model.specs.Alu.{writes}
-use Rattle.machine_model.specs.Does.{does, one, change, push, call, reti, jump, lowered, Effect}
+use Rattle.machine_model.specs.Does.{does, one, change, push, call, reti, jump, lowered, Effect, passed}
 use Rattle.machine_model.specs.declared.place.Place.{Place}
 use Rattle.machine_model.specs.declared.place.Place.TheVariants.{InReg, At}
 use Rattle.msp_encode.specs.declared.instr.Width.{Width}
@@ -19,9 +19,8 @@ use Rattle.msp_encode.specs.declared.instr.Src.{Src}
 use Rattle.msp_encode.specs.declared.instr.Dst.{Dst}
 use Rattle.msp_encode.specs.declared.instr.Instr.TheVariants as instr
 use Rattle.machine_laws.specs.Writes.{MemoryLaw, PartLaw, WordLaw, WrittenLaw}
-use Rattle.machine_laws.proofs.Values.{alu-small, one-small, source-small, value-small, size-word}
-use Rattle.machine_laws.proofs.Registers.{context-behind}
-use Rattle.machine_laws.proofs.Words.{set-context}
+use Rattle.machine_model.proofs.Values.{alu-small, one-small, source-small, value-small, size-word}
+use Rattle.machine_model.proofs.Contexts.{set-context, after-context}
 use Rattle.machine_laws.proofs.Operations.{behind, two-writes, two-tests}
 
 -- ---- bytes stay bytes
@@ -68,7 +67,7 @@ push-small m r w s n h = stored-small w _ _ (size-word w _ (source-small w s _ m
 call-small : (m r : List ℕ) (s : Src) (n : ℕ) → IsContext r → AllByRecursion Small (call s n m r).written
 unfolding call
 call-small m r s n c =
-    stored-small Wide (reg (lowered (behind Wide s n r)) 1) (reg (lowered (behind Wide s n r)) 0) ((set-context (behind Wide s n r) 1 (sum_of (reg (behind Wide s n r) 1) 65534) (context-behind Wide s n r c) (omega arith)).small 0)
+    stored-small Wide (reg (lowered (behind Wide s n r)) 1) (reg (lowered (behind Wide s n r)) 0) ((set-context (behind Wide s n r) 1 (sum_of (reg (behind Wide s n r) 1) 65534) (after-context Wide s (passed r n) (set-context r 0 _ c (omega arith))) (omega arith)).small 0)
 
 one-written : (m r : List ℕ) (op : Op1) (w : Width) (s : Src) (n : ℕ) → IsMemory m → IsContext r → AllByRecursion Small (one op w s n m r).written
 unfolding one

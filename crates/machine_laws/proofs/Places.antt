@@ -5,7 +5,7 @@ use Rattle.machine_model.specs.Does.{does, Effect}
 use Rattle.msp_encode.specs.declared.instr.Instr.{Instr}
 use Rattle.machine_laws.specs.Places.{TakesAddress, AddsIndex, ComparesLow, JumpsIfLow, ComparesHigh, JumpsIfHigh, StoreFails, StoreRestores, ComparesLimit, JumpsIfRoom, GrowthFails, GrowthRestores, ComparesTop, JumpsIfFilled, PopFails, PopRestores, ComparesNewLow, JumpsIfNewLow, ComparesNewHigh, JumpsIfNewHigh, SpFails, SpRestores, Stores, Grows, Pops, SetsSp}
 use Rattle.machine_laws.specs.Own.{Next, OwnLaw}
-use Rattle.machine_laws.proofs.Words.{words, as_words}
+use Rattle.machine_model.proofs.Contexts.{words, as_words}
 use Rattle.machine_laws.proofs.StoreGuard.{takes_address-on, adds_index-on, compares_low-on, jumps_if_low-on, compares_high-on, jumps_if_high-on, store_fails-on, store_restores-on}
 use Rattle.machine_laws.proofs.StackGuards.{compares_limit-on, jumps_if_room-on, growth_fails-on, growth_restores-on, compares_top-on, jumps_if_filled-on, pop_fails-on, pop_restores-on, compares_new_low-on, jumps_if_new_low-on, compares_new_high-on, jumps_if_new_high-on, sp_fails-on, sp_restores-on}
 

@@ -20,7 +20,8 @@ use Rattle.machine_laws.specs.Steady.{IsStatus, IsSteady, Bounds, AreBounds}
 use Rattle.machine_laws.specs.Guarded.{Passes}
 use Rattle.machine_laws.specs.Plain.{IsCalm, IsMask, Tests, ToReg, ToData, SetsBits, ClearsBits, SetsConst, ClearsConst, ChangesReg, ChangesData, PlainLaw}
 use Rattle.machine_laws.proofs.Masks.{status-mod, status-set, status-clear}
-use Rattle.machine_laws.proofs.Values.{alu-status, alu-small, one-status, one-small, source-small, value-small, size-word}
+use Rattle.machine_model.proofs.Values.{alu-small, one-small, source-small, value-small, size-word}
+use Rattle.machine_laws.proofs.Statuses.{alu-status, one-status}
 use Rattle.machine_laws.proofs.Registers.{reg_other, steady-sr, steady-reg, source-read}
 use Rattle.machine_laws.proofs.Operations.{behind, outcome, two-writes, two-tests, one-changes, stored-inside}
 

@@ -11,7 +11,7 @@ use Rattle.msp_encode.specs.declared.instr.Src.TheVariants as src
 use Rattle.machine_laws.specs.Steady.{IsStatus, IsSteady}
 use Rattle.machine_laws.specs.Guarded.{IsQuiet}
 use Rattle.machine_laws.specs.Plain.{IsCalm}
-use Rattle.machine_laws.proofs.Words.{set-context, set_reg-high}
+use Rattle.machine_model.proofs.Contexts.{set-context, set_reg-high}
 
 pub reg_other : (r : List ℕ) (n v k : ℕ) → k ≢ n → reg (set_reg r n v) k ≡ reg r k
 unfolding set_reg
@@ -114,15 +114,3 @@ calm-quiet (src.Indirect k) c = tt
 calm-quiet (src.AutoInc k) c = (omega arith, c.1)
 calm-quiet (src.Immediate x) c = tt
 calm-quiet (src.Const k) c = tt
-
--- a context stays one behind any source
-pub context-behind : (w : Width) (s : Src) (n : ℕ) (r : List ℕ) → IsContext r → IsContext (after_source w s (passed r n))
-unfolding after_source
-context-behind w (src.Reg k) n r c = set-context r 0 _ c (omega arith)
-context-behind w (src.Indexed k x) n r c = set-context r 0 _ c (omega arith)
-context-behind w (src.Symbolic x) n r c = set-context r 0 _ c (omega arith)
-context-behind w (src.Absolute x) n r c = set-context r 0 _ c (omega arith)
-context-behind w (src.Indirect k) n r c = set-context r 0 _ c (omega arith)
-context-behind w (src.AutoInc k) n r c = set-context (passed r n) k _ (set-context r 0 _ c (omega arith)) (omega arith)
-context-behind w (src.Immediate x) n r c = set-context r 0 _ c (omega arith)
-context-behind w (src.Const k) n r c = set-context r 0 _ c (omega arith)

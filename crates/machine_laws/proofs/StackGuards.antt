@@ -1,7 +1,7 @@
 -- The growth, pop and SP guards, place by place.
 use Rattle.std.proofs.Common.{ℕ, ◌⊎◌, not, List, refl, sym, ap, ◌∙◌, subst, inl, inr, arith}
 use Rattle.std.specs.Prelude.{pos}
-use Rattle.std.proofs.lemmas.Bool.{cases_Bool, false≢true}
+use Rattle.std.proofs.lemmas.Bool.{cases_Bool}
 use Rattle.machine_model.specs.Context.{reg, set_reg, IsContext}
 use Rattle.machine_model.specs.Status.{carry, is_zero}
 use Rattle.machine_model.specs.Operands.{source_value, after_source, place_to, value_in, put_context, put_pairs}
@@ -16,8 +16,10 @@ use Rattle.msp_encode.specs.declared.instr.Instr.TheVariants as instr
 use Rattle.machine_laws.specs.Steady.{IsSteady, Bounds, AreBounds, Limits}
 use Rattle.machine_laws.specs.Places.{ComparesLimit, JumpsIfRoom, GrowthFails, GrowthRestores, Grows, ComparesTop, JumpsIfFilled, PopFails, PopRestores, Pops, ComparesNewLow, JumpsIfNewLow, ComparesNewHigh, JumpsIfNewHigh, SpFails, SpRestores, SetsSp}
 use Rattle.machine_laws.specs.Own.{GuardAt, IsGuardAt, IsAtOwn, GoesTo, Faults}
-use Rattle.machine_laws.proofs.Flags.{status-with_flags, with_flags-small, carry-with_flags, is_zero-with_flags, at_least, apart}
-use Rattle.machine_laws.proofs.Words.{words, set-context}
+use Rattle.machine_model.proofs.Flags.{with_flags-small, carry-with_flags, is_zero-with_flags}
+use Rattle.machine_laws.proofs.Flags.{status-with_flags, at_least, apart}
+use Rattle.machine_model.proofs.Contexts.{words}
+use Rattle.machine_laws.proofs.GuardSteps.{flags-steady, fails, restores}
 use Rattle.machine_laws.proofs.Jumps.{jump-taken, jump-passed, goes}
 use Rattle.kernel_model.specs.declared.entries.TheConstants.{STACK_FAULT}
 
@@ -25,12 +27,7 @@ pub compares_limit-on : (g : GuardAt) (b : Bounds) (kb : ℕ) (m r : List ℕ) �
     → GoesTo JumpsIfRoom g b kb (does m (words r) (instr.Two Cmp Wide (src.Absolute 512) (dst.Reg 1)) 2)
 unfolding does two set_reg source_value after_source place_to value_in put_context put_pairs alu added
 compares_limit-on g b kb m r gi bi li s k p = record {
-  steady = record {
-    context = set-context _ 2 _ (set-context _ 0 _ k (omega arith)) (with_flags-small _ _ _ _ _ (k.small 2));
-    room = s.room;
-    within = s.within;
-    status = status-with_flags kb _ _ _ _ _ s.status;
-  };
+  steady = flags-steady kb b.low b.top _ _ r s k (omega arith) (status-with_flags kb _ _ _ _ _ s.status) (with_flags-small _ _ _ _ _ (k.small 2));
   place = record {
     pc = omega (arith, p.pc, gi.even, gi.ends);
     saved = λ t. p.saved refl;
@@ -51,46 +48,18 @@ jumps_if_room-on g b kb m r gi bi li s k p = elim (cases_Bool (carry (reg r 2)))
 
 pub growth_fails-on : (g : GuardAt) (b : Bounds) (kb : ℕ) (m r : List ℕ) → IsGuardAt g → AreBounds b → Limits m b.low b.top → IsSteady kb b.low b.top r → IsContext (words r) → IsAtOwn GrowthFails g b kb r
     → Faults STACK_FAULT b kb (does m (words r) (instr.Two Mov Wide (src.Immediate STACK_FAULT) (dst.Reg 0)) 2)
-unfolding does two set_reg source_value after_source place_to value_in put_context put_pairs alu added
-growth_fails-on g b kb m r gi bi li s k p = record {
-  steady = record {
-    context = set-context (words r) 0 STACK_FAULT k (omega arith);
-    room = s.room;
-    within = s.within;
-    status = s.status;
-  };
-  entry_is = refl;
-  silent = refl;
-}
+growth_fails-on g b kb m r gi bi li s k p = fails STACK_FAULT b kb m r refl (omega arith) s k
 
 pub growth_restores-on : (g : GuardAt) (b : Bounds) (kb : ℕ) (m r : List ℕ) → IsGuardAt g → AreBounds b → Limits m b.low b.top → IsSteady kb b.low b.top r → IsContext (words r) → IsAtOwn GrowthRestores g b kb r
     → GoesTo Grows g b kb (does m (words r) (instr.Two Mov Wide (src.Reg 5) (dst.Reg 2)) 1)
 unfolding does two set_reg source_value after_source place_to value_in put_context put_pairs alu added
-growth_restores-on g b kb m r gi bi li s k p = record {
-  steady = record {
-    context = set-context _ 2 _ (set-context _ 2 _ (set-context _ 0 _ k (omega arith)) (k.small 2)) (omega arith);
-    room = s.room;
-    within = s.within;
-    status = record { high = omega (arith, (p.saved refl).high); control = omega (arith, (p.saved refl).control, k.small 5) };
-  };
-  place = record {
-    pc = omega (arith, p.pc, gi.even, gi.ends);
-    saved = λ t. absurd (false≢true t);
-    known = p.known;
-  };
-  silent = refl;
-}
+growth_restores-on g b kb m r gi bi li s k p = restores GrowthRestores Grows g b kb m r refl refl refl (omega arith) gi s k p p.known
 
 pub compares_top-on : (g : GuardAt) (b : Bounds) (kb : ℕ) (m r : List ℕ) → IsGuardAt g → AreBounds b → Limits m b.low b.top → IsSteady kb b.low b.top r → IsContext (words r) → IsAtOwn ComparesTop g b kb r
     → GoesTo JumpsIfFilled g b kb (does m (words r) (instr.Two Cmp Wide (src.Reg 1) (dst.Absolute 514)) 2)
 unfolding does two set_reg source_value after_source place_to value_in put_context put_pairs alu added
 compares_top-on g b kb m r gi bi li s k p = record {
-  steady = record {
-    context = set-context _ 2 _ (set-context _ 0 _ k (omega arith)) (with_flags-small _ _ _ _ _ (k.small 2));
-    room = s.room;
-    within = s.within;
-    status = status-with_flags kb _ _ _ _ _ s.status;
-  };
+  steady = flags-steady kb b.low b.top _ _ r s k (omega arith) (status-with_flags kb _ _ _ _ _ s.status) (with_flags-small _ _ _ _ _ (k.small 2));
   place = record {
     pc = omega (arith, p.pc, gi.even, gi.ends);
     saved = λ t. p.saved refl;
@@ -111,46 +80,18 @@ jumps_if_filled-on g b kb m r gi bi li s k p = elim (cases_Bool (is_zero (reg r 
 
 pub pop_fails-on : (g : GuardAt) (b : Bounds) (kb : ℕ) (m r : List ℕ) → IsGuardAt g → AreBounds b → Limits m b.low b.top → IsSteady kb b.low b.top r → IsContext (words r) → IsAtOwn PopFails g b kb r
     → Faults STACK_FAULT b kb (does m (words r) (instr.Two Mov Wide (src.Immediate STACK_FAULT) (dst.Reg 0)) 2)
-unfolding does two set_reg source_value after_source place_to value_in put_context put_pairs alu added
-pop_fails-on g b kb m r gi bi li s k p = record {
-  steady = record {
-    context = set-context (words r) 0 STACK_FAULT k (omega arith);
-    room = s.room;
-    within = s.within;
-    status = s.status;
-  };
-  entry_is = refl;
-  silent = refl;
-}
+pop_fails-on g b kb m r gi bi li s k p = fails STACK_FAULT b kb m r refl (omega arith) s k
 
 pub pop_restores-on : (g : GuardAt) (b : Bounds) (kb : ℕ) (m r : List ℕ) → IsGuardAt g → AreBounds b → Limits m b.low b.top → IsSteady kb b.low b.top r → IsContext (words r) → IsAtOwn PopRestores g b kb r
     → GoesTo Pops g b kb (does m (words r) (instr.Two Mov Wide (src.Reg 5) (dst.Reg 2)) 1)
 unfolding does two set_reg source_value after_source place_to value_in put_context put_pairs alu added
-pop_restores-on g b kb m r gi bi li s k p = record {
-  steady = record {
-    context = set-context _ 2 _ (set-context _ 2 _ (set-context _ 0 _ k (omega arith)) (k.small 2)) (omega arith);
-    room = s.room;
-    within = s.within;
-    status = record { high = omega (arith, (p.saved refl).high); control = omega (arith, (p.saved refl).control, k.small 5) };
-  };
-  place = record {
-    pc = omega (arith, p.pc, gi.even, gi.ends);
-    saved = λ t. absurd (false≢true t);
-    known = p.known;
-  };
-  silent = refl;
-}
+pop_restores-on g b kb m r gi bi li s k p = restores PopRestores Pops g b kb m r refl refl refl (omega arith) gi s k p p.known
 
 pub compares_new_low-on : (g : GuardAt) (b : Bounds) (kb : ℕ) (m r : List ℕ) → IsGuardAt g → AreBounds b → Limits m b.low b.top → IsSteady kb b.low b.top r → IsContext (words r) → IsAtOwn ComparesNewLow g b kb r
     → GoesTo JumpsIfNewLow g b kb (does m (words r) (instr.Two Cmp Wide (src.Absolute 512) (dst.Reg 4)) 2)
 unfolding does two set_reg source_value after_source place_to value_in put_context put_pairs alu added
 compares_new_low-on g b kb m r gi bi li s k p = record {
-  steady = record {
-    context = set-context _ 2 _ (set-context _ 0 _ k (omega arith)) (with_flags-small _ _ _ _ _ (k.small 2));
-    room = s.room;
-    within = s.within;
-    status = status-with_flags kb _ _ _ _ _ s.status;
-  };
+  steady = flags-steady kb b.low b.top _ _ r s k (omega arith) (status-with_flags kb _ _ _ _ _ s.status) (with_flags-small _ _ _ _ _ (k.small 2));
   place = record {
     pc = omega (arith, p.pc, gi.even, gi.ends);
     saved = λ t. p.saved refl;
@@ -173,12 +114,7 @@ pub compares_new_high-on : (g : GuardAt) (b : Bounds) (kb : ℕ) (m r : List ℕ
     → GoesTo JumpsIfNewHigh g b kb (does m (words r) (instr.Two Cmp Wide (src.Reg 4) (dst.Absolute 514)) 2)
 unfolding does two set_reg source_value after_source place_to value_in put_context put_pairs alu added
 compares_new_high-on g b kb m r gi bi li s k p = record {
-  steady = record {
-    context = set-context _ 2 _ (set-context _ 0 _ k (omega arith)) (with_flags-small _ _ _ _ _ (k.small 2));
-    room = s.room;
-    within = s.within;
-    status = status-with_flags kb _ _ _ _ _ s.status;
-  };
+  steady = flags-steady kb b.low b.top _ _ r s k (omega arith) (status-with_flags kb _ _ _ _ _ s.status) (with_flags-small _ _ _ _ _ (k.small 2));
   place = record {
     pc = omega (arith, p.pc, gi.even, gi.ends);
     saved = λ t. p.saved refl;
@@ -199,32 +135,9 @@ jumps_if_new_high-on g b kb m r gi bi li s k p = elim (cases_Bool (carry (reg r 
 
 pub sp_fails-on : (g : GuardAt) (b : Bounds) (kb : ℕ) (m r : List ℕ) → IsGuardAt g → AreBounds b → Limits m b.low b.top → IsSteady kb b.low b.top r → IsContext (words r) → IsAtOwn SpFails g b kb r
     → Faults STACK_FAULT b kb (does m (words r) (instr.Two Mov Wide (src.Immediate STACK_FAULT) (dst.Reg 0)) 2)
-unfolding does two set_reg source_value after_source place_to value_in put_context put_pairs alu added
-sp_fails-on g b kb m r gi bi li s k p = record {
-  steady = record {
-    context = set-context (words r) 0 STACK_FAULT k (omega arith);
-    room = s.room;
-    within = s.within;
-    status = s.status;
-  };
-  entry_is = refl;
-  silent = refl;
-}
+sp_fails-on g b kb m r gi bi li s k p = fails STACK_FAULT b kb m r refl (omega arith) s k
 
 pub sp_restores-on : (g : GuardAt) (b : Bounds) (kb : ℕ) (m r : List ℕ) → IsGuardAt g → AreBounds b → Limits m b.low b.top → IsSteady kb b.low b.top r → IsContext (words r) → IsAtOwn SpRestores g b kb r
     → GoesTo SetsSp g b kb (does m (words r) (instr.Two Mov Wide (src.Reg 5) (dst.Reg 2)) 1)
 unfolding does two set_reg source_value after_source place_to value_in put_context put_pairs alu added
-sp_restores-on g b kb m r gi bi li s k p = record {
-  steady = record {
-    context = set-context _ 2 _ (set-context _ 2 _ (set-context _ 0 _ k (omega arith)) (k.small 2)) (omega arith);
-    room = s.room;
-    within = s.within;
-    status = record { high = omega (arith, (p.saved refl).high); control = omega (arith, (p.saved refl).control, k.small 5) };
-  };
-  place = record {
-    pc = omega (arith, p.pc, gi.even, gi.ends);
-    saved = λ t. absurd (false≢true t);
-    known = p.known;
-  };
-  silent = refl;
-}
+sp_restores-on g b kb m r gi bi li s k p = restores SpRestores SetsSp g b kb m r refl refl refl (omega arith) gi s k p p.known

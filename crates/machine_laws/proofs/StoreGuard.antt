@@ -1,7 +1,7 @@
 -- The store guard, place by place.
 use Rattle.std.proofs.Common.{ℕ, ◌⊎◌, not, List, refl, sym, ap, ◌∙◌, subst, inl, inr, arith}
 use Rattle.std.specs.Prelude.{pos}
-use Rattle.std.proofs.lemmas.Bool.{cases_Bool, false≢true}
+use Rattle.std.proofs.lemmas.Bool.{cases_Bool}
 use Rattle.machine_model.specs.Context.{reg, set_reg, IsContext}
 use Rattle.machine_model.specs.Status.{carry}
 use Rattle.machine_model.specs.Operands.{source_value, after_source, place_to, value_in, put_context, put_pairs}
@@ -18,8 +18,10 @@ use Rattle.msp_encode.specs.declared.instr.Instr.TheVariants as instr
 use Rattle.machine_laws.specs.Steady.{IsSteady, Bounds, AreBounds, Limits}
 use Rattle.machine_laws.specs.Places.{TakesAddress, AddsIndex, ComparesLow, JumpsIfLow, ComparesHigh, JumpsIfHigh, StoreFails, StoreRestores, Stores}
 use Rattle.machine_laws.specs.Own.{GuardAt, IsLoad, IsGuardAt, IsAtOwn, GoesTo, Faults}
-use Rattle.machine_laws.proofs.Flags.{status-with_flags, with_flags-small, carry-with_flags, at_least, below}
-use Rattle.machine_laws.proofs.Words.{words, set-context}
+use Rattle.machine_model.proofs.Flags.{with_flags-small, carry-with_flags}
+use Rattle.machine_laws.proofs.Flags.{status-with_flags, at_least, below}
+use Rattle.machine_model.proofs.Contexts.{words, set-context}
+use Rattle.machine_laws.proofs.GuardSteps.{flags-steady, fails, restores}
 use Rattle.machine_laws.proofs.Jumps.{jump-taken, jump-passed, goes}
 use Rattle.kernel_model.specs.declared.entries.TheConstants.{STORE_FAULT}
 
@@ -84,12 +86,7 @@ pub compares_low-on : (g : GuardAt) (b : Bounds) (kb : ℕ) (m r : List ℕ) →
     → GoesTo JumpsIfLow g b kb (does m (words r) (instr.Two Cmp Wide (src.Immediate b.lo) (dst.Reg 4)) 2)
 unfolding does two set_reg source_value after_source place_to value_in put_context put_pairs alu added
 compares_low-on g b kb m r gi bi li s k p = record {
-  steady = record {
-    context = set-context _ 2 _ (set-context _ 0 _ k (omega arith)) (with_flags-small _ _ _ _ _ (k.small 2));
-    room = s.room;
-    within = s.within;
-    status = status-with_flags kb _ _ _ _ _ s.status;
-  };
+  steady = flags-steady kb b.low b.top _ _ r s k (omega arith) (status-with_flags kb _ _ _ _ _ s.status) (with_flags-small _ _ _ _ _ (k.small 2));
   place = record {
     pc = omega (arith, p.pc, gi.even, gi.ends);
     saved = λ t. p.saved refl;
@@ -112,12 +109,7 @@ pub compares_high-on : (g : GuardAt) (b : Bounds) (kb : ℕ) (m r : List ℕ) �
     → GoesTo JumpsIfHigh g b kb (does m (words r) (instr.Two Cmp Wide (src.Immediate b.hi) (dst.Reg 4)) 2)
 unfolding does two set_reg source_value after_source place_to value_in put_context put_pairs alu added
 compares_high-on g b kb m r gi bi li s k p = record {
-  steady = record {
-    context = set-context _ 2 _ (set-context _ 0 _ k (omega arith)) (with_flags-small _ _ _ _ _ (k.small 2));
-    room = s.room;
-    within = s.within;
-    status = status-with_flags kb _ _ _ _ _ s.status;
-  };
+  steady = flags-steady kb b.low b.top _ _ r s k (omega arith) (status-with_flags kb _ _ _ _ _ s.status) (with_flags-small _ _ _ _ _ (k.small 2));
   place = record {
     pc = omega (arith, p.pc, gi.even, gi.ends);
     saved = λ t. p.saved refl;
@@ -138,32 +130,9 @@ jumps_if_high-on g b kb m r gi bi li s k p = elim (cases_Bool (carry (reg r 2)))
 
 pub store_fails-on : (g : GuardAt) (b : Bounds) (kb : ℕ) (m r : List ℕ) → IsGuardAt g → AreBounds b → Limits m b.low b.top → IsSteady kb b.low b.top r → IsContext (words r) → IsAtOwn StoreFails g b kb r
     → Faults STORE_FAULT b kb (does m (words r) (instr.Two Mov Wide (src.Immediate STORE_FAULT) (dst.Reg 0)) 2)
-unfolding does two set_reg source_value after_source place_to value_in put_context put_pairs alu added
-store_fails-on g b kb m r gi bi li s k p = record {
-  steady = record {
-    context = set-context (words r) 0 STORE_FAULT k (omega arith);
-    room = s.room;
-    within = s.within;
-    status = s.status;
-  };
-  entry_is = refl;
-  silent = refl;
-}
+store_fails-on g b kb m r gi bi li s k p = fails STORE_FAULT b kb m r refl (omega arith) s k
 
 pub store_restores-on : (g : GuardAt) (b : Bounds) (kb : ℕ) (m r : List ℕ) → IsGuardAt g → AreBounds b → Limits m b.low b.top → IsSteady kb b.low b.top r → IsContext (words r) → IsAtOwn StoreRestores g b kb r
     → GoesTo Stores g b kb (does m (words r) (instr.Two Mov Wide (src.Reg 5) (dst.Reg 2)) 1)
 unfolding does two set_reg source_value after_source place_to value_in put_context put_pairs alu added
-store_restores-on g b kb m r gi bi li s k p = record {
-  steady = record {
-    context = set-context _ 2 _ (set-context _ 2 _ (set-context _ 0 _ k (omega arith)) (k.small 2)) (omega arith);
-    room = s.room;
-    within = s.within;
-    status = record { high = omega (arith, (p.saved refl).high); control = omega (arith, (p.saved refl).control, k.small 5) };
-  };
-  place = record {
-    pc = omega (arith, p.pc, gi.even, gi.ends);
-    saved = λ t. absurd (false≢true t);
-    known = p.known;
-  };
-  silent = refl;
-}
+store_restores-on g b kb m r gi bi li s k p = restores StoreRestores Stores g b kb m r refl refl refl (omega arith) gi s k p p.known

@@ -10,9 +10,9 @@ use asm_model::name::Value;
 use asm_model::piece::{Piece, Placed};
 use asm_model::progress::{Progress, Section, Version};
 use code_model::object::{CODE_WORDS_MAX, STATIC_BYTES_MAX};
+use edge_io::lists::Items;
 use msp_encode::instr::{Dst, Instr, Src};
-use std::alloc::{AllocError, Global};
-use std::marker::Model;
+use std::alloc::AllocError;
 
 /// Why the assembler stops at a line.
 #[derive(Clone, Copy, Drop)]
@@ -32,45 +32,7 @@ impl From<AllocError> for Stop {
 }
 
 /// The pieces so far with their lines.
-#[derive(Drop)]
-pub(crate) struct Pieces {
-    items: Vec<Placed>,
-}
-
-impl Model for Pieces {
-    ghost use Rattle.std.specs.Prelude.{List};
-    ghost use Rattle.asm_model.specs.declared.piece.Placed.{Placed};
-
-    ghost Value = { List Placed };
-
-    ghost view = { λ pieces. pieces.items.items };
-}
-
-impl Pieces {
-    /// No pieces.
-    pub(crate) fn new(alloc: Global) -> Pieces
-        ensures { result ≡ [] }
-    {
-        Pieces {
-            items: Vec::new(alloc),
-        }
-    }
-
-    /// Appends a piece of a line.
-    pub(crate) fn push(&mut self, line: u32, piece: Piece) -> Result<(), AllocError>
-        ensures { OnOk result (self.new ≡ self.old ++ placed line piece ∷ []) }
-    {
-        self.items.push(Placed { line, piece })?;
-        Ok(())
-    }
-
-    /// The pieces.
-    pub(crate) fn as_slice(&self) -> &[Placed]
-        ensures { result.now ≡ self.now }
-    {
-        self.items.as_slice()
-    }
-}
+pub(crate) type Pieces = Items<Placed>;
 
 /// Before the first line.
 #[tactic(auto, unfolding(asm_model::specs::Drafts::first_progress))]

@@ -28,7 +28,7 @@ use asm_lines::text::{
 use asm_model::fault::AsmKind;
 use asm_model::mnemonic::{Directive, Form, Keyword};
 use asm_model::name::{Name, Value};
-use asm_model::piece::{DataUnit, Piece};
+use asm_model::piece::{DataUnit, Piece, Placed};
 use asm_model::progress::{Progress, Section};
 use msp_encode::instr::Width;
 
@@ -48,7 +48,7 @@ fn put(
     match grow(p, words(&piece), 0, 0) {
         Err(kind) => Err(Stop::Kind(kind)),
         Ok(next) => {
-            pieces.push(line, piece)?;
+            pieces.push(Placed { line, piece })?;
             Ok(next)
         }
     }
@@ -115,7 +115,7 @@ fn put_start(
     match piece {
         Err(kind) => Err(Stop::Kind(kind)),
         Ok(piece) => {
-            pieces.push(line, piece)?;
+            pieces.push(Placed { line, piece })?;
             Ok(tell(p, &piece))
         }
     }

@@ -18,4 +18,5 @@ mod second_pass;
 mod static_data;
 mod words;
 
+pub use asm_model::fault::{AsmFault, AsmKind};
 pub use assembling::assemble;

@@ -4,7 +4,7 @@ ghost use Rattle.std.specs.Prelude.{◌≡◌, ◌+◌, ◌*◌, ◌≤◌, ◌<
 ghost use Rattle.msp_encode.specs.Spelling.{Legal, src_words, dst_words, words_after};
 ghost use Rattle.asm_model.specs.declared.progress.Progress.{Progress};
 ghost use Rattle.msp_encode.specs.declared.instr.Instr.TheVariants as jumps;
-ghost use Rattle.asm_model.specs.Spelled.{spelling};
+ghost use Rattle.msp_encode.specs.Spelled.{spelling};
 ghost use Rattle.asm_model.specs.Instructions.{is_legal};
 ghost use Rattle.asm_model.specs.Drafts.{code_words, initialised_bytes};
 ghost use Rattle.asm_model.specs.SecondPass.{behind_source, settled, settle, instr_suits, in_reach, jump_offset, with_instr, with_data, with_entry, with_export, code_end, bytes_of, put_operation, code_place, put_jump_to, put_jump, put_word, below_end, start_of, enter_at, export_at, put_piece, second_pass, known_from};
@@ -21,7 +21,7 @@ use arrayvec::ArrayVec;
 use asm_lines::names::Names;
 use asm_model::expression::Base;
 use asm_model::fault::AsmKind;
-use asm_model::laws::{tested_is_legal, words_spell};
+use asm_model::laws::tested_is_legal;
 use asm_model::name::{Name, Value};
 use asm_model::operand::Use;
 use asm_model::piece::Piece;
@@ -30,7 +30,7 @@ use code_model::lists::{CodeWords, Relocs};
 use code_model::parts::Export;
 use msp_encode::encode;
 use msp_encode::instr::{Cond, Instr, Src};
-use msp_encode::laws::{legal_by_cases, one_spelling};
+use msp_encode::laws::{legal_by_cases, one_spelling, spelling_spells};
 use std::alloc::AllocError;
 
 /// The words of a legal instruction.
@@ -39,7 +39,8 @@ fn spelled(i: &Instr) -> ArrayVec<u16, 3>
     ensures words { result.items ≡ spelling i.now }
     ensures size { length (spelling i.now) ≡ 1 + length (words_after i.now) }
 {
-    words_spell();
+    legal_by_cases();
+    spelling_spells();
     one_spelling();
     encode(i)
 }
@@ -274,8 +275,7 @@ fn word(names: &Names, p: Progress, out: &mut Built, base: Base, word: u16) -> R
     }
     let at = out.initialised.len() as u32;
     let word = word_on(names, p, Use::Immediate, at, base, word);
-    out.initialised.push((word % 256) as u8)?;
-    out.initialised.push((word / 256) as u8)?;
+    out.initialised.extend_from_slice(&word.to_le_bytes())?;
     let kind = relocation_on(names, Use::Immediate, base);
     push_relocation(&mut out.data_relocs, false, at, kind)?;
     Ok(())

@@ -19,7 +19,7 @@ use asm_lines::operands::address;
 use asm_lines::text::{cut, trim};
 use asm_model::expression::Base;
 use asm_model::fault::AsmKind;
-use asm_model::piece::{DataUnit, Datum, Piece};
+use asm_model::piece::{DataUnit, Datum, Piece, Placed};
 use asm_model::progress::Progress;
 use std::alloc::AllocError;
 
@@ -154,7 +154,8 @@ fn push_each(
     let mut next = Some(rest);
     'parts: while let Some(text) = next {
         let (operand, behind) = cut(text, b',');
-        pieces.push(line, piece(unit, datum(unit, names, trim(operand))))?;
+        let piece = piece(unit, datum(unit, names, trim(operand)));
+        pieces.push(Placed { line, piece })?;
         next = behind;
     }
     Ok(())

@@ -1,6 +1,6 @@
 //! Laws of the spelling, for the layers above: each is used by calling it.
 
-ghost use Rattle.msp_encode.specs.Laws.{LegalByCases, OneSpelling};
+ghost use Rattle.msp_encode.specs.Laws.{LegalByCases, OneSpelling, SpellingLaw};
 
 /// The instructions that some words spell are those that meet the conditions on their parts.
 pub fn legal_by_cases()
@@ -10,4 +10,9 @@ pub fn legal_by_cases()
 /// An instruction has one spelling.
 pub fn one_spelling()
     ensures { OneSpelling }
+{}
+
+/// The words of a legal instruction spell it.
+pub fn spelling_spells()
+    ensures { SpellingLaw }
 {}

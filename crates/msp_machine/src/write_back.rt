@@ -28,9 +28,10 @@ fn store_word(at: u16, value: u16, m: &mut FlatMem) -> Writes
 {
     m.set_word(at, value);
     let low = at / 2 * 2;
+    let bytes = value.to_le_bytes();
     let mut written = Writes::new();
-    written.add(low, (value % 256) as u8);
-    written.add(low + 1, (value / 256) as u8);
+    written.add(low, bytes[0]);
+    written.add(low + 1, bytes[1]);
     written
 }
 

@@ -8,7 +8,7 @@ use Rattle.machine_model.specs.Context.{reg, set_reg, IsContext}
 use Rattle.machine_model.specs.Pairs.{put_pair}
 use Rattle.machine_model.specs.Accepting.{accepted, by_address}
 use Rattle.node_model.specs.Entries.{interrupted}
-use Rattle.machine_laws.proofs.Words.{as_words}
+use Rattle.machine_model.proofs.Contexts.{as_words}
 
 pub put_pair-first : (p q : ℕ × ℕ) (qs : List (ℕ × ℕ)) → p.0 < q.0 → put_pair p (q ∷ qs) ≡ p ∷ q ∷ qs
 put_pair-first p q qs h = rw (lt-ltb p.0 q.0 h) refl

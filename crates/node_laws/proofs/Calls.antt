@@ -29,7 +29,7 @@ use Rattle.node_laws.specs.Facts.{Given}
 use Rattle.node_laws.proofs.Resting.{sound-saved, saved-row, sound-front, sound-end, dispatch}
 use Rattle.node_laws.proofs.Stepping.{IsThread, thread-facts, domain-runs, step-keeps, later, word-small}
 use Rattle.node_laws.proofs.Contexts.{IsMark, mark-of, good-mark, at-entry, at-call, returned, steady-returned, pc-returned}
-use Rattle.node_laws.proofs.Untouched.{IsUntouched, untouched-all, untouched-twice, untouched-row, untouched-ready, kept-dispatch}
+use Rattle.node_laws.proofs.Untouched.{IsUntouched, untouched-all, untouched-twice, untouched-row, untouched-ready, kept-dispatch, untouched-words}
 
 -- a thread runs, its context is safe, and PC is at this entry
 pub record IsCalling (s : System) (d : Domain) (entry : ℕ) : Type 0 where
@@ -102,19 +102,7 @@ pub own-thread : (s : System) → (own_of s).threads (running s.kernel) ≡ true
 own-thread s = eq-eqb (app_of (running s.kernel)) (app_of (running s.kernel)) refl
 
 pub untouched-runs : (own : Own) (k : Kernel) (t : ℕ) → IsUntouched own k (with_running k t)
-untouched-runs own k t = record {
-  rows = λ b l e. refl;
-  threads = λ u l e. refl;
-  mutexes = λ b i l m e. refl;
-  conditions = λ b i l m e. refl;
-  ready = refl;
-  sleepers = refl;
-  lines = λ n l. refl;
-  functions = refl;
-  modules = λ i l e. refl;
-  ticks = refl;
-  lines_pending = refl;
-}
+untouched-runs own k t = untouched-words own k _ _ t k.module_now k.budget
 
 pub untouched-front : (own : Own) (k : Kernel) → own.threads (running k) ≡ true → IsUntouched own k (moved_to_front k)
 untouched-front own k e =

@@ -35,43 +35,15 @@ use Rattle.node_laws.proofs.Rows.{saved-put, populated-put}
 use Rattle.node_laws.proofs.Resting.{sound-saved, saved-row}
 use Rattle.node_laws.proofs.Stepping.{well-placed, of-module, later, step-keeps}
 use Rattle.node_laws.proofs.Contexts.{IsMark, mark-of, good-mark, returned}
-use Rattle.node_laws.proofs.Untouched.{IsUntouched, untouched-twice, untouched-row}
+use Rattle.node_laws.proofs.Untouched.{IsUntouched, untouched-twice, untouched-row, untouched-words, kept-straight}
 use Rattle.node_laws.proofs.Calls.{IsCalling, calling as calling-so, own_of, own-thread, comes-from, memory-untouched, IsReturned, good-returned}
 use Rattle.node_laws.proofs.Faulting.{behind-return, call-safe, code-safe}
 use Rattle.node_laws.proofs.Waiting.{mark-behind}
 
 -- ---- the kernel in a call
 
--- without a dispatch
-pub kept-straight : (own : Own) (k j : Kernel) (c : List ℕ) → IsUntouched own k j → KernelKept own k j c
-kept-straight own k j c h = record {
-  rows = h.rows;
-  threads = λ t l f. inl (h.threads t l f);
-  mutexes = h.mutexes;
-  conditions = h.conditions;
-  ready = inl h.ready;
-  sleepers = h.sleepers;
-  lines = h.lines;
-  functions = h.functions;
-  modules = h.modules;
-  ticks = h.ticks;
-  lines_pending = h.lines_pending;
-}
-
 pub untouched-call : (own : Own) (k : Kernel) (i : ℕ) → IsUntouched own k (with_running_module k i)
-untouched-call own k i = record {
-  rows = λ b l e. refl;
-  threads = λ u l e. refl;
-  mutexes = λ b i l m e. refl;
-  conditions = λ b i l m e. refl;
-  ready = refl;
-  sleepers = refl;
-  lines = λ n l. refl;
-  functions = refl;
-  modules = λ i l e. refl;
-  ticks = refl;
-  lines_pending = refl;
-}
+untouched-call own k i = untouched-words own k _ _ k.running i 0
 
 sound-entered : (k : Kernel) (ds : List (Option Domain)) (n : ℕ) (c : List ℕ) → IsSoundKernel k ds n → ThreadRuns k
     → (function_at k (reg c 12)).module < 4 → (module_at k (function_at k (reg c 12)).module).state ≡ live

@@ -35,7 +35,9 @@ use Rattle.node_model.specs.Steps.{pending}
 use Rattle.load_model.specs.Loading.{Loadable, domain_of, loaded_app, loaded_module, loaded_kernel, with_export, unless_taken, taken_number, places_of}
 use Rattle.node_model.specs.Sound.{AreDomains, AreFunctions}
 use Rattle.node_laws.proofs.Domains.{even-times}
-use Rattle.node_laws.proofs.FillingKernels.{app_row, settled-app, settled-register, settled-export}
+use Rattle.load_model.proofs.AppRows.{app_row, settled_app}
+use Rattle.load_model.proofs.ExportRows.{settled_export}
+use Rattle.node_laws.proofs.FillingKernels.{settled-register}
 use Rattle.node_laws.proofs.FillingRows.{free-row, free-app, domain-old, HasLengths, domains-with, new-app, new-module, functions-stay, is-unit, is-mark}
 
 -- what holds of a kernel while objects are placed
@@ -97,7 +99,7 @@ pub filling-app : (k : Kernel) (ds : List (Option Domain)) (o : Loadable) (r : R
     → IsFilling (loaded_app k o.object r) (set ds r.dom (Some (domain_of o r)))
 filling-app k ds o r named h a kind p = record {
   settled = settled-register k1 t 0 v (omega (arith, below)) (h.unborn t (omega (arith, below)))
-      (settled-app k o.object r h.settled kind below (free-app k r.dom below p.was_free) p.lengths.region p.settled);
+      (settled_app k o.object r h.settled kind below (free-app k r.dom below p.was_free) p.lengths.region p.settled);
   domains = domains-with k.apps k1.apps k.modules k.modules ds r.dom d
       (new-app k.apps k.modules o r h.settled.orderly.shape.app_rows below a kind p.lengths) h.domains;
   functions = functions-stay k ds r.dom d h.settled p.was_free h.functions;
@@ -213,7 +215,7 @@ record IsFit (ds : List (Option Domain)) (i at : ℕ) (e : Export) : Type 0 wher
 one-export : (k : Kernel) (ds : List (Option Domain)) (i at : ℕ) (e : Export) → IsFilling k ds → (module_at k i).state ≢ free
     → IsFit ds i at e → IsFilling (with_export i at k e) ds
 one-export k ds i at e h used fit = record {
-  settled = settled-export k i at e h.settled used fit.even;
+  settled = settled_export k i at e h.settled used fit.even;
   domains = h.domains;
   functions = λ f l some. elim (cases_eq f e.number) [
     | inl q ↦ subst (λ (x : FnRow). is_mark ds (8 + x.module) x.address ≡ true) (sym (here f l q)) fit.mark

@@ -1,4 +1,4 @@
--- Settled kernels: with a placed application's row, with another register saved for a thread that isn't live, and with an export.
+-- A settled kernel with another register saved for a thread that isn't live.
 use Rattle.std.proofs.Common.{◌≡◌, ◌≢◌, ℕ, ◌+◌, ◌-◌, ◌%◌, ◌<◌, length, set, refl, sym, ap, ◌∙◌, subst, inl, inr, arith, Contains, length-set}
 use Rattle.std.specs.Prelude.{nat_lt, if◌then◌else◌}
 use Rattle.std.proofs.lemmas.Bool.{cases_eq, lt-ltb, cond-true}
@@ -24,74 +24,6 @@ use Rattle.thread_laws.proofs.MovingRows.{MayHave, moving_with_row}
 use Rattle.thread_laws.proofs.Spots.{spot_nowhere}
 use Rattle.load_model.specs.Domains.{region_length}
 use Rattle.load_model.specs.Loading.{with_export}
-
--- ---- an application's row
-
-abbrev pub app_row : Object → Regions → AppRow
-app_row o r = record {
-  state = live;
-  code_lo = r.code_lo;
-  code_hi = r.code_hi;
-  lo = r.lo;
-  hi = r.hi;
-  z = static_size o;
-  stack = o.stack;
-  threads = o.threads;
-}
-
-app-place : (o : Object) (r : Regions) → o.kind ≡ App → r.hi ≡ r.lo + region_length o → IsAppPlace (app_row o r)
-app-place o r e h =
-    let f = o.form.app e in
-    record { threads = f.threads_most; z_even = omega arith; stack_even = f.stack_even; fits = omega (arith, h) }
-
--- among rows that have the places, another row with these places
-same-domain : (k : Kernel) (r : Regions) (row : AppRow) (n : ℕ) → r.dom < length k.apps → app_domain row ≡ app_domain (placed_app r)
-    → domain_at (with_app k r.dom row) n ≡ domain_at (with_app k r.dom (placed_app r)) n
-same-domain k r row n l e = elim (cases_eq n r.dom) [
-  | inl q ↦ ap (λ (x : DomainRow). if nat_lt n 8 then x else module_domain (module_at k (n - 8)))
-      (here row q ∙ e ∙ sym (here (placed_app r) q))
-  | inr ne ↦ ap (λ (x : AppRow). if nat_lt n 8 then app_domain x else module_domain (module_at k (n - 8)))
-      (other row ne ∙ sym (other (placed_app r) ne))
-]
-  where
-    here : (x : AppRow) → n ≡ r.dom → app_domain (app_at (with_app k r.dom x) n) ≡ app_domain x
-    here x q = ap (λ (i : ℕ). app_domain (app_at (with_app k r.dom x) i)) q
-        ∙ ap app_domain (get_or-set_same k.apps r.dom x free_app l)
-
-    other : (x : AppRow) → n ≢ r.dom → app_at (with_app k r.dom x) n ≡ app_at k n
-    other x ne = get_or-set_other k.apps r.dom n x free_app ne
-
-pub settled-app : (k : Kernel) (o : Object) (r : Regions) → IsSettledKernel k → o.kind ≡ App → r.dom < 8
-    → (app_at k r.dom).state ≡ free → r.hi ≡ r.lo + region_length o → IsSettledKernel (with_places k r)
-    → IsSettledKernel (with_app k r.dom (app_row o r))
-settled-app k o r h kind l was size placed =
-    let l8 : r.dom < length k.apps = omega (arith, h.orderly.shape.app_rows) in
-    let row : AppRow = app_row o r in
-    let j : Kernel = with_app k r.dom row in
-    let i : Kernel = with_app k r.dom (placed_app r) in
-    let p : IsSettledKernel i = subst (λ (x : Kernel). IsSettledKernel x)
-    (cond-true (nat_lt r.dom 8) i (with_module k (r.dom - 8) (placed_module r)) (lt-ltb r.dom 8 l)) placed in
-    let same : (n : ℕ) → domain_at j n ≡ domain_at i n = λ n. same-domain k r row n l8 refl in
-    let used : (n : ℕ) → IsInUse j n → IsInUse i n = λ n u. subst (λ (x : DomainRow). x.state ≢ free) (same n) u in
-    record {
-      orderly = orderly_app k h.orderly r.dom row was;
-      inside = λ q n b u.
-          subst (λ (x : DomainRow). IsInPool (pool_range q) (range_in q x)) (sym (same n)) (p.inside q n b (used n u));
-      apart = λ q n m b c d u v.
-          subst (λ (x : DomainRow). AreApart (range_in q x) (range_in q (domain_at j m))) (sym (same n))
-          (subst (λ (x : DomainRow). AreApart (range_in q (domain_at i n)) (range_in q x)) (sym (same m))
-          (p.apart q n m b c d (used n u) (used m v)));
-      apps = λ b c u. elim (cases_eq b r.dom) [
-        | inl q ↦ subst (λ (x : AppRow). IsAppPlace x)
-            (sym (ap (λ (a : ℕ). app_at j a) q ∙ get_or-set_same k.apps r.dom row free_app l8)) (app-place o r kind size)
-        | inr ne ↦
-            let old : app_at j b ≡ app_at k b = get_or-set_other k.apps r.dom b row free_app ne in
-            subst (λ (x : AppRow). IsAppPlace x) (sym old) (h.apps b c (subst (λ (x : AppRow). x.state ≢ free) old u))
-      ];
-      functions = h.functions;
-    }
-
--- ---- a register of a thread that isn't live
 
 unlisted : (k : Kernel) (t : ℕ) → IsOrderly k → (thread_at k t).state ≡ free → (s : Spot) → Contains (listed k s) t → ⊥
 unlisted k t h e s c =
@@ -155,59 +87,3 @@ settled-register k t n v l e h =
       apps = h.apps;
       functions = h.functions;
     }
-
--- ---- an export
-
-pub settled-export : (k : Kernel) (i at : ℕ) (e : Export) → IsSettledKernel k → (module_at k i).state ≢ free
-    → (at + e.offset) % 2 ≡ 0 → IsSettledKernel (with_export i at k e)
-settled-export k i at e h used even = record {
-  orderly = record {
-    shape = record {
-      app_rows = h.orderly.shape.app_rows;
-      module_rows = h.orderly.shape.module_rows;
-      function_rows = length-set k.functions e.number new ∙ h.orderly.shape.function_rows;
-      thread_rows = h.orderly.shape.thread_rows;
-      mutex_rows = h.orderly.shape.mutex_rows;
-      condition_lists = h.orderly.shape.condition_lists;
-      line_lists = h.orderly.shape.line_lists;
-    };
-    limit = h.orderly.limit;
-    top = h.orderly.top;
-    rows = h.orderly.rows;
-    threads = h.orderly.threads;
-    placed = record {
-      there = h.orderly.placed.there;
-      nowhere_else = λ s. h.orderly.placed.nowhere_else s;
-      once = λ s. h.orderly.placed.once s;
-    };
-    caller = h.orderly.caller;
-    callee = h.orderly.callee;
-    mutexes = h.orderly.mutexes;
-    conditions = h.orderly.conditions;
-    by_priority = h.orderly.by_priority;
-    by_wake_time = h.orderly.by_wake_time;
-    later = h.orderly.later;
-    functions = λ f l some. elim (cases_eq f e.number) [
-      | inl q ↦ subst (λ (x : FnRow). (module_at k x.module).state ≢ free) (sym (here f l q)) used
-      | inr ne ↦ subst (λ (x : FnRow). (module_at k x.module).state ≢ free) (sym (other f ne))
-          (h.orderly.functions f l (subst (λ (x : FnRow). x.module ≢ none) (other f ne) some))
-    ];
-  };
-  inside = h.inside;
-  apart = h.apart;
-  apps = h.apps;
-  functions = λ f l. elim (cases_eq f e.number) [
-    | inl q ↦ ap (λ (x : FnRow). x.address % 2) (here f l q) ∙ even
-    | inr ne ↦ ap (λ (x : FnRow). x.address % 2) (other f ne) ∙ h.functions f l
-  ];
-}
-  where
-    new : FnRow
-    new = record { «module» = i; address = at + e.offset }
-
-    here : (f : ℕ) → f < 64 → f ≡ e.number → function_at (with_export i at k e) f ≡ new
-    here f l q = ap (λ (x : ℕ). function_at (with_export i at k e) x) q
-        ∙ get_or-set_same k.functions e.number new free_function (omega (arith, h.orderly.shape.function_rows))
-
-    other : (f : ℕ) → f ≢ e.number → function_at (with_export i at k e) f ≡ function_at k f
-    other f ne = get_or-set_other k.functions e.number f new free_function ne

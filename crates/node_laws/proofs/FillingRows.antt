@@ -21,7 +21,7 @@ use Rattle.load_model.specs.Domains.{Domain, code_length, region_length}
 use Rattle.node_model.specs.Systems.{domain_in, kind_of, is_mark, is_mark_in, is_unit_address, has_bit}
 use Rattle.load_model.specs.Loading.{Loadable, domain_of}
 use Rattle.node_model.specs.Sound.{HasDomain, HasRow, IsAppRowOf, IsModuleRowOf, IsDomain, AreDomains, AreFunctions}
-use Rattle.node_laws.proofs.FillingKernels.{app_row}
+use Rattle.load_model.proofs.AppRows.{app_row}
 
 -- ---- the row of the number that is chosen is free
 

@@ -5,7 +5,7 @@ use Rattle.machine_model.specs.Memory.{even, word_at, put_all, IsMemory}
 use Rattle.machine_model.specs.Context.{reg, set_reg, IsContext}
 use Rattle.machine_model.specs.Does.{Effect, lowered}
 use Rattle.machine_model.specs.Operands.{sum_of}
-use Rattle.machine_laws.proofs.Words.{as_words, set-context}
+use Rattle.machine_model.proofs.Contexts.{as_words, set-context}
 use Rattle.machine_laws.proofs.Registers.{reg_other, pc_same, sp_same, sr_same}
 use Rattle.kernel_model.specs.declared.map.TheConstants.{FIRST_ROUTINE}
 use Rattle.kernel_model.specs.declared.kinds.Kind.{Kind}
@@ -13,9 +13,6 @@ use Rattle.kernel_model.specs.declared.kinds.Kind.TheVariants.{App, Module}
 use Rattle.kernel_model.specs.Kernel.{Kernel, with_word}
 use Rattle.kernel_model.specs.Words.{running}
 use Rattle.kernel_model.specs.declared.rows.SysWord.TheVariants.{Pending}
-use Rattle.kernel_model.specs.Orderly.{Spot, spot_of, listed, IsPlaced}
-use Rattle.kernel_model.specs.Orderly.Spot.{Nowhere, Ready, Runs, Asleep, OnMutex, OnCondition, OnLine, Calls}
-use Rattle.place_model.specs.Settled.{IsSettledKernel}
 use Rattle.kernel_model.specs.Running.{ThreadRuns}
 use Rattle.load_model.specs.Domains.{Domain}
 use Rattle.node_model.specs.Placed.{control_bits}
@@ -27,65 +24,16 @@ use Rattle.node_model.specs.Sound.{IsSound, IsSoundKernel, IsServing, Interrupte
 use Rattle.node_model.specs.Confined.{Within}
 use Rattle.node_model.specs.Laws.{IsSeen, IsSafe, IsInPools}
 use Rattle.node_laws.specs.Facts.{Given}
+use Rattle.node_laws.proofs.OtherWords.{settled-words}
 use Rattle.node_laws.proofs.Stepping.{IsThread, thread-facts, writes, later, memory-after, all-map}
 use Rattle.node_laws.proofs.Accepting.{four, in_order, high_word, pushed-accepted}
 
--- ---- the pending word is no part of what is settled
-
-listed-pending : (k : Kernel) (v : ℕ) (s : Spot) → listed (with_word k Pending v) s ≡ listed k s
-listed-pending k v Nowhere = refl
-listed-pending k v Ready = refl
-listed-pending k v Runs = refl
-listed-pending k v Asleep = refl
-listed-pending k v (OnMutex a i) = refl
-listed-pending k v (OnCondition a c) = refl
-listed-pending k v (OnLine n) = refl
-listed-pending k v Calls = refl
-
-placed-pending : (k : Kernel) (v : ℕ) → IsPlaced k → IsPlaced (with_word k Pending v)
-placed-pending k v h = record {
-  there = λ t l n. subst (λ (xs : List ℕ). Contains xs t) (sym (listed-pending k v (spot_of k t))) (h.there t l n);
-  nowhere_else = λ s t c. h.nowhere_else s t (subst (λ (xs : List ℕ). Contains xs t) (listed-pending k v s) c);
-  once = λ s. subst (λ (xs : List ℕ). AllPairs (λ x y. x ≢ y) xs) (sym (listed-pending k v s)) (h.once s);
-}
-
-pub settled-pending : (k : Kernel) (v : ℕ) → IsSettledKernel k → IsSettledKernel (with_word k Pending v)
-settled-pending k v h = record {
-  orderly = record {
-    shape = record {
-      app_rows = h.orderly.shape.app_rows;
-      module_rows = h.orderly.shape.module_rows;
-      function_rows =
-          h.orderly.shape.function_rows;
-      thread_rows = h.orderly.shape.thread_rows;
-      mutex_rows = h.orderly.shape.mutex_rows;
-      condition_lists = h.orderly.shape.condition_lists;
-      line_lists = h.orderly.shape.line_lists;
-    };
-    limit = h.orderly.limit;
-    top = h.orderly.top;
-    rows = h.orderly.rows;
-    threads = h.orderly.threads;
-    placed = placed-pending k v h.orderly.placed;
-    caller = h.orderly.caller;
-    callee = h.orderly.callee;
-    mutexes = h.orderly.mutexes;
-    conditions = h.orderly.conditions;
-    by_priority = h.orderly.by_priority;
-    by_wake_time = h.orderly.by_wake_time;
-    later = h.orderly.later;
-    functions = h.orderly.functions;
-  };
-  inside = h.inside;
-  apart = h.apart;
-  apps = h.apps;
-  functions = h.functions;
-}
+-- ---- another pending word
 
 pub sound-pending : (k : Kernel) (ds : List (Option Domain)) (n v : ℕ) → v < 2 ^ 14 → IsSoundKernel k ds n
     → IsSoundKernel (with_word k Pending v) ds n
 sound-pending k ds n v l h = record {
-  settled = settled-pending k v h.settled;
+  settled = settled-words k k.budget v h.settled;
   domains = h.domains;
   saved = h.saved;
   populated = h.populated;

@@ -48,165 +48,26 @@ light false e = absurd (cc)
 abbrev eight : (ℕ → Bool) → ℕ
 eight f = sum (map (λ j. cond (f j) (2 ^ j) 0) (range_with_len 0 8))
 
+-- the bits of a sum of powers of two
+bits-of : (a b c d e f g h : ℕ) → a ≤ 1 → b ≤ 1 → c ≤ 1 → d ≤ 1 → e ≤ 1 → f ≤ 1 → g ≤ 1 → h ≤ 1 → (j : ℕ) → j < 8
+    → bit_at (a + 2 * b + 4 * c + 8 * d + 16 * e + 32 * f + 64 * g + 128 * h) j ≡ get_or (a ∷ b ∷ c ∷ d ∷ e ∷ f ∷ g ∷ h ∷ []) j 0
+bits-of a b c d e f g h ha hb hc hd he hf hg hh zero l = omega arith
+bits-of a b c d e f g h ha hb hc hd he hf hg hh (suc zero) l = omega arith
+bits-of a b c d e f g h ha hb hc hd he hf hg hh (suc (suc zero)) l = omega arith
+bits-of a b c d e f g h ha hb hc hd he hf hg hh (suc (suc (suc zero))) l = omega arith
+bits-of a b c d e f g h ha hb hc hd he hf hg hh (suc (suc (suc (suc zero)))) l = omega arith
+bits-of a b c d e f g h ha hb hc hd he hf hg hh (suc (suc (suc (suc (suc zero))))) l = omega arith
+bits-of a b c d e f g h ha hb hc hd he hf hg hh (suc (suc (suc (suc (suc (suc zero)))))) l = omega arith
+bits-of a b c d e f g h ha hb hc hd he hf hg hh (suc (suc (suc (suc (suc (suc (suc zero))))))) l = omega arith
+bits-of a b c d e f g h ha hb hc hd he hf hg hh (suc (suc (suc (suc (suc (suc (suc (suc j)))))))) l = absurd (omega arith)
+
+eight-is : (f : ℕ → Bool) → eight f ≡ weight (f 0) + 2 * weight (f 1) + 4 * weight (f 2) + 8 * weight (f 3) + 16 * weight (f 4) + 32 * weight (f 5) + 64 * weight (f 6) + 128 * weight (f 7)
+eight-is f = omega (arith, weighs (f 0) 1, weighs (f 1) 2, weighs (f 2) 4, weighs (f 3) 8, weighs (f 4) 16, weighs (f 5) 32, weighs (f 6) 64, weighs (f 7) 128)
+
 bit-of : (f : ℕ → Bool) (j : ℕ) → j < 8 → bit_at (eight f) j ≡ weight (f j)
-bit-of f zero l = omega (
-  arith,
-  weighs (f 0) 1,
-  weight-small (f 0),
-  weighs (f 1) 2,
-  weight-small (f 1),
-  weighs (f 2) 4,
-  weight-small (f 2),
-  weighs (f 3) 8,
-  weight-small (f 3),
-  weighs (f 4) 16,
-  weight-small (f 4),
-  weighs (f 5) 32,
-  weight-small (f 5),
-  weighs (f 6) 64,
-  weight-small (f 6),
-  weighs (f 7) 128,
-  weight-small (f 7),
-)
-bit-of f (suc zero) l = omega (
-  arith,
-  weighs (f 0) 1,
-  weight-small (f 0),
-  weighs (f 1) 2,
-  weight-small (f 1),
-  weighs (f 2) 4,
-  weight-small (f 2),
-  weighs (f 3) 8,
-  weight-small (f 3),
-  weighs (f 4) 16,
-  weight-small (f 4),
-  weighs (f 5) 32,
-  weight-small (f 5),
-  weighs (f 6) 64,
-  weight-small (f 6),
-  weighs (f 7) 128,
-  weight-small (f 7),
-)
-bit-of f (suc (suc zero)) l = omega (
-  arith,
-  weighs (f 0) 1,
-  weight-small (f 0),
-  weighs (f 1) 2,
-  weight-small (f 1),
-  weighs (f 2) 4,
-  weight-small (f 2),
-  weighs (f 3) 8,
-  weight-small (f 3),
-  weighs (f 4) 16,
-  weight-small (f 4),
-  weighs (f 5) 32,
-  weight-small (f 5),
-  weighs (f 6) 64,
-  weight-small (f 6),
-  weighs (f 7) 128,
-  weight-small (f 7),
-)
-bit-of f (suc (suc (suc zero))) l =
-    omega (
-      arith,
-      weighs (f 0) 1,
-      weight-small (f 0),
-      weighs (f 1) 2,
-      weight-small (f 1),
-      weighs (f 2) 4,
-      weight-small (f 2),
-      weighs (f 3) 8,
-      weight-small (f 3),
-      weighs (f 4) 16,
-      weight-small (f 4),
-      weighs (f 5) 32,
-      weight-small (f 5),
-      weighs (f 6) 64,
-      weight-small (f 6),
-      weighs (f 7) 128,
-      weight-small (f 7),
-    )
-bit-of f (suc (suc (suc (suc zero)))) l =
-    omega (
-      arith,
-      weighs (f 0) 1,
-      weight-small (f 0),
-      weighs (f 1) 2,
-      weight-small (f 1),
-      weighs (f 2) 4,
-      weight-small (f 2),
-      weighs (f 3) 8,
-      weight-small (f 3),
-      weighs (f 4) 16,
-      weight-small (f 4),
-      weighs (f 5) 32,
-      weight-small (f 5),
-      weighs (f 6) 64,
-      weight-small (f 6),
-      weighs (f 7) 128,
-      weight-small (f 7),
-    )
-bit-of f (suc (suc (suc (suc (suc zero))))) l =
-    omega (
-      arith,
-      weighs (f 0) 1,
-      weight-small (f 0),
-      weighs (f 1) 2,
-      weight-small (f 1),
-      weighs (f 2) 4,
-      weight-small (f 2),
-      weighs (f 3) 8,
-      weight-small (f 3),
-      weighs (f 4) 16,
-      weight-small (f 4),
-      weighs (f 5) 32,
-      weight-small (f 5),
-      weighs (f 6) 64,
-      weight-small (f 6),
-      weighs (f 7) 128,
-      weight-small (f 7),
-    )
-bit-of f (suc (suc (suc (suc (suc (suc zero)))))) l =
-    omega (
-      arith,
-      weighs (f 0) 1,
-      weight-small (f 0),
-      weighs (f 1) 2,
-      weight-small (f 1),
-      weighs (f 2) 4,
-      weight-small (f 2),
-      weighs (f 3) 8,
-      weight-small (f 3),
-      weighs (f 4) 16,
-      weight-small (f 4),
-      weighs (f 5) 32,
-      weight-small (f 5),
-      weighs (f 6) 64,
-      weight-small (f 6),
-      weighs (f 7) 128,
-      weight-small (f 7),
-    )
-bit-of f (suc (suc (suc (suc (suc (suc (suc zero))))))) l =
-    omega (
-      arith,
-      weighs (f 0) 1,
-      weight-small (f 0),
-      weighs (f 1) 2,
-      weight-small (f 1),
-      weighs (f 2) 4,
-      weight-small (f 2),
-      weighs (f 3) 8,
-      weight-small (f 3),
-      weighs (f 4) 16,
-      weight-small (f 4),
-      weighs (f 5) 32,
-      weight-small (f 5),
-      weighs (f 6) 64,
-      weight-small (f 6),
-      weighs (f 7) 128,
-      weight-small (f 7),
-    )
-bit-of f (suc (suc (suc (suc (suc (suc (suc (suc j)))))))) l = absurd (omega arith)
+bit-of f j l = ap (λ (x : ℕ). bit_at x j) (eight-is f)
+    ∙ bits-of _ _ _ _ _ _ _ _ (weight-small (f 0)) (weight-small (f 1)) (weight-small (f 2)) (weight-small (f 3)) (weight-small (f 4)) (weight-small (f 5)) (weight-small (f 6)) (weight-small (f 7)) j l
+    ∙ get_or-map-range_with_len (λ (i : ℕ). weight (f i)) 0 8 j j 0 l refl
 
 -- ---- whose mark it is
 

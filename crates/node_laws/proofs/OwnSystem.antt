@@ -5,12 +5,12 @@ use Rattle.std.proofs.lemmas.Grind.{same_number_lists}
 use Rattle.machine_model.specs.Memory.{word_at, even, IsMemory}
 use Rattle.machine_model.specs.Context.{reg, set_reg, IsContext}
 use Rattle.machine_model.specs.Does.{raised}
-use Rattle.machine_laws.proofs.Words.{set-context}
+use Rattle.machine_model.proofs.Contexts.{set-context}
 use Rattle.machine_laws.proofs.Registers.{reg_other, sp_same}
 use Rattle.kernel_model.specs.declared.map.TheConstants.{BITMAP, BITMAP_END, DATA_POOL, DATA_POOL_END, KERNEL_STACK, KERNEL_TOP, TABLES_END, VECTORS}
 use Rattle.kernel_model.specs.Kernel.{Kernel, app_at}
 use Rattle.kernel_model.specs.Layout.{kernel_of}
-use Rattle.kernel_model.specs.Running.{ThreadRuns, NoneRuns, idle_context}
+use Rattle.kernel_model.specs.Running.{ThreadRuns, idle_context}
 use Rattle.kernel_model.specs.Words.{free, running, app_of}
 use Rattle.thread_laws.specs.Facts.{IsRunning as IsRunningRow}
 use Rattle.thread_laws.proofs.Spots.{running_is}

@@ -2,8 +2,8 @@
 use Rattle.std.proofs.Common.{◌≡◌, ◌≢◌, ℕ, ◌<◌, Bool, true, false, cond, List, length, remove, refl, arith, Option, None, Some}
 use Rattle.std.proofs.lemmas.Bool.{eqb-false}
 use Rattle.std.proofs.lemmas.List.Elements.{Contains-get_or}
-use Rattle.kernel_model.specs.Kernel.{Kernel, thread_at, with_ready}
-use Rattle.kernel_model.specs.Words.{running_state, running, ready_row, with_running, with_state}
+use Rattle.kernel_model.specs.Kernel.{Kernel, thread_at, with_thread, with_ready}
+use Rattle.kernel_model.specs.Words.{running_state, running, ready_row, with_running, none_running, with_state}
 use Rattle.place_model.specs.Settled.{IsSettledKernel}
 use Rattle.kernel_model.specs.Running.{ThreadRuns, NoneRuns, idle_context}
 use Rattle.kernel_model.specs.Dispatching.{saved, moved_to_front, moved_to_end, chosen_place, chosen_thread, nothing_ready, dispatched, dispatched_context}
@@ -41,14 +41,15 @@ saved-row k c r size = row_put k (running k) (record (thread_at k (running k)) {
 
 -- ---- to the front, and to the end
 
-pub sound-front : (k : Kernel) (ds : List (Option Domain)) (n : ℕ) → IsSoundKernel k ds n → ThreadRuns k
+sound-ready : (k : Kernel) (ds : List (Option Domain)) (n : ℕ) (xs : List ℕ) → IsSoundKernel k ds n → ThreadRuns k
     → IsGoodFor k.apps ds (running k) (thread_at k (running k)).regs
-    → IsSoundKernel (moved_to_front k) ds n
-sound-front k ds n h r good =
+    → IsSettledKernel (none_running (with_ready (with_thread k (running k) (ready_row (thread_at k (running k)))) xs))
+    → IsSoundKernel (none_running (with_ready (with_thread k (running k) (ready_row (thread_at k (running k)))) xs)) ds n
+sound-ready k ds n xs h r good settled =
     let size : length k.threads ≡ 32 = h.settled.orderly.shape.thread_rows in
     let l : running k < length k.threads = (let x = r.thread in omega arith) in
     record {
-      settled = front_stays_settled k h.settled r;
+      settled = settled;
       domains = h.domains;
       saved = saved-put k.apps ds k.threads (running k) (ready_row (thread_at k (running k))) l
           (λ _ _. record { good = good; mark = λ other. absurd (other refl) }) h.saved;
@@ -58,22 +59,15 @@ sound-front k ds n h r good =
       bounded = h.bounded;
     }
 
+pub sound-front : (k : Kernel) (ds : List (Option Domain)) (n : ℕ) → IsSoundKernel k ds n → ThreadRuns k
+    → IsGoodFor k.apps ds (running k) (thread_at k (running k)).regs
+    → IsSoundKernel (moved_to_front k) ds n
+sound-front k ds n h r good = sound-ready k ds n _ h r good (front_stays_settled k h.settled r)
+
 pub sound-end : (k : Kernel) (ds : List (Option Domain)) (n : ℕ) → IsSoundKernel k ds n → ThreadRuns k
     → IsGoodFor k.apps ds (running k) (thread_at k (running k)).regs
     → IsSoundKernel (moved_to_end k) ds n
-sound-end k ds n h r good =
-    let size : length k.threads ≡ 32 = h.settled.orderly.shape.thread_rows in
-    let l : running k < length k.threads = (let x = r.thread in omega arith) in
-    record {
-      settled = end_stays_settled k h.settled r;
-      domains = h.domains;
-      saved = saved-put k.apps ds k.threads (running k) (ready_row (thread_at k (running k))) l
-          (λ _ _. record { good = good; mark = λ other. absurd (other refl) }) h.saved;
-      populated = populated-put k.apps k.threads (running k) (ready_row (thread_at k (running k))) l (λ off. omega arith)
-          h.populated;
-      functions = h.functions;
-      bounded = h.bounded;
-    }
+sound-end k ds n h r good = sound-ready k ds n _ h r good (end_stays_settled k h.settled r)
 
 -- ---- a dispatch
 

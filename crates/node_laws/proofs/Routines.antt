@@ -6,7 +6,7 @@ use Rattle.std.proofs.lemmas.List.{get_or-set_other}
 use Rattle.machine_model.specs.Memory.{word_at, even, IsMemory}
 use Rattle.machine_model.specs.Context.{reg, set_reg, IsContext}
 use Rattle.machine_model.specs.Does.{raised}
-use Rattle.machine_laws.proofs.Words.{set-context}
+use Rattle.machine_model.proofs.Contexts.{set-context}
 use Rattle.machine_laws.proofs.Registers.{reg_other, sp_same}
 use Rattle.kernel_model.specs.declared.map.TheConstants.{DATA_POOL, FIRST_ROUTINE}
 use Rattle.kernel_model.specs.Kernel.{Kernel, thread_at, free_thread}

@@ -21,7 +21,7 @@ use Rattle.machine_model.specs.Context.{reg}
 use Rattle.node_model.specs.Systems.{is_mark}
 use Rattle.node_model.specs.Kept.{Own, of_app}
 use Rattle.node_laws.proofs.Untouched.{IsUntouched, untouched-all, untouched-twice, untouched-row, untouched-ready}
-use Rattle.node_laws.proofs.Waking.{IsWoken}
+use Rattle.node_laws.proofs.Waking.{IsWoken, woken-but, same-words}
 
 -- ---- what isn't the step's own stays
 
@@ -78,20 +78,6 @@ pub record IsShifted (own : Own) (k j : Kernel) : Type 0 where
   pub rows : (t : ℕ) → (thread_at j t ≡ thread_at k t) ⊎ IsRowShifted (thread_at k t) (thread_at j t)
   pub untouched : IsUntouched own k j
 
-same-words : (k : Kernel) → IsWoken k k
-same-words k = record {
-  apps = refl;
-  modules = refl;
-  functions = refl;
-  running = refl;
-  in_module = refl;
-  counted = refl;
-  mask =
-      refl;
-  low = refl;
-  high = refl;
-}
-
 pub shifted-all : (own : Own) (k : Kernel) → IsShifted own k k
 shifted-all own k = record { words = same-words k; size = refl; rows = λ t. inl refl; untouched = untouched-all own k }
 
@@ -132,17 +118,7 @@ pub shifted-mutex : (own : Own) (k : Kernel) (a i : ℕ) (row : MutexRow) → i 
     → IsShifted own k (with_mutex k a i row)
 shifted-mutex own k a i row li e =
     record {
-      words = record {
-        apps = refl;
-        modules = refl;
-        functions = refl;
-        running = refl;
-        in_module = refl;
-        counted = refl;
-        mask = refl;
-        low = refl;
-        high = refl;
-      };
+      words = woken-but k k.ready k.threads _ k.conditions;
       size = refl;
       rows = λ t. inl refl;
       untouched = untouched-mutex own k a i row li e;
@@ -152,17 +128,7 @@ pub shifted-condition : (own : Own) (k : Kernel) (a c : ℕ) (xs : List ℕ) →
     → IsShifted own k (with_condition k a c xs)
 shifted-condition own k a c xs lc e =
     record {
-      words = record {
-        apps = refl;
-        modules = refl;
-        functions = refl;
-        running = refl;
-        in_module = refl;
-        counted = refl;
-        mask = refl;
-        low = refl;
-        high = refl;
-      };
+      words = woken-but k k.ready k.threads k.mutexes _;
       size = refl;
       rows = λ t. inl refl;
       untouched = untouched-condition own k a c xs lc e;
@@ -171,17 +137,7 @@ shifted-condition own k a c xs lc e =
 pub shifted-row : (own : Own) (k : Kernel) (t : ℕ) (row : ThreadRow) → t < length k.threads → own.threads t ≡ true
     → IsRowShifted (thread_at k t) row → IsShifted own k (with_thread k t row)
 shifted-row own k t row l e s = record {
-  words = record {
-    apps = refl;
-    modules = refl;
-    functions = refl;
-    running = refl;
-    in_module = refl;
-    counted = refl;
-    mask = refl;
-    low = refl;
-    high = refl;
-  };
+  words = woken-but k k.ready _ k.mutexes k.conditions;
   size = length-set k.threads t row;
   rows = λ u. elim (cases_eq u t) [
     | inl q ↦ inr (subst (λ (v : ℕ). IsRowShifted (thread_at k v) (thread_at (with_thread k t row) v)) (sym q)
@@ -198,17 +154,7 @@ shifted-ready own k t l e s =
     let one : IsShifted own k (with_thread k t (ready_row (thread_at k t))) =
     shifted-row own k t (ready_row (thread_at k t)) l e s in
     record {
-      words = record {
-        apps = refl;
-        modules = refl;
-        functions = refl;
-        running = refl;
-        in_module = refl;
-        counted = refl;
-        mask = refl;
-        low = refl;
-        high = refl;
-      };
+      words = woken-but k _ _ k.mutexes k.conditions;
       size = one.size;
       rows = one.rows;
       untouched = untouched-twice own k (with_thread k t (ready_row (thread_at k t))) (to_ready_end k t) one.untouched

@@ -31,8 +31,10 @@ pub record IsUntouched (own : Own) (before after : Kernel) : Type 0 where
   pub ticks : tick_number after ≡ tick_number before
   pub lines_pending : pending after ≡ pending before
 
-pub untouched-all : (own : Own) (k : Kernel) → IsUntouched own k k
-untouched-all own k = record {
+-- other words of who runs
+pub untouched-words : (own : Own) (k : Kernel) (limit top thread callee count : ℕ)
+    → IsUntouched own k (record k { cur_lim = limit; cur_top = top; running = thread; module_now = callee; budget = count })
+untouched-words own k limit top thread callee count = record {
   rows = λ b l e. refl;
   threads = λ t l e. refl;
   mutexes = λ b i l m e. refl;
@@ -45,6 +47,9 @@ untouched-all own k = record {
   ticks = refl;
   lines_pending = refl;
 }
+
+pub untouched-all : (own : Own) (k : Kernel) → IsUntouched own k k
+untouched-all own k = untouched-words own k k.cur_lim k.cur_top k.running k.module_now k.budget
 
 pub untouched-twice : (own : Own) (k j i : Kernel) → IsUntouched own k j → IsUntouched own j i → IsUntouched own k i
 untouched-twice own k j i a b = record {
@@ -144,9 +149,9 @@ omit-remove own (x ∷ xs) (suc i) l e h =
 
 -- ---- a dispatch
 
-by-ready : (own : Own) (k j : Kernel) (pick : Option ℕ) → IsUntouched own k j → IsOrderly j → (b : Bool) → nothing_ready j ≡ b
-    → KernelKept own k (cond b j (begun j pick)) (cond b idle_context (thread_at j (chosen_thread j pick)).regs)
-by-ready own k j pick h o true e = record {
+-- without a dispatch
+pub kept-straight : (own : Own) (k j : Kernel) (c : List ℕ) → IsUntouched own k j → KernelKept own k j c
+kept-straight own k j c h = record {
   rows = h.rows;
   threads = λ t l f. inl (h.threads t l f);
   mutexes = h.mutexes;
@@ -159,6 +164,10 @@ by-ready own k j pick h o true e = record {
   ticks = h.ticks;
   lines_pending = h.lines_pending;
 }
+
+by-ready : (own : Own) (k j : Kernel) (pick : Option ℕ) → IsUntouched own k j → IsOrderly j → (b : Bool) → nothing_ready j ≡ b
+    → KernelKept own k (cond b j (begun j pick)) (cond b idle_context (thread_at j (chosen_thread j pick)).regs)
+by-ready own k j pick h o true e = kept-straight own k j idle_context h
 by-ready own k j pick h o false e = record {
   rows = h.rows;
   threads = λ u l f. elim (cases_eq u t) [

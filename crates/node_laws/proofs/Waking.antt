@@ -8,6 +8,7 @@ use Rattle.kernel_model.specs.Words.{free, ready, running_state, ready_row}
 use Rattle.kernel_model.specs.Queues.{to_ready_end}
 use Rattle.kernel_model.specs.declared.rows.AppRow.{AppRow}
 use Rattle.kernel_model.specs.declared.rows.ThreadRow.{ThreadRow}
+use Rattle.kernel_model.specs.declared.rows.MutexRow.{MutexRow}
 use Rattle.kernel_model.specs.Waking.{each_to_end}
 use Rattle.load_model.specs.Domains.{Domain}
 use Rattle.node_model.specs.Sound.{IsSavedWell, AreSaved, ArePopulated}
@@ -25,19 +26,26 @@ pub record IsWoken (k j : Kernel) : Type 0 where
   pub low : j.tick_low ≡ k.tick_low
   pub high : j.tick_high ≡ k.tick_high
 
-pub each-leaves : (ts : List ℕ) (k : Kernel) → IsWoken k (each_to_end k ts)
-each-leaves [] k = record {
+-- another ready list, and other threads, mutexes and conditions
+pub woken-but : (k : Kernel) (rs : List ℕ) (ts : List ThreadRow) (ms : List MutexRow) (cs : List (List ℕ))
+    → IsWoken k (record k { ready = rs; threads = ts; mutexes = ms; conditions = cs })
+woken-but k rs ts ms cs = record {
   apps = refl;
   modules = refl;
   functions = refl;
   running = refl;
   in_module = refl;
   counted = refl;
-  mask =
-      refl;
+  mask = refl;
   low = refl;
   high = refl;
 }
+
+pub same-words : (k : Kernel) → IsWoken k k
+same-words k = woken-but k k.ready k.threads k.mutexes k.conditions
+
+pub each-leaves : (ts : List ℕ) (k : Kernel) → IsWoken k (each_to_end k ts)
+each-leaves [] k = same-words k
 each-leaves (t ∷ ts) k =
     let h : IsWoken (to_ready_end k t) (each_to_end (to_ready_end k t) ts) = each-leaves ts (to_ready_end k t) in
     record {

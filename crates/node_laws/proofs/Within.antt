@@ -14,9 +14,6 @@ use Rattle.machine_laws.specs.Steady.{Limits}
 use Rattle.kernel_model.specs.Kernel.{Kernel, with_word, word_of}
 use Rattle.kernel_model.specs.Words.{none, running, running_module, app_of, thread_runs}
 use Rattle.kernel_model.specs.declared.rows.SysWord.TheVariants.{Budget}
-use Rattle.kernel_model.specs.Orderly.{Spot, listed, spot_of, IsPlaced}
-use Rattle.kernel_model.specs.Orderly.Spot.{Nowhere, Ready, Runs, Asleep, OnMutex, OnCondition, OnLine, Calls}
-use Rattle.place_model.specs.Settled.{IsSettledKernel}
 use Rattle.kernel_model.specs.Running.{running_domain}
 use Rattle.load_model.specs.Domains.{Domain}
 use Rattle.trace_model.specs.declared.records.Who.{Who}
@@ -33,6 +30,7 @@ use Rattle.node_model.specs.Confined.{MayWrite, stack_low_in, stack_top_in}
 use Rattle.node_model.specs.Kept.{StepKeeps}
 use Rattle.node_model.specs.Laws.{IsSeen, IsSafe, IsInPools}
 use Rattle.node_laws.specs.Facts.{Given}
+use Rattle.node_laws.proofs.OtherWords.{settled-words}
 use Rattle.node_laws.proofs.Stepping.{all-map, code-seen, stands-so, writes, memory-after}
 use Rattle.node_laws.proofs.Stepping.{well-placed, of-module}
 
@@ -97,62 +95,12 @@ in-module laws s see h l g =
       good = g.good;
     }
 
--- ---- the count of its instructions is no part of what is settled
-
-listed-counted : (k : Kernel) (v : ℕ) (s : Spot) → listed (with_word k Budget v) s ≡ listed k s
-listed-counted k v Nowhere = refl
-listed-counted k v Ready = refl
-listed-counted k v Runs = refl
-listed-counted k v Asleep = refl
-listed-counted k v (OnMutex a i) = refl
-listed-counted k v (OnCondition a c) = refl
-listed-counted k v (OnLine n) = refl
-listed-counted k v Calls = refl
-
-placed-counted : (k : Kernel) (v : ℕ) → IsPlaced k → IsPlaced (with_word k Budget v)
-placed-counted k v h = record {
-  there = λ t l n. subst (λ (xs : List ℕ). Contains xs t) (sym (listed-counted k v (spot_of k t))) (h.there t l n);
-  nowhere_else = λ s t c. h.nowhere_else s t (subst (λ (xs : List ℕ). Contains xs t) (listed-counted k v s) c);
-  once = λ s. subst (λ (xs : List ℕ). AllPairs (λ x y. x ≢ y) xs) (sym (listed-counted k v s)) (h.once s);
-}
-
-settled-counted : (k : Kernel) (v : ℕ) → IsSettledKernel k → IsSettledKernel (with_word k Budget v)
-settled-counted k v h = record {
-  orderly = record {
-    shape = record {
-      app_rows = h.orderly.shape.app_rows;
-      module_rows = h.orderly.shape.module_rows;
-      function_rows =
-          h.orderly.shape.function_rows;
-      thread_rows = h.orderly.shape.thread_rows;
-      mutex_rows = h.orderly.shape.mutex_rows;
-      condition_lists = h.orderly.shape.condition_lists;
-      line_lists = h.orderly.shape.line_lists;
-    };
-    limit = h.orderly.limit;
-    top = h.orderly.top;
-    rows = h.orderly.rows;
-    threads = h.orderly.threads;
-    placed = placed-counted k v h.orderly.placed;
-    caller = h.orderly.caller;
-    callee = h.orderly.callee;
-    mutexes = h.orderly.mutexes;
-    conditions = h.orderly.conditions;
-    by_priority = h.orderly.by_priority;
-    by_wake_time = h.orderly.by_wake_time;
-    later = h.orderly.later;
-    functions = h.orderly.functions;
-  };
-  inside = h.inside;
-  apart = h.apart;
-  apps = h.apps;
-  functions = h.functions;
-}
+-- ---- the count of its instructions
 
 sound-counted : (k : Kernel) (ds : List (Option Domain)) (n : ℕ) → running_module k < 4 → word_of k Budget < most_instructions
     → IsSoundKernel k ds n → IsSoundKernel (with_word k Budget (word_of k Budget + 1)) ds (n + 1)
 sound-counted k ds n l few h = record {
-  settled = settled-counted k (word_of k Budget + 1) h.settled;
+  settled = settled-words k (word_of k Budget + 1) k.pending h.settled;
   domains = h.domains;
   saved = h.saved;
   populated = h.populated;

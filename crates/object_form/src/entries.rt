@@ -6,7 +6,7 @@ ghost use Rattle.object_form.specs.Faults.{key_at, reloc_field, reloc_fields, ex
 ghost use Rattle.object_form.specs.Given.{ReadsField, ReadsFields};
 
 use super::fault::{FormFault, FormKind};
-use super::head::wrong;
+use super::head::{word_in, wrong};
 use code_model::lists::{Exports, Relocs};
 use code_model::parts::{Export, RelKind, Reloc};
 use std::alloc::Global;
@@ -51,7 +51,7 @@ fn reloc(text: &[u8], at: usize, sizes: Sizes, least: u32) -> Result<(Reloc, u32
     if number < 1 || number > (if in_code { 4 } else { 2 }) {
         return Err(wrong(FormKind::Kind, at + 1));
     }
-    let offset = text[at + 2] as u16 + 256 * text[at + 3] as u16;
+    let offset = word_in(text, at + 2);
     let size = if in_code { sizes.code } else { sizes.init };
     if offset % 2 != 0 || offset as usize + 2 > size {
         return Err(wrong(FormKind::Place, at + 2));
@@ -92,7 +92,7 @@ fn export(text: &[u8], at: usize, code: usize, least: u8) -> Result<Export, Form
     if text[at + 1] != 0 {
         return Err(wrong(FormKind::Place, at + 1));
     }
-    let offset = text[at + 2] as u16 + 256 * text[at + 3] as u16;
+    let offset = word_in(text, at + 2);
     if offset % 2 != 0 || offset as usize >= code {
         return Err(wrong(FormKind::Place, at + 2));
     }

@@ -36,6 +36,14 @@ fn byte(text: &[u8], at: usize) -> Result<u8, FormFault>
     }
 }
 
+/// The word at a place, its low byte first.
+pub(crate) fn word_in(text: &[u8], at: usize) -> u16
+    requires { at + 2 ≤ length text.now }
+    ensures { result ≡ word_at text.now at }
+{
+    u16::from_le_bytes([text[at], text[at + 1]])
+}
+
 /// The word at a place, or that the text is short of it.
 fn word(text: &[u8], at: usize) -> Result<u16, FormFault>
     requires { at < 20 }
@@ -44,7 +52,7 @@ fn word(text: &[u8], at: usize) -> Result<u16, FormFault>
         (λ e. (length text.now < at + 2) × (e ≡ At kinds.Short (length text.now))) }
 {
     if at + 1 < text.len() {
-        Ok(text[at] as u16 + 256 * text[at + 1] as u16)
+        Ok(word_in(text, at))
     } else {
         Err(wrong(FormKind::Short, text.len()))
     }

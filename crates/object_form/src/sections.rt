@@ -6,7 +6,7 @@ ghost use Rattle.object_form.specs.Faults.{part_fields};
 ghost use Rattle.object_form.specs.Given.{ReadsFields};
 
 use super::fault::{FormFault, FormKind};
-use super::head::wrong;
+use super::head::{word_in, wrong};
 use code_model::lists::CodeWords;
 use edge_io::lists::Bytes;
 use std::alloc::{AllocError, Global};
@@ -18,8 +18,7 @@ fn code_words(alloc: Global, text: &[u8], count: usize) -> Result<CodeWords, All
 {
     let mut words = CodeWords::with_room(alloc, count)?;
     for k in 0..count {
-        let word = text[20 + 2 * k] as u16 + 256 * text[20 + 2 * k + 1] as u16;
-        words.push(word)?;
+        words.push(word_in(text, 20 + 2 * k))?;
     }
     Ok(words)
 }

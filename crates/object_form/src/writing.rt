@@ -44,8 +44,7 @@ fn section_byte(in_code: bool) -> u8
 fn put_word(out: &mut Bytes, word: u16) -> Result<(), AllocError>
     ensures { OnOk result (out.new ≡ out.old ++ word_bytes word) }
 {
-    out.push((word % 256) as u8)?;
-    out.push((word / 256) as u8)
+    out.extend_from_slice(&word.to_le_bytes())
 }
 
 /// Appends two bytes.

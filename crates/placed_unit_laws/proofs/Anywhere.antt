@@ -12,7 +12,7 @@ use Rattle.code_model.specs.declared.object.Object.{Object}
 use Rattle.code_model.specs.Rules.{IsCall}
 use Rattle.load_model.specs.Domains.{Domain}
 use Rattle.insert_model.specs.declared.line.Line.{Line}
-use Rattle.insert_model.specs.Words.{count}
+use Rattle.msp_encode.specs.Spelled.{count}
 use Rattle.insert_model.specs.Source.{own}
 use Rattle.insert_laws.specs.Lines.{LinesAreClean}
 use Rattle.insert_laws.specs.Shapes.{IsCleanLine}

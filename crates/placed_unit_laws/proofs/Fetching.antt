@@ -17,9 +17,10 @@ use Rattle.code_model.specs.declared.object.Object.{Object}
 use Rattle.code_model.specs.declared.parts.RelKind.{RelKind}
 use Rattle.load_model.specs.Domains.{Domain}
 use Rattle.insert_model.specs.declared.piece.Piece.{Piece}
-use Rattle.insert_model.specs.Words.{src_register, src_mode, dst_register, dst_mode, two_word, one_word, first_word, spelling, count, with_kind, operand_words, piece_words}
+use Rattle.msp_encode.specs.Spelled.{src_register, src_mode, dst_register, dst_mode, two_word, one_word, first_word, spelling, count}
+use Rattle.insert_model.specs.Words.{with_kind, operand_words, piece_words}
 use Rattle.insert_model.specs.Source.{own_piece}
-use Rattle.insert_laws.specs.Source.{SpellingLaw}
+use Rattle.msp_encode.specs.Laws.{SpellingLaw}
 use Rattle.unit_laws.specs.Guards.{WordsAt}
 use Rattle.placed_unit_laws.specs.Placed.{placed_word, placed_src, placed_dst, placed_instr, placed}
 

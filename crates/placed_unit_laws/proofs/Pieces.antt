@@ -17,9 +17,10 @@ use Rattle.code_model.specs.declared.parts.RelKind.TheVariants.{Lo, Hi}
 use Rattle.load_model.specs.Domains.{Domain}
 use Rattle.insert_model.specs.declared.piece.Piece.{Piece}
 use Rattle.insert_model.specs.declared.piece.Word.{Word}
-use Rattle.insert_model.specs.Words.{two_word, jump_word, piece_words, unit_words}
+use Rattle.msp_encode.specs.Spelled.{two_word, jump_word}
+use Rattle.insert_model.specs.Words.{piece_words, unit_words}
 use Rattle.insert_model.specs.Guards.{save, mov, on_r4, jump, branch, restore, store_guard, growth_guard, pop_guard, sp_guard}
-use Rattle.insert_laws.specs.Source.{SpellingLaw}
+use Rattle.msp_encode.specs.Laws.{SpellingLaw}
 use Rattle.unit_laws.specs.Guards.{WordsAt, store_words, growth_words, pop_words, sp_words}
 use Rattle.placed_unit_laws.specs.Placed.{word_in_place, placed_word, placed}
 use Rattle.placed_unit_laws.proofs.Fetching.{words-append, words-behind, piece-fetched}

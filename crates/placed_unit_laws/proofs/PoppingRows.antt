@@ -22,7 +22,8 @@ use Rattle.code_model.specs.Guards.{Writes, IsMov, DstIs}
 use Rattle.load_model.specs.Domains.{Domain}
 use Rattle.insert_model.specs.declared.line.Line.{Line}
 use Rattle.insert_model.specs.declared.piece.Piece.{Piece}
-use Rattle.insert_model.specs.Words.{count, piece_words}
+use Rattle.msp_encode.specs.Spelled.{count}
+use Rattle.insert_model.specs.Words.{piece_words}
 use Rattle.insert_model.specs.Source.{own}
 use Rattle.insert_model.specs.Guards as guard_piece
 use Rattle.insert_model.specs.Units.{is_pc, is_wide_move, is_plain_pop, popping, from_r4}

@@ -17,7 +17,7 @@ use Rattle.code_model.specs.declared.object.Object.{Object}
 use Rattle.code_model.specs.declared.parts.RelKind.{RelKind}
 use Rattle.load_model.specs.Domains.{Domain}
 use Rattle.insert_model.specs.declared.line.Line.{Line}
-use Rattle.insert_model.specs.Words.{count}
+use Rattle.msp_encode.specs.Spelled.{count}
 use Rattle.placed_unit_laws.specs.Placed.{unit_address, unit_behind, placed_src, source_does}
 use Rattle.placed_unit_laws.specs.Ends.{UnitStands, UnitStandsLaw, PushedLaw}
 use Rattle.placed_unit_laws.proofs.Here.{IsHere, here_of, stands_here}

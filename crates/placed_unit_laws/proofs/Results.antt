@@ -10,7 +10,7 @@ use Rattle.code_model.specs.declared.parts.RelKind.{RelKind}
 use Rattle.code_model.specs.declared.parts.RelKind.TheVariants.{Code}
 use Rattle.load_model.specs.Domains.{Domain}
 use Rattle.insert_model.specs.declared.line.Line.{Line}
-use Rattle.insert_model.specs.Words.{count}
+use Rattle.msp_encode.specs.Spelled.{count}
 use Rattle.unit_laws.specs.Rows.{GoesOn, ended, Follows, Halts, Checked, IsAtFirst, IsIn, IsOut}
 use Rattle.placed_unit_laws.specs.Placed.{word_in_place, unit_address, unit_at, unit_behind, source_does}
 use Rattle.placed_unit_laws.specs.Checks.{Check, Fails, entry_of, before_check}

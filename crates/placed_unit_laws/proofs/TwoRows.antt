@@ -14,7 +14,8 @@ use Rattle.code_model.specs.declared.parts.RelKind.{RelKind}
 use Rattle.load_model.specs.Domains.{Domain}
 use Rattle.insert_model.specs.declared.line.Line.{Line}
 use Rattle.insert_model.specs.declared.piece.Piece.{Piece}
-use Rattle.insert_model.specs.Words.{count, piece_words}
+use Rattle.msp_encode.specs.Spelled.{count}
+use Rattle.insert_model.specs.Words.{piece_words}
 use Rattle.insert_model.specs.Source.{own}
 use Rattle.unit_laws.specs.Rows.{GoesOn, DstFree, SrcFree, ended}
 use Rattle.placed_unit_laws.specs.Placed.{unit_at, unit_behind, placed_src, placed_dst, placed_instr, placed, source_does, instr_does}

@@ -18,7 +18,7 @@ use Rattle.code_model.specs.Guards.{IsMov, IsWide, DstIs, Pops}
 use Rattle.load_model.specs.Domains.{Domain}
 use Rattle.insert_model.specs.declared.aim.Aim.TheVariants.{ToPc, ToSp, ToMemory, Elsewhere}
 use Rattle.insert_model.specs.declared.line.Line.{Line}
-use Rattle.insert_model.specs.Words.{count}
+use Rattle.msp_encode.specs.Spelled.{count}
 use Rattle.insert_model.specs.Source.{own_piece, own}
 use Rattle.insert_model.specs.Units.{is_static, aim, writes, is_popped, is_immediate, is_pc, popping, writing, two_unit}
 use Rattle.insert_model.specs.Faults.{IsSourceTarget, GoesAmiss, UsesCheck}

@@ -22,7 +22,8 @@ use Rattle.load_model.specs.Images.{code_image}
 use Rattle.load_model.specs.Standing.{HasBytes}
 use Rattle.node_model.specs.Placed.{IsWellPlaced}
 use Rattle.insert_model.specs.declared.line.Line.{Line}
-use Rattle.insert_model.specs.Words.{count, unit_words}
+use Rattle.msp_encode.specs.Spelled.{count}
+use Rattle.insert_model.specs.Words.{unit_words}
 use Rattle.insert_model.specs.Source.{lines, own}
 use Rattle.insert_model.specs.Units.{static_bytes, unit}
 use Rattle.insert_model.specs.Faults.{IsInserted, IsSourceJump, IsSourceCall}

@@ -1,6 +1,7 @@
 -- The laws that the unit law rests on.
 use Rattle.unit_laws.specs.Rows.{GoesOnLaw, GoesToLaw, PcMovesLaw, OwnUnitLaw, BranchUnitLaw, JumpUnitLaw, ComputedUnitLaw, StoreUnitLaw, ChangeUnitLaw, GrowthUnitLaw, CalleeUnitLaw, PopUnitLaw, PopIntoUnitLaw, ReturnUnitLaw, SetSpUnitLaw}
-use Rattle.insert_laws.specs.Source.{SpellingLaw, StartsDecided}
+use Rattle.msp_encode.specs.Laws.{SpellingLaw}
+use Rattle.insert_laws.specs.Source.{StartsDecided}
 use Rattle.insert_laws.specs.Lines.{PlacesWithin}
 
 -- the rows of the unit table over numbers, and what is known of spelled instructions and of starts

@@ -15,7 +15,7 @@ use Rattle.load_model.specs.Domains.{Domain, addend}
 use Rattle.insert_model.specs.declared.line.Line.{Line}
 use Rattle.insert_model.specs.declared.piece.Piece.{Piece}
 use Rattle.insert_model.specs.declared.piece.Word.{Word}
-use Rattle.insert_model.specs.Words.{count}
+use Rattle.msp_encode.specs.Spelled.{count}
 use Rattle.insert_model.specs.Source.{own}
 use Rattle.insert_model.specs.Inserted.{moved_value, place_map}
 use Rattle.unit_laws.specs.Running.{silent}

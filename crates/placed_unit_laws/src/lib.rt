@@ -11,9 +11,10 @@ ghost use Rattle.placed_unit_laws.specs.Given.{RowLaws};
 
 use insert_laws::{
     code_is_pieces, lines_are_clean, lines_have_units, places_within, relocs_are_pieces,
-    spelling_spells, starts_decided,
+    starts_decided,
 };
 use load_model::code_image_stands;
+use msp_encode::laws::spelling_spells;
 use unit_laws::{
     branch_unit_ends, callee_unit_ends, change_unit_ends, computed_unit_ends, goes_on, goes_to,
     growth_unit_ends, jump_unit_ends, own_unit_ends, pc_moves, place_hidden, pop_into_unit_ends,

@@ -10,19 +10,8 @@ use Rattle.code_model.specs.declared.parts.Reloc.{Reloc}
 use Rattle.code_model.specs.declared.parts.RelKind.{RelKind}
 use Rattle.code_model.specs.Form.{key}
 use Rattle.load_model.specs.Images.{is_on}
+use Rattle.load_model.proofs.Finding.{find-none, find-first}
 use Rattle.reloc_loader.specs.Sections.{key_at, IsNext, FindsOn, count_on}
-
--- ---- the first that passes
-
-find-none : {X : Type 0} (p : X → Bool) (xs : List X) → ((k : ℕ) (d : X) → k < length xs → p (get_or xs k d) ≡ false) → find p xs ≡ None
-find-none p [] h = refl
-find-none {X} p (x ∷ xs) h = ap (λ (b : Bool). cond b (Some x) (find p xs)) (h 0 x (omega arith)) ∙ find-none p xs (λ k d l. h (suc k) d (omega arith))
-
-find-first : {X : Type 0} (p : X → Bool) (xs : List X) (i : ℕ) (q : X) → i < length xs → get_or xs i q ≡ q → p q ≡ true → ((k : ℕ) (d : X) → k < i → p (get_or xs k d) ≡ false) → find p xs ≡ Some q
-find-first p [] i q l e t h = absurd (omega arith)
-find-first p (x ∷ xs) zero q l e t h = ap (λ (b : Bool). cond b (Some x) (find p xs)) (ap p e ∙ t) ∙ ap (λ y. Some y) e
-find-first p (x ∷ xs) (suc i) q l e t h =
-    ap (λ (b : Bool). cond b (Some x) (find p xs)) (h 0 x (omega arith)) ∙ find-first p xs i q (omega arith) e t (λ k d l'. h (suc k) d (omega arith))
 
 -- ---- keys
 

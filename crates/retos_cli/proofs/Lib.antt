@@ -16,3 +16,4 @@ pub mod Runs
 pub mod Sources
 pub mod Told
 pub mod TwoLines
+pub mod Named

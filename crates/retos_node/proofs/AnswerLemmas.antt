@@ -10,7 +10,6 @@ use Rattle.kernel_model.specs.Entries.{next_thread, spawned}
 use Rattle.kernel_model.specs.declared.code.Code.{Code}
 use Rattle.kernel_threads.specs.Entries.{AnswersBy, SpawnedBy}
 use Rattle.kernel_modules.specs.Calls.{BecomesBy}
-use Rattle.kernel_sync.specs.Answers.{AnswersBy as SyncAnswers}
 use Rattle.trace_model.specs.declared.records.Record.{Record}
 use Rattle.node_model.specs.Entries.{Work, Turn, Call, Spawn, dispatches, called, unless, after, after_giving, after_leaving, code_number, entry_address}
 use Rattle.retos_node.specs.declared.turns.Moment.{Moment}
@@ -51,32 +50,22 @@ pub record IsRefused (m m' : List ℕ) (o : Option Code) (code : Code) : Type 0 
   pub code_is : o ≡ Some code
   pub same : m' ≡ m
 
-pub allowed_by : {A : Type 0} (m m' : List ℕ) (o : Option Code) (k : Kernel) (v u : A) → SyncAnswers m m' o k v (Ok u) → IsAllowed m m' o k
+pub allowed_by : {A : Type 0} (m m' : List ℕ) (o : Option Code) (k : Kernel) (v u : A) → AnswersBy m m' o k v (Ok u) → IsAllowed m m' o k
 allowed_by m m' None k v u h = record { code = refl; leaves = h.1 }
 allowed_by m m' (Some d) k v u h = absurd (let e = h.0 in cc)
 
-pub refused_by : {A : Type 0} (m m' : List ℕ) (o : Option Code) (k : Kernel) (v : A) (code : Code) → SyncAnswers m m' o k v (Err code) → IsRefused m m' o code
+pub refused_by : {A : Type 0} (m m' : List ℕ) (o : Option Code) (k : Kernel) (v : A) (code : Code) → AnswersBy m m' o k v (Err code) → IsRefused m m' o code
 refused_by m m' None k v code h = absurd (let e = h.0 in cc)
 refused_by m m' (Some d) k v code h = record { code_is = let e = h.0 in cc; same = h.1 }
 
-pub value_by : {A : Type 0} (m m' : List ℕ) (o : Option Code) (k : Kernel) (v u : A) → SyncAnswers m m' o k v (Ok u) → u ≡ v
+pub value_by : {A : Type 0} (m m' : List ℕ) (o : Option Code) (k : Kernel) (v u : A) → AnswersBy m m' o k v (Ok u) → u ≡ v
 value_by m m' None k v u h = let e = h.0 in cc
 value_by m m' (Some d) k v u h = absurd (let e = h.0 in cc)
-
--- the calls on threads answer so
-pub sync_by : (m m' : List ℕ) (o : Option Code) (k : Kernel) (answer : Result (Unit {0}) Code) → AnswersBy m m' k o answer → SyncAnswers m m' o k tt answer
-sync_by m m' None k answer h = h
-sync_by m m' (Some d) k answer h = h
-
-pub spawn_by : (m m' r : List ℕ) (o : Option Code) (answer : Result ℕ Code) → SpawnedBy m m' r o answer
-    → SyncAnswers m m' o (spawned (kernel_of m) r) (number_of (next_thread (kernel_of m))) answer
-spawn_by m m' r None answer h = h
-spawn_by m m' r (Some d) answer h = h
 
 -- ---- a call that goes on with its answer
 
 pub answered_turn : (m m1 m' r r' : List ℕ) (moment : Moment) (told : Record) (own : ℕ → Bool) (at : ℕ) (e : Call) (o : Option Code) (k : Kernel) (answer : Result (Unit {0}) Code)
-    (n : ℕ) → SyncAnswers m m1 o k tt answer → n ≡ answer_number answer → told ≡ called (work_of m r moment own at) (entry_address e)
+    (n : ℕ) → AnswersBy m m1 o k tt answer → n ≡ answer_number answer → told ≡ called (work_of m r moment own at) (entry_address e)
     → DispatchesFrom m1 m' r' moment (moved_to_front (saved (kernel_of m1) (set_reg r 12 n)))
     → Turned m m' r' told (unless e (work_of m r moment own at) o (after e (work_of m r moment own at) k))
 answered_turn m m1 m' r r' moment told own at e None k answer n h is shown d =
@@ -132,8 +121,8 @@ spawned_turn m m1 m' r r1 r' moment told own at o n h is shown d =
     let w : Work = work_of m r moment own at in
     let k : Kernel = spawned (kernel_of m) r in
     let v : ℕ = number_of (next_thread (kernel_of m)) in
-    let a : IsAllowed m m1 o k = allowed_by m m1 o k v n (spawn_by m m1 r o (Ok n) h) in
-    let value : n ≡ v = value_by m m1 o k v n (spawn_by m m1 r o (Ok n) h) in
+    let a : IsAllowed m m1 o k = allowed_by m m1 o k v n h in
+    let value : n ≡ v = value_by m m1 o k v n h in
     let x : List ℕ = set_reg (set_reg r 13 v) 12 0 in
     allowed_turn m m' r' told Spawn w o (after_giving Spawn w k v) a.code
     (dispatched_turn m m' r r' moment told (called w (entry_address Spawn)) own at (moved_to_front (saved k x))

@@ -19,7 +19,8 @@ use Rattle.unit_laws.proofs.Frame.{effect_of}
 use Rattle.unit_laws.proofs.Guarded.{after-other}
 use Rattle.unit_laws.proofs.Flags.{same-self}
 use Rattle.unit_laws.proofs.Guards.{growth-ends}
-use Rattle.unit_laws.proofs.Sizes.{source-small, after-context}
+use Rattle.machine_model.proofs.Values.{source-small}
+use Rattle.machine_model.proofs.Contexts.{after-context}
 use Rattle.unit_laws.proofs.IntoR4.{source-held, after-held, passed-held, moves}
 use Rattle.unit_laws.proofs.ComputedUnits.{first-even, halted, set-held}
 use Rattle.kernel_model.specs.declared.entries.TheConstants.{CALLS, STACK_FAULT}

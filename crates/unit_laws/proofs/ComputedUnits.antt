@@ -24,7 +24,8 @@ use Rattle.unit_laws.proofs.Contexts.{as_held, branch-ends}
 use Rattle.unit_laws.proofs.Flags.{SameButFlags}
 use Rattle.unit_laws.proofs.Guards.{pop-ends}
 use Rattle.unit_laws.proofs.GuardedUnits.{stopped}
-use Rattle.unit_laws.proofs.Sizes.{source-small, after-context}
+use Rattle.machine_model.proofs.Values.{source-small}
+use Rattle.machine_model.proofs.Contexts.{after-context}
 use Rattle.unit_laws.proofs.IntoR4.{to-register, moves}
 use Rattle.kernel_model.specs.declared.entries.TheConstants.{FIRST_ENTRY, GOES, STACK_FAULT}
 

@@ -1,10 +1,7 @@
 -- Contexts as sixteen words, and runs line by line.
-use Rattle.std.proofs.Common.{◌≡◌, ℕ, zero, suc, ◌+◌, ◌*◌, ◌/◌, ◌%◌, ◌<◌, ◌≤◌, Bool, true, false, List, [], ◌∷◌, length, get_or, drop, refl, sym, ap, ◌∙◌, subst, arith}
+use Rattle.std.proofs.Common.{◌≡◌, ℕ, zero, suc, ◌+◌, ◌*◌, ◌%◌, ◌<◌, ◌≤◌, Bool, true, false, List, refl, sym, ap, ◌∙◌, subst, arith}
 use Rattle.std.specs.Prelude.{if◌then◌else◌}
-use Rattle.std.proofs.lemmas.List.{drop_more, drop_all}
-use Rattle.machine_model.specs.Memory.{word_at, IsMemory}
 use Rattle.machine_model.specs.Context.{reg, IsContext}
-use Rattle.machine_model.specs.Status.{with_flags}
 use Rattle.machine_model.specs.Alu.{alu, added}
 use Rattle.machine_model.specs.Does.{does, holds}
 use Rattle.machine_model.specs.Fetching.{IsFetched}
@@ -13,30 +10,9 @@ use Rattle.msp_encode.specs.declared.instr.Width.TheVariants.{Wide}
 use Rattle.msp_encode.specs.declared.instr.Op2.TheVariants.{Add}
 use Rattle.unit_laws.specs.Running.{held, silent, Runs, Goes, RunsUnit}
 use Rattle.unit_laws.specs.Lines.{Line, Jumps, Branches, instr_of, words_of, IsLine, compared, pc_after, sr_after, r4_after, r5_after}
-use Rattle.unit_laws.proofs.Flags.{bit_small}
+use Rattle.machine_model.proofs.Flags.{with_flags-small}
+use Rattle.machine_model.proofs.Contexts.{as_words}
 use Rattle.unit_laws.proofs.Lines.{line-does}
-
-step : (k : ℕ) (l rest : List ℕ) → k < length l → drop (k + 1) l ≡ rest → drop k l ≡ get_or l k 0 ∷ rest
-step k l rest h e = drop_more l k 0 h ∙ ap (λ t. get_or l k 0 ∷ t) e
-
-as_words : (r : List ℕ) → length r ≡ 16 → held r (reg r 0) (reg r 2) (reg r 4) (reg r 5) ≡ r
-as_words r e =
-    let s15 = step 15 r [] (omega arith) (drop_all 16 r (omega arith)) in
-    let s14 = step 14 r _ (omega arith) s15 in
-    let s13 = step 13 r _ (omega arith) s14 in
-    let s12 = step 12 r _ (omega arith) s13 in
-    let s11 = step 11 r _ (omega arith) s12 in
-    let s10 = step 10 r _ (omega arith) s11 in
-    let s9 = step 9 r _ (omega arith) s10 in
-    let s8 = step 8 r _ (omega arith) s9 in
-    let s7 = step 7 r _ (omega arith) s8 in
-    let s6 = step 6 r _ (omega arith) s7 in
-    let s5 = step 5 r _ (omega arith) s6 in
-    let s4 = step 4 r _ (omega arith) s5 in
-    let s3 = step 3 r _ (omega arith) s4 in
-    let s2 = step 2 r _ (omega arith) s3 in
-    let s1 = step 1 r _ (omega arith) s2 in
-    sym (step 0 r _ (omega arith) s1)
 
 -- a context is its sixteen words
 pub as_held : (r : List ℕ) (at : ℕ) → IsContext r → reg r 0 ≡ at → held r at (reg r 2) (reg r 4) (reg r 5) ≡ r
@@ -63,14 +39,6 @@ held-context r pc sr x y h e b s u w = record { words = refl; pc_even = e; sp_ev
     small-on (suc (suc (suc (suc (suc (suc (suc (suc (suc (suc (suc (suc (suc (suc zero)))))))))))))) = h.small 14
     small-on (suc (suc (suc (suc (suc (suc (suc (suc (suc (suc (suc (suc (suc (suc (suc zero))))))))))))))) = h.small 15
     small-on (suc (suc (suc (suc (suc (suc (suc (suc (suc (suc (suc (suc (suc (suc (suc (suc k)))))))))))))))) = omega arith
-
-pub word-small : (m : List ℕ) (a : ℕ) → IsMemory m → word_at m a < 65536
-unfolding word_at
-word-small m a h = omega (arith, h.small (a / 2 * 2), h.small (a / 2 * 2 + 1))
-
-pub with_flags-small : (sr : ℕ) (c z n v : Bool) → sr < 65536 → with_flags sr c z n v < 65536
-unfolding with_flags
-with_flags-small sr c z n v h = omega (arith, h, bit_small c, bit_small z, bit_small n, bit_small v)
 
 pub compared-small : (s d sr : ℕ) → sr < 65536 → compared s d sr < 65536
 unfolding alu added

@@ -1,26 +1,13 @@
 -- What a comparison tells, and that operations change only the four flags of SR.
-use Rattle.std.proofs.Common.{◌≡◌, ℕ, ◌+◌, ◌-◌, ◌%◌, ◌<◌, ◌≤◌, Bool, true, false, eqb, leb, refl, ◌∙◌, arith}
+use Rattle.std.proofs.Common.{◌≡◌, ℕ, ◌+◌, ◌-◌, ◌%◌, ◌<◌, Bool, eqb, leb, refl, ◌∙◌, arith}
 use Rattle.std.proofs.lemmas.Bool.Decides.{nat_tests}
-use Rattle.machine_model.specs.Status.{Flags, with_flags, bit, carry, is_zero}
+use Rattle.machine_model.specs.Status.{Flags, with_flags}
 use Rattle.machine_model.specs.Alu.{alu, added, logical}
 use Rattle.msp_encode.specs.declared.instr.Width.{Width}
 use Rattle.msp_encode.specs.declared.instr.Op2.{Op2}
 use Rattle.msp_encode.specs.declared.instr.Op2.TheVariants.{Mov, Add, Addc, Subc, Sub, Cmp, Dadd, Bit, Bic, Bis, Xor, And}
+use Rattle.machine_model.proofs.Flags.{bit_small, carry-with_flags, is_zero-with_flags}
 use Rattle.unit_laws.specs.Lines.{compared, ComparedLaw}
-
-pub bit_small : (b : Bool) → bit b ≤ 1
-bit_small true = omega arith
-bit_small false = omega arith
-
-carry-with_flags : (sr : ℕ) (c z n v : Bool) → carry (with_flags sr c z n v) ≡ c
-unfolding with_flags
-carry-with_flags sr true z n v = grind (arith, nat_tests, bit_small z, bit_small n, bit_small v)
-carry-with_flags sr false z n v = grind (arith, nat_tests, bit_small z, bit_small n, bit_small v)
-
-is_zero-with_flags : (sr : ℕ) (c z n v : Bool) → is_zero (with_flags sr c z n v) ≡ z
-unfolding with_flags
-is_zero-with_flags sr c true n v = grind (arith, nat_tests, bit_small c, bit_small n, bit_small v)
-is_zero-with_flags sr c false n v = grind (arith, nat_tests, bit_small c, bit_small n, bit_small v)
 
 at_least : (d s : ℕ) → s < 65536 → leb 65536 (d + (65535 - s) + 1) ≡ leb s d
 at_least d s h = grind (arith, nat_tests)

@@ -15,9 +15,10 @@ use Rattle.msp_encode.specs.Spelling.{First, words_after}
 use Rattle.unit_laws.specs.Running.{held, silent, Runs, Stays, RunsUnit}
 use Rattle.unit_laws.specs.Lines.{Line, Saves, Loads, Adds, Compares, ComparesSp, ComparesTop, ComparesNew, ComparesNewTop, Jumps, Branches, Restores, instr_of, words_of, IsIndexed, IsLine, compared, pc_after, sr_after, r4_after, r5_after}
 use Rattle.unit_laws.specs.Guards.{store_words, growth_words, pop_words, sp_words, IsAtGuard, Passes, Stops, StoreGuardLaw, GrowthGuardLaw, PopGuardLaw, SpGuardLaw}
+use Rattle.machine_model.proofs.Values.{word-small}
 use Rattle.unit_laws.proofs.Flags.{compared-tells, IsFlagged, same-self, operation-same, compared-same, compared-flagged}
 use Rattle.unit_laws.proofs.Fetched.{fetched-one, fetched-two, first-saves, first-loads, loads-alone, first-adds, first-compares, first-sp, first-top, first-new, first-new_top, first-nc3, first-nc2, first-c2, first-ne2, first-branches, first-restores}
-use Rattle.unit_laws.proofs.Contexts.{as_held, word-small, compared-small, added-small, line-runs, branch-ends, jump-taken, jump-passed}
+use Rattle.unit_laws.proofs.Contexts.{as_held, compared-small, added-small, line-runs, branch-ends, jump-taken, jump-passed}
 use Rattle.kernel_model.specs.declared.map.TheConstants.{STACK_LIMIT, STACK_TOP}
 use Rattle.kernel_model.specs.declared.entries.TheConstants.{FIRST_ENTRY, STACK_FAULT, STORE_FAULT}
 

@@ -10,7 +10,6 @@ pub mod AtR4
 pub mod GoingOn
 pub mod OwnUnits
 pub mod GuardedUnits
-pub mod Sizes
 pub mod IntoR4
 pub mod ComputedUnits
 pub mod CalleeUnits

@@ -22,7 +22,8 @@ use Rattle.unit_laws.proofs.Contexts.{as_held, held-context}
 use Rattle.unit_laws.proofs.Guarded.{after-other}
 use Rattle.unit_laws.proofs.Flags.{operation-same}
 use Rattle.unit_laws.proofs.Guards.{sp-ends}
-use Rattle.unit_laws.proofs.Sizes.{source-small, result-small, status-small, after-context}
+use Rattle.machine_model.proofs.Values.{source-small, result-small, status-small}
+use Rattle.machine_model.proofs.Contexts.{after-context}
 use Rattle.unit_laws.proofs.IntoR4.{to-register, moves, operates}
 use Rattle.unit_laws.proofs.ComputedUnits.{first-even, halted, set-held}
 use Rattle.kernel_model.specs.declared.entries.TheConstants.{STACK_FAULT}

@@ -1,5 +1,5 @@
 use Rattle.std.proofs.Common.{◌≡◌, ◌++◌, drop}
-use Rattle.asm_model.specs.Spelled.{spelling}
+use Rattle.msp_encode.specs.Spelled.{spelling}
 use Rattle.msp_asm.proofs.second_pass.push_words.Given as goal
 
 abbrev pub invariant-loop-word : goal.invariant-loop-word

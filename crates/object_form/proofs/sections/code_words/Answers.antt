@@ -8,4 +8,4 @@ unfolding listed
 loop-k-init c = c.in_ok-words.ensures
 
 pub loop-k-preserved : goal.loop-k-preserved
-loop-k-preserved c = rw (c.in_ok-push.ensures.pushed, listed-next c.loop-k.k (λ k. word_at c.args.text.now (20 + 2 * k)), ← c.loop-k.invariant)
+loop-k-preserved c = rw (c.in_ok-push.ensures.pushed, c.word_in.ensures, listed-next c.loop-k.k (λ k. word_at c.args.text.now (20 + 2 * k)), ← c.loop-k.invariant)

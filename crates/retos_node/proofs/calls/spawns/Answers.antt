@@ -8,7 +8,7 @@ use Rattle.kernel_model.specs.Dispatching.{moved_to_front, saved}
 use Rattle.kernel_threads.specs.Entries.{SpawnedBy}
 use Rattle.node_model.specs.Entries.{Spawn, after_giving}
 use Rattle.retos_node.specs.Turns.{DispatchesFrom, work_of}
-use Rattle.retos_node.proofs.AnswerLemmas.{IsRefused, refused_by, refused_turn, spawn_by, spawned_turn}
+use Rattle.retos_node.proofs.AnswerLemmas.{IsRefused, refused_by, refused_turn, spawned_turn}
 use Rattle.retos_node.proofs.calls.spawns.Goals as goal
 
 pub returns-in-Ok : goal.returns-in-Ok
@@ -31,10 +31,9 @@ returns-in-Err c own at marks =
     let n : ℕ = c.code_number.result in
     let why : IsRefused c.args.m.now m1 (spawn_code k r (own (reg r 12))) c.in-Err.code =
     refused_by c.args.m.now m1 (spawn_code k r (own (reg r 12))) (spawned k r) (number_of (next_thread k)) c.in-Err.code
-    (spawn_by c.args.m.now m1 r (spawn_code k r (own (reg r 12))) (Err c.in-Err.code)
     (subst (λ (b : Bool). SpawnedBy c.args.m.now m1 r (spawn_code k r b) (Err c.in-Err.code))
     (c.mark_answers_agree.ensures c.args.m.now (reg r 12) c.in-Err.ensures.answer.0 (own (reg r 12)) c.in-Err.ensures.answer.1.marked (let f = marks (reg r 12) in (f.1, f.0)))
-    c.in-Err.ensures.answer.1.by_code)) in
+    c.in-Err.ensures.answer.1.by_code) in
     refused_turn c.args.m.now c.go_on-in-Err.new.m r c.go_on-in-Err.new.r c.args.moment c.called-told.result own at Spawn (spawn_code k r (own (reg r 12))) c.in-Err.code n
     (after_giving Spawn (work_of c.args.m.now r c.args.moment own at) (spawned k r) (number_of (next_thread k)))
     why.code_is c.code_number.ensures c.called-told.ensures

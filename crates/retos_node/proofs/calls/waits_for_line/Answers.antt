@@ -7,7 +7,7 @@ use Rattle.kernel_model.specs.Dispatching.{moved_to_front, saved}
 use Rattle.kernel_threads.specs.Entries.{AnswersBy}
 use Rattle.node_model.specs.Entries.{Line, after_leaving}
 use Rattle.retos_node.specs.Turns.{DispatchesFrom, work_of}
-use Rattle.retos_node.proofs.AnswerLemmas.{allowed_by, refused_by, sync_by, left_turn, undone_turn}
+use Rattle.retos_node.proofs.AnswerLemmas.{allowed_by, refused_by, left_turn, undone_turn}
 use Rattle.retos_node.proofs.calls.waits_for_line.Goals as goal
 
 pub returns-in-Ok : goal.returns-in-Ok
@@ -18,8 +18,7 @@ returns-in-Ok c own at marks =
     left_turn c.args.m.now m1 m2 c.run_next.new.m r c.run_next.new.r c.args.moment c.called-told.result own at Line (line_code r) (λ j. waiting_line j r)
     c.save_zero.ensures.leaves
     (allowed_by m1 m2 (line_code r) (waiting_line (kernel_of m1) r) tt tt
-    (sync_by m1 m2 (line_code r) (waiting_line (kernel_of m1) r) (Ok tt)
-    (subst (λ (x : List ℕ). AnswersBy m1 m2 (waiting_line (kernel_of m1) x) (line_code x) (Ok tt)) c.save_zero.ensures.same c.in-Ok.ensures.answer)))
+    (subst (λ (x : List ℕ). AnswersBy m1 m2 (line_code x) (waiting_line (kernel_of m1) x) tt (Ok tt)) c.save_zero.ensures.same c.in-Ok.ensures.answer))
     c.called-told.ensures c.run_next.ensures
 
 pub returns-in-Err : goal.returns-in-Err
@@ -33,7 +32,6 @@ returns-in-Err c own at marks =
     (let rows = c.requires.settled.kernel.orderly.shape.thread_rows in let below = c.requires.runs.thread in omega arith)
     c.save_zero.ensures.leaves
     (refused_by m1 m2 (line_code r) (waiting_line (kernel_of m1) r) tt c.in-Err.code
-    (sync_by m1 m2 (line_code r) (waiting_line (kernel_of m1) r) (Err c.in-Err.code)
-    (subst (λ (x : List ℕ). AnswersBy m1 m2 (waiting_line (kernel_of m1) x) (line_code x) (Err c.in-Err.code)) c.save_zero.ensures.same c.in-Err.ensures.answer)))
+    (subst (λ (x : List ℕ). AnswersBy m1 m2 (line_code x) (waiting_line (kernel_of m1) x) tt (Err c.in-Err.code)) c.save_zero.ensures.same c.in-Err.ensures.answer))
     c.code_number.ensures c.called-told.ensures
     (subst (λ (x : List ℕ). DispatchesFrom m2 c.go_on.new.m c.go_on.new.r c.args.moment (moved_to_front (saved (kernel_of m2) (set_reg x 12 c.code_number.result)))) c.save_zero.ensures.same c.go_on.ensures)

@@ -5,7 +5,7 @@ use Rattle.kernel_model.specs.Kernel.{Kernel}
 use Rattle.kernel_model.specs.Layout.{kernel_of}
 use Rattle.kernel_model.specs.Sync.{lock_code, locked, is_free_mutex, own_app}
 use Rattle.kernel_model.specs.Dispatching.{moved_to_front, saved}
-use Rattle.kernel_sync.specs.Answers.{AnswersBy}
+use Rattle.kernel_threads.specs.Entries.{AnswersBy}
 use Rattle.node_model.specs.Entries.{Work, Lock, after_leaving, locks, called}
 use Rattle.retos_node.specs.Turns.{DispatchesFrom, work_of}
 use Rattle.retos_node.proofs.AnswerLemmas.{IsAllowed, allowed_as, refused_as, allowed_by, refused_by, value_by, allowed_turn, dispatched_turn, undone_turn}

@@ -3,7 +3,7 @@ use Rattle.machine_model.specs.Context.{reg}
 use Rattle.kernel_model.specs.Kernel.{Kernel}
 use Rattle.kernel_model.specs.Layout.{kernel_of}
 use Rattle.kernel_model.specs.Sync.{unlock_code, unlocked}
-use Rattle.kernel_sync.specs.Answers.{AnswersBy}
+use Rattle.kernel_threads.specs.Entries.{AnswersBy}
 use Rattle.node_model.specs.Entries.{Unlock}
 use Rattle.retos_node.proofs.AnswerLemmas.{answered_turn}
 use Rattle.retos_node.proofs.locks.unlocks.Goals as goal

@@ -5,7 +5,7 @@ use Rattle.kernel_model.specs.Layout.{kernel_of}
 use Rattle.kernel_model.specs.Sync.{wait_code, waiting_condition}
 use Rattle.kernel_model.specs.Dispatching.{moved_to_front, saved}
 use Rattle.kernel_model.specs.Running.{NoneRuns}
-use Rattle.kernel_sync.specs.Answers.{AnswersBy}
+use Rattle.kernel_threads.specs.Entries.{AnswersBy}
 use Rattle.node_model.specs.Entries.{Wait, after_leaving}
 use Rattle.retos_node.specs.Turns.{DispatchesFrom, work_of}
 use Rattle.retos_node.proofs.AnswerLemmas.{allowed_as, refused_as, allowed_by, refused_by, left_turn, undone_turn}

@@ -7,7 +7,7 @@ use Rattle.kernel_model.specs.Modules.{enter_code, entered, entered_context}
 use Rattle.kernel_model.specs.Dispatching.{moved_to_front, saved}
 use Rattle.node_model.specs.Entries.{ModuleCall, goes_straight, called}
 use Rattle.retos_node.specs.Turns.{DispatchesFrom, work_of}
-use Rattle.retos_node.proofs.AnswerLemmas.{IsRefused, refused_by, refused_turn, stays_by, sync_by}
+use Rattle.retos_node.proofs.AnswerLemmas.{IsRefused, refused_by, refused_turn, stays_by}
 use Rattle.retos_node.proofs.modules.calls_module.Goals as goal
 
 pub returns-in-Err : goal.returns-in-Err
@@ -17,8 +17,7 @@ returns-in-Err c own at marks =
     let m1 : List ℕ = c.enter.new.m in
     let n : ℕ = c.code_number.result in
     let why : IsRefused c.args.m.now m1 (enter_code k (reg r 12)) c.in-Err.code =
-    refused_by c.args.m.now m1 (enter_code k (reg r 12)) (entered k r) tt c.in-Err.code
-    (sync_by c.args.m.now m1 (enter_code k (reg r 12)) (entered k r) (Err c.in-Err.code) c.in-Err.ensures.answer) in
+    refused_by c.args.m.now m1 (enter_code k (reg r 12)) (entered k r) tt c.in-Err.code c.in-Err.ensures.answer in
     refused_turn c.args.m.now c.go_on.new.m r c.go_on.new.r c.args.moment c.called-told.result own at ModuleCall (enter_code k (reg r 12)) c.in-Err.code n
     (goes_straight (entered k r) (entered_context k r) (called (work_of c.args.m.now r c.args.moment own at) MODULE_CALL))
     why.code_is c.code_number.ensures c.called-told.ensures

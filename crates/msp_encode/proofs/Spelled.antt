@@ -1,14 +1,6 @@
 -- The words of a legal instruction spell it.
 use Rattle.std.proofs.Common.{◌≡◌, ℕ, ◌/◌, ◌%◌, ◌<◌, ℤ, pos, negsuc, ◌≤ℤ◌, ◌<ℤ◌, refl, sym, subst, arith}
 use Rattle.std.proofs.lemmas.Int.{ints}
-use Rattle.msp_encode.specs.declared.instr.Op2.{Op2}
-use Rattle.msp_encode.specs.declared.instr.Op2.TheVariants.{Mov, Add, Addc, Subc, Sub, Cmp, Dadd, Bit, Bic, Bis, Xor, And}
-use Rattle.msp_encode.specs.declared.instr.Op1.{Op1}
-use Rattle.msp_encode.specs.declared.instr.Op1.TheVariants.{Rrc, Swpb, Rra, Sxt, Push, Call}
-use Rattle.msp_encode.specs.declared.instr.Cond.{Cond}
-use Rattle.msp_encode.specs.declared.instr.Cond.TheVariants.{Ne, Eq, Nc, C, N, Ge, L, Always}
-use Rattle.msp_encode.specs.declared.instr.Width.{Width}
-use Rattle.msp_encode.specs.declared.instr.Width.TheVariants.{Wide, Byte}
 use Rattle.msp_encode.specs.declared.instr.Cg.{Cg}
 use Rattle.msp_encode.specs.declared.instr.Cg.TheVariants.{Zero, One, Two, Four, Eight, AllOnes}
 use Rattle.msp_encode.specs.declared.instr.Src.{Src}
@@ -17,16 +9,18 @@ use Rattle.msp_encode.specs.declared.instr.Dst.{Dst}
 use Rattle.msp_encode.specs.declared.instr.Dst.TheVariants as dst
 use Rattle.msp_encode.specs.declared.instr.Instr.{Instr}
 use Rattle.msp_encode.specs.declared.instr.Instr.TheVariants as instr
-use Rattle.msp_encode.specs.Spelling.{op2_code, op1_code, cond_code, width_code, SrcRow, DstRow, OffsetRow, First, Spells, SrcFits, DstFits, InstrFits}
-use Rattle.insert_model.specs.Words.{src_register, src_mode, dst_register, dst_mode, ten_bits, two_word, one_word, jump_word, first_word, spelling}
+use Rattle.msp_encode.specs.Spelling.{op2_code, op1_code, cond_code, width_code, SrcRow, DstRow, OffsetRow, First, SrcFits, DstFits, InstrFits}
+use Rattle.msp_encode.specs.Spelled.{src_register, src_mode, dst_register, dst_mode, ten_bits, two_word, one_word, jump_word, first_word, spelling}
+use Rattle.msp_encode.specs.Laws.{SpellingLaw}
+use Rattle.msp_encode.proofs.Codes.{op1_code-range, op2_code-range, cond_code-range, width_code-range}
 
-const_row : (c : Cg) (s : Src) → s ≡ src.Const c → SrcRow (src.Const c) (src_register (src.Const c)) (src_mode (src.Const c))
-const_row Zero s e = (refl, refl)
-const_row One s e = (refl, refl)
-const_row Two s e = (refl, refl)
-const_row Four s e = (refl, refl)
-const_row Eight s e = (refl, refl)
-const_row AllOnes s e = (refl, refl)
+const_row : (c : Cg) → SrcRow (src.Const c) (src_register (src.Const c)) (src_mode (src.Const c))
+const_row Zero = (refl, refl)
+const_row One = (refl, refl)
+const_row Two = (refl, refl)
+const_row Four = (refl, refl)
+const_row Eight = (refl, refl)
+const_row AllOnes = (refl, refl)
 
 src_row : (s : Src) → SrcFits s → SrcRow s (src_register s) (src_mode s)
 src_row (src.Reg n) f = (refl, refl, f.1)
@@ -36,7 +30,7 @@ src_row (src.Absolute x) f = (refl, refl)
 src_row (src.Indirect n) f = (refl, refl, f.1)
 src_row (src.AutoInc n) f = (refl, refl, f.1)
 src_row (src.Immediate x) f = (refl, refl)
-src_row (src.Const c) f = const_row c (src.Const c) refl
+src_row (src.Const c) f = const_row c
 
 dst_row : (d : Dst) → DstFits d → DstRow d (dst_register d) (dst_mode d)
 dst_row (dst.Reg n) f = (refl, refl)
@@ -76,42 +70,6 @@ dst_small (dst.Indexed n x) f = record { register = f.0; mode = omega arith }
 dst_small (dst.Symbolic x) f = record { register = omega arith; mode = omega arith }
 dst_small (dst.Absolute x) f = record { register = omega arith; mode = omega arith }
 
-op2_small : (op : Op2) → op2_code op < 16
-op2_small Mov = omega arith
-op2_small Add = omega arith
-op2_small Addc = omega arith
-op2_small Subc = omega arith
-op2_small Sub = omega arith
-op2_small Cmp = omega arith
-op2_small Dadd = omega arith
-op2_small Bit = omega arith
-op2_small Bic = omega arith
-op2_small Bis = omega arith
-op2_small Xor = omega arith
-op2_small And = omega arith
-
-op1_small : (op : Op1) → op1_code op < 8
-op1_small Rrc = omega arith
-op1_small Swpb = omega arith
-op1_small Rra = omega arith
-op1_small Sxt = omega arith
-op1_small Push = omega arith
-op1_small Call = omega arith
-
-cond_small : (c : Cond) → cond_code c < 8
-cond_small Ne = omega arith
-cond_small Eq = omega arith
-cond_small Nc = omega arith
-cond_small C = omega arith
-cond_small N = omega arith
-cond_small Ge = omega arith
-cond_small L = omega arith
-cond_small Always = omega arith
-
-width_small : (w : Width) → width_code w < 2
-width_small Wide = omega arith
-width_small Byte = omega arith
-
 record TwoParts (w op b r m t u : ℕ) : Type 0 where
   code : w / 4096 ≡ op
   width : w / 64 % 2 ≡ b
@@ -132,7 +90,7 @@ record OneParts (w op b r m : ℕ) : Type 0 where
   register : w % 16 ≡ r
   mode : w / 16 % 4 ≡ m
 
-one_parts : (op b r m : ℕ) → op < 8 → b < 2 → r < 16 → m < 4 → OneParts (one_word op b r m) op b r m
+one_parts : (op b r m : ℕ) → op < 6 → b < 2 → r < 16 → m < 4 → OneParts (one_word op b r m) op b r m
 unfolding one_word
 one_parts op b r m ho hb hr hm = record { form = omega arith; code = omega arith; width = omega arith; register = omega arith; mode = omega arith }
 
@@ -160,7 +118,7 @@ first : (i : Instr) → InstrFits i → First i (first_word i)
 first (instr.Two op w s d) f =
     let x = src_small s f.0 in
     let y = dst_small d f.1 in
-    let p = two_parts (op2_code op) (width_code w) (src_register s) (src_mode s) (dst_register d) (dst_mode d) (op2_small op) (width_small w) x.register x.mode y.register y.mode in
+    let p = two_parts (op2_code op) (width_code w) (src_register s) (src_mode s) (dst_register d) (dst_mode d) (op2_code-range op).1 (width_code-range w) x.register x.mode y.register y.mode in
     record {
       op_code = p.code;
       width_bit = p.width;
@@ -169,7 +127,7 @@ first (instr.Two op w s d) f =
     }
 first (instr.One op w s) f =
     let x = src_small s f.0 in
-    let p = one_parts (op1_code op) (width_code w) (src_register s) (src_mode s) (op1_small op) (width_small w) x.register x.mode in
+    let p = one_parts (op1_code op) (width_code w) (src_register s) (src_mode s) (op1_code-range op) (width_code-range w) x.register x.mode in
     record {
       form = p.form;
       op_code = p.code;
@@ -180,9 +138,9 @@ first (instr.One op w s) f =
     }
 first instr.Reti f = refl
 first (instr.Jump c k) f =
-    let p = jump_parts (cond_code c) (ten_bits k) (cond_small c) (bits_small k f.0 f.1) in
+    let p = jump_parts (cond_code c) (ten_bits k) (cond_code-range c) (bits_small k f.0 f.1) in
     record { form = p.form; code = p.code; place = subst (OffsetRow k) (sym p.place) (bits_row k f.0 f.1) }
 
-pub spells : (i : Instr) → InstrFits i → Spells i (spelling i)
+pub spells : SpellingLaw
 unfolding spelling
 spells i f = (first i f, refl)

@@ -5,6 +5,10 @@ use Rattle.std.proofs.lemmas.Bool.{cases_eq, cases_lt}
 use Rattle.std.proofs.lemmas.Bool.Decides.{nat_tests}
 use Rattle.machine_model.specs.Memory.{even}
 use Rattle.machine_model.specs.Context.{reg, set_reg, IsContext}
+use Rattle.machine_model.specs.Operands.{after_source}
+use Rattle.msp_encode.specs.declared.instr.Width.{Width}
+use Rattle.msp_encode.specs.declared.instr.Src.{Src}
+use Rattle.msp_encode.specs.declared.instr.Src.TheVariants as src
 
 -- the sixteen registers, one by one
 abbrev pub words : List ℕ → List ℕ
@@ -79,3 +83,15 @@ set-context r (suc (suc (suc (suc n)))) v h b = subst IsContext (sym (set_reg-hi
   zero = rw (get_or-set_other r (suc (suc (suc (suc n)))) 3 v 0 (omega arith)) h.zero;
   small = small-set r (suc (suc (suc (suc n)))) v h.small b;
 }
+
+-- behind any source
+pub after-context : (w : Width) (s : Src) (r : List ℕ) → IsContext r → IsContext (after_source w s r)
+unfolding after_source
+after-context w (src.AutoInc n) r h = set-context r n _ h (omega arith)
+after-context w (src.Reg n) r h = h
+after-context w (src.Indexed n x) r h = h
+after-context w (src.Symbolic x) r h = h
+after-context w (src.Absolute x) r h = h
+after-context w (src.Indirect n) r h = h
+after-context w (src.Immediate x) r h = h
+after-context w (src.Const k) r h = h

@@ -16,8 +16,7 @@ use Rattle.msp_encode.specs.declared.instr.Op1.{Op1}
 use Rattle.msp_encode.specs.declared.instr.Op1.TheVariants.{Rrc, Swpb, Rra, Sxt, Push, Call}
 use Rattle.msp_encode.specs.declared.instr.Src.{Src}
 use Rattle.msp_encode.specs.declared.instr.Src.TheVariants as src
-use Rattle.machine_laws.specs.Steady.{IsStatus}
-use Rattle.machine_laws.proofs.Flags.{status-with_flags, with_flags-small}
+use Rattle.machine_model.proofs.Flags.{with_flags-small}
 
 pub word-small : (m : List ℕ) (a : ℕ) → IsMemory m → word_at m a < 65536
 unfolding word_at
@@ -27,7 +26,7 @@ load-small : (w : Width) (m : List ℕ) (a : ℕ) → IsMemory m → load w m a 
 load-small Wide m a h = word-small m a h
 load-small Byte m a h = h.small a
 
-low-small : (w : Width) (v : ℕ) → low w v < size w
+pub low-small : (w : Width) (v : ℕ) → low w v < size w
 low-small Wide v = omega arith
 low-small Byte v = omega arith
 
@@ -115,28 +114,32 @@ one-small Sxt w v sr h = sign-small v (leb 128 (v % 256))
 one-small Push w v sr h = size-word w v h
 one-small Call w v sr h = size-word w v h
 
+-- a result of an operation on a register's value fits a register
+pub result-small : (op : Op2) (w : Width) (s d sr : ℕ) → s < size w → (alu op w s (low w d) sr).value < 65536
+result-small op w s d sr h = size-word w _ (alu-small op w s (low w d) sr h (low-small w d))
+
 -- ---- flags
 
-pub alu-status : (op : Op2) (w : Width) (s d sr kb : ℕ) → IsStatus kb sr → sr < 65536 → IsStatus kb (alu op w s d sr).status × ((alu op w s d sr).status < 65536)
+pub status-small : (op : Op2) (w : Width) (s d sr : ℕ) → sr < 65536 → (alu op w s d sr).status < 65536
 unfolding alu added logical
-alu-status Mov w s d sr kb h k = (h, k)
-alu-status Bic w s d sr kb h k = (h, k)
-alu-status Bis w s d sr kb h k = (h, k)
-alu-status Add w s d sr kb h k = (status-with_flags kb sr _ _ _ _ h, with_flags-small sr _ _ _ _ k)
-alu-status Addc w s d sr kb h k = (status-with_flags kb sr _ _ _ _ h, with_flags-small sr _ _ _ _ k)
-alu-status Sub w s d sr kb h k = (status-with_flags kb sr _ _ _ _ h, with_flags-small sr _ _ _ _ k)
-alu-status Cmp w s d sr kb h k = (status-with_flags kb sr _ _ _ _ h, with_flags-small sr _ _ _ _ k)
-alu-status Subc w s d sr kb h k = (status-with_flags kb sr _ _ _ _ h, with_flags-small sr _ _ _ _ k)
-alu-status Dadd w s d sr kb h k = (status-with_flags kb sr _ _ _ _ h, with_flags-small sr _ _ _ _ k)
-alu-status And w s d sr kb h k = (status-with_flags kb sr _ _ _ _ h, with_flags-small sr _ _ _ _ k)
-alu-status Bit w s d sr kb h k = (status-with_flags kb sr _ _ _ _ h, with_flags-small sr _ _ _ _ k)
-alu-status Xor w s d sr kb h k = (status-with_flags kb sr _ _ _ _ h, with_flags-small sr _ _ _ _ k)
+status-small Mov w s d sr k = k
+status-small Bic w s d sr k = k
+status-small Bis w s d sr k = k
+status-small Add w s d sr k = with_flags-small sr _ _ _ _ k
+status-small Addc w s d sr k = with_flags-small sr _ _ _ _ k
+status-small Sub w s d sr k = with_flags-small sr _ _ _ _ k
+status-small Cmp w s d sr k = with_flags-small sr _ _ _ _ k
+status-small Subc w s d sr k = with_flags-small sr _ _ _ _ k
+status-small Dadd w s d sr k = with_flags-small sr _ _ _ _ k
+status-small And w s d sr k = with_flags-small sr _ _ _ _ k
+status-small Bit w s d sr k = with_flags-small sr _ _ _ _ k
+status-small Xor w s d sr k = with_flags-small sr _ _ _ _ k
 
-pub one-status : (op : Op1) (w : Width) (v sr kb : ℕ) → IsStatus kb sr → sr < 65536 → IsStatus kb (alu_one op w v sr).status × ((alu_one op w v sr).status < 65536)
+pub one-status-small : (op : Op1) (w : Width) (v sr : ℕ) → sr < 65536 → (alu_one op w v sr).status < 65536
 unfolding alu_one logical
-one-status Rrc w v sr kb h k = (status-with_flags kb sr _ _ _ _ h, with_flags-small sr _ _ _ _ k)
-one-status Rra w v sr kb h k = (status-with_flags kb sr _ _ _ _ h, with_flags-small sr _ _ _ _ k)
-one-status Swpb w v sr kb h k = (h, k)
-one-status Sxt w v sr kb h k = (status-with_flags kb sr _ _ _ _ h, with_flags-small sr _ _ _ _ k)
-one-status Push w v sr kb h k = (h, k)
-one-status Call w v sr kb h k = (h, k)
+one-status-small Rrc w v sr k = with_flags-small sr _ _ _ _ k
+one-status-small Rra w v sr k = with_flags-small sr _ _ _ _ k
+one-status-small Swpb w v sr k = k
+one-status-small Sxt w v sr k = with_flags-small sr _ _ _ _ k
+one-status-small Push w v sr k = k
+one-status-small Call w v sr k = k
