@@ -14,8 +14,8 @@ use Rattle.code_model.specs.declared.parts.RelKind.{RelKind}
 use Rattle.insert_model.specs.declared.line.Line.{Line}
 use Rattle.insert_model.specs.declared.piece.Piece.{Piece}
 use Rattle.insert_model.specs.declared.piece.Word.{Word}
-use Rattle.msp_encode.specs.Spelled.{src_register, src_mode, dst_register, dst_mode, two_word, one_word, first_word, spelling}
-use Rattle.insert_model.specs.Words.{count, with_kind, operand_words, piece_words, unit_words}
+use Rattle.msp_encode.specs.Spelled.{src_register, src_mode, dst_register, dst_mode, two_word, one_word, first_word, spelling, count}
+use Rattle.insert_model.specs.Words.{with_kind, operand_words, piece_words, unit_words}
 use Rattle.insert_model.specs.Units.{unit}
 use Rattle.insert_model.specs.Inserted.{moved, units}
 use Rattle.insert_laws.specs.Pieces.{pieces_of, moved_src, moved_dst, moved_instr, standing}

@@ -17,8 +17,8 @@ use Rattle.msp_encode.specs.declared.instr.Instr.{Instr}
 use Rattle.msp_encode.specs.declared.instr.Instr.TheVariants as instr
 use Rattle.machine_laws.specs.Places.{TakesAddress, AddsIndex, ComparesLow, JumpsIfLow, ComparesHigh, JumpsIfHigh, StoreFails, StoreRestores, Stores, ComparesLimit, JumpsIfRoom, GrowthFails, GrowthRestores, Grows, ComparesTop, JumpsIfFilled, PopFails, PopRestores, Pops, ComparesNewLow, JumpsIfNewLow, ComparesNewHigh, JumpsIfNewHigh, SpFails, SpRestores, SetsSp}
 use Rattle.machine_laws.specs.Own.{SameLaw}
-use Rattle.machine_laws.proofs.Flags.{with_flags-small}
-use Rattle.machine_laws.proofs.Words.{set-context}
+use Rattle.machine_model.proofs.Flags.{with_flags-small}
+use Rattle.machine_model.proofs.Contexts.{set-context}
 use Rattle.machine_laws.proofs.Registers.{reg_other, high_same}
 use Rattle.machine_laws.proofs.Operations.{behind, outcome, two-writes, two-tests}
 
