@@ -11,7 +11,7 @@ use Rattle.code_laws.proofs.Standing.{size_least}
 use Rattle.code_laws.proofs.Starting.{starts_apart, next_start}
 use Rattle.code_laws.proofs.Lines.{guard_reaches}
 
-run_rises : (g : GuardKind) (o : Object) (first base count at : ℕ) → Run g o first base count at → base ≤ at
+pub run_rises : (g : GuardKind) (o : Object) (first base count at : ℕ) → Run g o first base count at → base ≤ at
 run_rises g o first base zero at r = omega (arith, r)
 run_rises g o first base (suc k) at (from, r, (s, e)) = omega (arith, run_rises g o first base k from r, e)
 

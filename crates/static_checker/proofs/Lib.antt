@@ -5,6 +5,8 @@ pub mod Guarding
 pub mod MarkLemmas
 pub mod PlaceLemmas
 pub mod Targeting
+pub mod RunLemmas
+pub mod GuardLemmas
 pub mod UnitLemmas
 pub mod FirstLemmas
 pub mod LocalLemmas

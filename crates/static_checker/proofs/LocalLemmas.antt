@@ -1,5 +1,5 @@
 -- The rules that an instruction and what is before it decide.
-use Rattle.std.proofs.Common.{◌≡◌, ◌⊎◌, ◌↔◌, ℕ, ◌+◌, ◌≤◌, ◌<◌, inl, inr, length, Option, Some, Bool, IsTrue, refl, sym, ap, subst, ◌∙◌, arith}
+use Rattle.std.proofs.Common.{◌≡◌, ◌⊎◌, ◌↔◌, ℕ, ◌+◌, ◌≤◌, ◌<◌, inl, inr, length, Option, None, Some, Bool, IsTrue, refl, sym, ap, subst, ◌∙◌, arith}
 use Rattle.std.proofs.Math.Nat.{eq-or-lt_of_le}
 use Rattle.std.proofs.lemmas.Bool.{cases_lt, cases_order}
 use Rattle.msp_encode.specs.declared.instr.Dst.TheVariants as dst
@@ -11,7 +11,7 @@ use Rattle.code_model.specs.declared.rules.Rule.{Rule}
 use Rattle.code_model.specs.declared.rules.Rule.TheVariants as rule
 use Rattle.code_model.specs.Starts.{Start}
 use Rattle.code_model.specs.Guards.{Guarded, Own}
-use Rattle.code_model.specs.Rules.{number, Breaks, BreaksAt, HasWrongReloc, Refuses}
+use Rattle.code_model.specs.Rules.{number, IsGuardedStore, Breaks, BreaksAt, HasWrongReloc, Refuses}
 use Rattle.code_model.specs.Verdicts.{Precedes}
 use Rattle.code_laws.proofs.Numbers.{same_rule}
 use Rattle.code_laws.proofs.Starting.{starts_apart}
@@ -21,7 +21,7 @@ use Rattle.static_checker.specs.declared.code_units.CodeUnit.{CodeUnit}
 use Rattle.static_checker.specs.Cursors.{IsCursor}
 use Rattle.static_checker.specs.Spots.{IsStartSpot}
 use Rattle.static_checker.specs.Firsts.{IsLocal, IsFirst, NoneIn, IsFirstRule, NoneBelow}
-use Rattle.static_checker.specs.CodeUnits.{IsGuardOf, IsUnitSpot, IsPlain}
+use Rattle.static_checker.specs.CodeUnits.{IsGuardOf, IsStoreGuard, IsUnitSpot, IsPlain}
 use Rattle.static_checker.proofs.Guarding.{instr_of, words_of}
 use Rattle.static_checker.proofs.CursorLemmas.{no_reloc_between}
 use Rattle.static_checker.proofs.FirstLemmas.{none_below, number_most}
@@ -38,6 +38,23 @@ pub by_guard : (o : Object) (at : ℕ) (x : Option GuardKind) (g : GuardKind) (P
 by_guard o at x g P b is iff = (
   (λ h. ((iff.0 h).0, λ guarded. (iff.0 h).1 ((guard_of o at x is g).0 guarded))),
   (λ h. iff.1 (h.0, λ e. h.1 ((guard_of o at x is g).1 e))),
+)
+
+store_guard : (o : Object) (at : ℕ) (x : Option GuardKind) → IsGuardOf o at x → IsGuardedStore o at → IsStoreGuard x
+unfolding IsGuardedStore
+store_guard o at x is (g, (keeps, guarded)) = subst (λ (y : Option GuardKind). IsStoreGuard y) (sym ((guard_of o at x is g).0 guarded)) keeps
+
+guarded_store : (o : Object) (at : ℕ) (x : Option GuardKind) → IsGuardOf o at x → IsStoreGuard x → IsGuardedStore o at
+unfolding IsGuardedStore
+guarded_store o at None is keeps = absurd keeps
+guarded_store o at (Some g) is keeps = (g, (keeps, (guard_of o at (Some g) is g).1 refl))
+
+-- the rule on stores, by the guard that was found
+pub by_store_guard : (o : Object) (at : ℕ) (x : Option GuardKind) (P : Type 0) (b : Bool) → IsGuardOf o at x
+    → IsTrue b ↔ (P × (IsStoreGuard x → ⊥)) → IsTrue b ↔ (P × (IsGuardedStore o at → ⊥))
+by_store_guard o at x P b is iff = (
+  (λ h. ((iff.0 h).0, λ guarded. (iff.0 h).1 (store_guard o at x is guarded))),
+  (λ h. iff.1 (h.0, λ keeps. h.1 (guarded_store o at x is keeps))),
 )
 
 pub as_rule : (r q : Rule) (o : Object) (at n : ℕ) (i : Instr) (b : Bool) → r ≡ q → IsTrue b ↔ Breaks q o at i n → IsTrue b ↔ Breaks r o at i n

@@ -10,17 +10,19 @@ use Rattle.code_model.specs.Guards.{guard_words, Interior, UnitStart}
 use Rattle.code_laws.proofs.Starting.{one_place, further, starts_apart}
 use Rattle.static_checker.specs.declared.cursor.Cursor.{Cursor}
 use Rattle.static_checker.specs.declared.refusal.Refusal.{Refusal}
+use Rattle.static_checker.specs.declared.spot.Spot.{Spot}
+use Rattle.static_checker.specs.Spots.{IsStartSpot}
 use Rattle.static_checker.specs.declared.code_units.CodeUnit.{CodeUnit}
 use Rattle.static_checker.specs.declared.pass.Pass.{Pass}
 use Rattle.static_checker.specs.Cursors.{IsCursor}
 use Rattle.static_checker.specs.Firsts.{IsLocal, FirstIn}
 use Rattle.static_checker.specs.Marked.{Adds}
-use Rattle.static_checker.specs.CodeUnits.{NoGuardAcross, IsCodeUnit, IsTransfer, TransferAt}
+use Rattle.static_checker.specs.CodeUnits.{NoGuardAcross, IsNextInstr, IsCodeUnit, IsTransfer, TransferAt}
 use Rattle.code_model.specs.declared.guards.GuardKind.{GuardKind}
 use Rattle.code_model.specs.declared.guards.GuardKind.TheVariants as guard
 use Rattle.static_checker.specs.declared.code_units.BegunGuard.{BegunGuard}
 use Rattle.static_checker.specs.Advances.{IsBegun, BegunAt, seen}
-use Rattle.static_checker.specs.Passed.{IsReached, IsPassed, IsWhole, left}
+use Rattle.static_checker.specs.Passed.{IsReached, IsGone, UnitsBelow, IsPassed, IsWhole, left}
 use Rattle.static_checker.proofs.Guarding.{instr_of}
 use Rattle.static_checker.proofs.FirstLemmas.{none_at_first, first_over}
 
@@ -32,74 +34,50 @@ nothing_before o guarded g h less = absurd (omega arith)
 
 pub passed_begins : (o : Object) (c : Cursor) (units transfers : List ℕ) → IsCursor o.relocs c → c.at ≡ 0 → ((k : ℕ) → Has units k → ⊥) → ((k : ℕ) → Has transfers k → ⊥)
     → IsPassed o (record { cursor = c; begun = None; units = units; transfers = transfers; first = None })
+unfolding UnitsBelow
 passed_begins o c units transfers is at no_unit no_transfer = record {
-  cursor = is;
-  reached = record { count = 0; reached = at; within = omega (arith, at) };
+  gone = record {
+    cursor = is;
+    reached = record { count = 0; reached = at; within = omega (arith, at) };
+    transfers = λ k. ((λ h. absurd (no_transfer k h)), (λ x. absurd (omega (arith, x.1, at))));
+    each = λ k t less. absurd (omega (arith, at));
+    first = subst (λ (n : ℕ). FirstIn o IsLocal 0 n None) (sym at) (none_at_first o IsLocal 0);
+  };
+  units = λ k. ((λ h. absurd (no_unit k h)), (λ x. absurd (omega (arith, x.1, at))));
   clear = subst (λ (n : ℕ). NoGuardAcross o n) (sym at) (nothing_before o);
   begun = tt;
-  units = λ k. ((λ h. absurd (no_unit k h)), (λ x. absurd (omega (arith, x.1, at))));
-  transfers = λ k. ((λ h. absurd (no_transfer k h)), (λ x. absurd (omega (arith, x.1, at))));
-  each = λ k t less. absurd (omega (arith, at));
-  first = subst (λ (n : ℕ). FirstIn o IsLocal 0 n None) (sym at) (none_at_first o IsLocal 0);
 }
 
-pub start_here : (o : Object) (p : Pass) → IsPassed o p → p.cursor.at < length o.code → Start o.code p.cursor.at
+pub start_here : (o : Object) (p : Pass) → IsGone o p → p.cursor.at < length o.code → Start o.code p.cursor.at
 start_here o p is inside = record { count = is.reached.count; reached = is.reached.reached; below = inside }
 
--- ---- over a unit
+-- ---- over an instruction
 
--- the first refusal before a unit's instruction
-pub first_to : (o : Object) (at : ℕ) (p : CodeUnit) (x : Option Refusal) → IsCodeUnit o at p → FirstIn o IsLocal 0 at x → FirstIn o IsLocal 0 p.spot.at x
-first_to o at p x unit = first_over o IsLocal 0 at p.spot.at x unit.order (λ k r low high local refused. unit.quiet k r low high local refused)
+-- the first refusal before it
+pub first_to : (o : Object) (at : ℕ) (p : CodeUnit) (x : Option Refusal) → IsNextInstr o at p → FirstIn o IsLocal 0 at x → FirstIn o IsLocal 0 p.spot.at x
+first_to o at p x next = first_over o IsLocal 0 at p.spot.at x next.order (λ k r low high local refused. next.quiet k r low high local refused)
 
-module _ (o : Object) (old : Pass) (p : CodeUnit) (c : Cursor) (units transfers : List ℕ) (first : Option Refusal)
-    (was : IsPassed o old) (unit : IsCodeUnit o old.cursor.at p)
+module _ (o : Object) (old : Pass) (p : CodeUnit) (c : Cursor) (transfers : List ℕ) (first : Option Refusal)
+    (was : IsGone o old) (next : IsNextInstr o old.cursor.at p)
     (is : IsCursor o.relocs c) (c_at : c.at ≡ p.spot.at + p.spot.words)
-    (marked : Has units old.cursor.at) (others : (k : ℕ) → k ≢ old.cursor.at → Has units k ↔ Has old.units k)
     (adds : Adds old.transfers transfers (λ k. (k ≡ p.spot.at) × IsTransfer p.spot.instr))
     (found : FirstIn o IsLocal 0 (p.spot.at + p.spot.words) first) where
-  at : ℕ
-  at = old.cursor.at
-
-  end : ℕ
-  end = p.spot.at + p.spot.words
-
   spot_least : 1 ≤ p.spot.words
-  spot_least = unit.here.is.is.least
-
-  to_unit : (k : ℕ) → Has units k → UnitStart o k × (k < p.spot.at + p.spot.words)
-  to_unit k h =
-      elim (cases_order k old.cursor.at) [
-        | inl same ↦ (subst (λ (n : ℕ). UnitStart o n) (sym same) unit.starts, omega (arith, unit.order, spot_least))
-        | inr other ↦
-            let differs : k ≢ old.cursor.at = elim other [ inl less ↦ omega arith | inr more ↦ omega arith ] in
-            let b : UnitStart o k × (k < old.cursor.at) = (was.units k).0 ((others k differs).0 h) in
-            (b.0, omega (arith, b.1, unit.order))
-      ]
-
-  from_unit : (k : ℕ) → UnitStart o k × (k < p.spot.at + p.spot.words) → Has units k
-  from_unit k x =
-      elim (cases_order k old.cursor.at) [
-        | inl same ↦ subst (λ (n : ℕ). Has units n) (sym same) marked
-        | inr other ↦ elim other [
-          | inl less ↦ let differs : k ≢ old.cursor.at = omega arith in (others k differs).1 ((was.units k).1 (x.0, less))
-          | inr more ↦ absurd (x.0.1 (unit.inner k x.0.0 more x.1))
-        ]
-      ]
+  spot_least = next.here.is.is.least
 
   to_transfer : (k : ℕ) → Has transfers k → TransferAt o k × (k < p.spot.at + p.spot.words)
   to_transfer k h =
       elim ((adds k).0 h) [
-        | inl before ↦ let b : TransferAt o k × (k < old.cursor.at) = (was.transfers k).0 before in (b.0, omega (arith, b.1, unit.order))
+        | inl before ↦ let b : TransferAt o k × (k < old.cursor.at) = (was.transfers k).0 before in (b.0, omega (arith, b.1, next.order))
         | inr added ↦ (
           subst (λ (n : ℕ). TransferAt o n) (sym added.0)
-              (record { start = unit.here.is.start; instr = p.spot.instr; words = p.spot.words; stands = unit.here.is.is.stands; is_transfer = added.1; free = unit.here.free }),
+              (record { start = next.here.is.start; instr = p.spot.instr; words = p.spot.words; stands = next.here.is.is.stands; is_transfer = added.1; free = next.here.free }),
           omega (arith, added.0, spot_least),
         )
       ]
 
   goes_there : TransferAt o p.spot.at → IsTransfer p.spot.instr
-  goes_there x = subst (λ (i : Instr). IsTransfer i) (instr_of o.code p.spot x.instr x.words unit.here.is x.stands) x.is_transfer
+  goes_there x = subst (λ (i : Instr). IsTransfer i) (instr_of o.code p.spot x.instr x.words next.here.is x.stands) x.is_transfer
 
   from_transfer : (k : ℕ) → TransferAt o k × (k < p.spot.at + p.spot.words) → Has transfers k
   from_transfer k (x, below) =
@@ -108,37 +86,81 @@ module _ (o : Object) (old : Pass) (p : CodeUnit) (c : Cursor) (units transfers 
         | inr low ↦ elim (cases_order k p.spot.at) [
           | inl same ↦ (adds k).1 (inr (same, goes_there (subst (λ (n : ℕ). TransferAt o n) same x)))
           | inr other ↦ elim other [
-            | inl less ↦ absurd (x.free (unit.own k x.start low less))
-            | inr more ↦ absurd (omega (arith, starts_apart o.code p.spot.at k p.spot.instr p.spot.words unit.here.is.start unit.here.is.is.stands x.start more))
+            | inl less ↦ absurd (x.free (next.own k x.start low less))
+            | inr more ↦ absurd (omega (arith, starts_apart o.code p.spot.at k p.spot.instr p.spot.words next.here.is.start next.here.is.is.stands x.start more))
           ]
         ]
       ]
 
   each_to : (k : ℕ) → Start o.code k → k < p.spot.at + p.spot.words → Interior o k ⊎ UnitStart o k
-  each_to k t high =
-      elim (cases_order k old.cursor.at) [
-        | inl same ↦ inr (subst (λ (n : ℕ). UnitStart o n) (sym same) unit.starts)
-        | inr other ↦ elim other [ inl less ↦ was.each k t less | inr more ↦ inl (unit.inner k t more high) ]
-      ]
+  each_to k t high = elim (cases_lt k old.cursor.at) [ inl before ↦ was.each k t before | inr low ↦ next.each k t low high ]
 
   reached_to : IsReached o.code (p.spot.at + p.spot.words)
   reached_to = record {
-    count = suc unit.here.is.start.count;
-    reached = (p.spot.at, unit.here.is.start.reached, record { instr = p.spot.instr; words = p.spot.words; stands = unit.here.is.is.stands; ends = refl });
-    within = unit.here.is.is.within;
+    count = suc next.here.is.start.count;
+    reached = (p.spot.at, next.here.is.start.reached, record { instr = p.spot.instr; words = p.spot.words; stands = next.here.is.is.stands; ends = refl });
+    within = next.here.is.is.within;
   }
 
-  pub passed_on : IsPassed o (record { cursor = c; begun = None; units = units; transfers = transfers; first = first })
-  passed_on = record {
+  pub gone_on : IsGone o (record { cursor = c; begun = old.begun; units = old.units; transfers = transfers; first = first })
+  gone_on = record {
     cursor = is;
     reached = subst (λ (n : ℕ). IsReached o.code n) (sym c_at) reached_to;
-    clear = subst (λ (n : ℕ). NoGuardAcross o n) (sym c_at) unit.clear;
-    begun = tt;
-    units = subst (λ (n : ℕ). (k : ℕ) → Has units k ↔ (UnitStart o k × (k < n))) (sym c_at) (λ k. (to_unit k, from_unit k));
     transfers = subst (λ (n : ℕ). (k : ℕ) → Has transfers k ↔ (TransferAt o k × (k < n))) (sym c_at) (λ k. (to_transfer k, from_transfer k));
     each = subst (λ (n : ℕ). (k : ℕ) → Start o.code k → k < n → Interior o k ⊎ UnitStart o k) (sym c_at) each_to;
     first = subst (λ (n : ℕ). FirstIn o IsLocal 0 n first) (sym c_at) found;
   }
+
+-- ---- the unit starts
+
+pub units_first : (o : Object) (at : ℕ) (p : CodeUnit) (old units : List ℕ) → IsCodeUnit o at p → UnitsBelow o old at → Has units at → ((k : ℕ) → k ≢ at → Has units k ↔ Has old k)
+    → UnitsBelow o units (p.spot.at + p.spot.words)
+unfolding UnitsBelow
+units_first o at p old units unit was marked others k = (go, back)
+  where
+    least : 1 ≤ p.spot.words
+    least = unit.next.here.is.is.least
+
+    go : Has units k → UnitStart o k × (k < p.spot.at + p.spot.words)
+    go h =
+        elim (cases_order k at) [
+          | inl same ↦ (subst (λ (n : ℕ). UnitStart o n) (sym same) unit.starts, omega (arith, unit.next.order, least))
+          | inr other ↦
+              let differs : k ≢ at = elim other [ inl less ↦ omega arith | inr more ↦ omega arith ] in
+              let b : UnitStart o k × (k < at) = (was k).0 ((others k differs).0 h) in
+              (b.0, omega (arith, b.1, unit.next.order))
+        ]
+
+    back : UnitStart o k × (k < p.spot.at + p.spot.words) → Has units k
+    back x =
+        elim (cases_order k at) [
+          | inl same ↦ subst (λ (n : ℕ). Has units n) (sym same) marked
+          | inr other ↦ elim other [
+            | inl less ↦ let differs : k ≢ at = omega arith in (others k differs).1 ((was k).1 (x.0, less))
+            | inr more ↦ absurd (x.0.1 (unit.inner k x.0.0 more x.1))
+          ]
+        ]
+
+-- none is an instruction that a guard serves
+pub units_over : (o : Object) (at : ℕ) (s : Spot) (units : List ℕ) → IsStartSpot o.code s → s.at ≡ at → Interior o s.at → UnitsBelow o units at → UnitsBelow o units (s.at + s.words)
+unfolding UnitsBelow
+units_over o at s units here place interior was k = (go, back)
+  where
+    go : Has units k → UnitStart o k × (k < s.at + s.words)
+    go h = let b : UnitStart o k × (k < at) = (was k).0 h in (b.0, omega (arith, b.1))
+
+    back : UnitStart o k × (k < s.at + s.words) → Has units k
+    back x =
+        elim (cases_order k s.at) [
+          | inl same ↦ absurd (x.0.1 (subst (λ (n : ℕ). Interior o n) (sym same) interior))
+          | inr other ↦ elim other [
+            | inl less ↦ (was k).1 (x.0, omega arith)
+            | inr more ↦ absurd (omega (arith, starts_apart o.code s.at k s.instr s.words here.start here.is.stands x.0.0 more))
+          ]
+        ]
+
+pub passed_of : (o : Object) (p : Pass) → IsGone o p → UnitsBelow o p.units p.cursor.at → NoGuardAcross o p.cursor.at → p.begun ≡ None → IsPassed o p
+passed_of o p gone units clear free = record { gone = gone; units = units; clear = clear; begun = subst (λ (x : Option BegunGuard). BegunAt o p.cursor.at x) (sym free) tt }
 
 -- ---- the end
 
@@ -166,18 +188,19 @@ spelled_to code at r past k t =
     ]
 
 pub whole : (o : Object) (p : Pass) → IsPassed o p → length o.code ≤ p.cursor.at → IsWhole o p
+unfolding UnitsBelow
 whole o p is past =
-    let same : p.cursor.at ≡ length o.code = omega (arith, is.reached.within) in
+    let same : p.cursor.at ≡ length o.code = omega (arith, is.gone.reached.within) in
     record {
-      spelled = spelled_to o.code p.cursor.at is.reached past;
+      spelled = spelled_to o.code p.cursor.at is.gone.reached past;
       units = λ k. ((λ h. ((is.units k).0 h).0), (λ u. (is.units k).1 (u, omega (arith, u.0.below))));
-      transfers = λ k. ((λ h. ((is.transfers k).0 h).0), (λ x. (is.transfers k).1 (x, omega (arith, x.start.below))));
-      each = λ k t. is.each k t (omega (arith, t.below));
-      first = subst (λ (n : ℕ). FirstIn o IsLocal 0 n p.first) same is.first;
+      transfers = λ k. ((λ h. ((is.gone.transfers k).0 h).0), (λ x. (is.gone.transfers k).1 (x, omega (arith, x.start.below))));
+      each = λ k t. is.gone.each k t (omega (arith, t.below));
+      first = subst (λ (n : ℕ). FirstIn o IsLocal 0 n p.first) same is.gone.first;
     }
 
 pub stops : (o : Object) (p : Pass) → IsPassed o p → p.cursor.at < length o.code → NoneStands o.code p.cursor.at → Bad o.code p.cursor.at
-stops o p is inside none = record { start = start_here o p is inside; none = none }
+stops o p is inside none = record { start = start_here o p is.gone inside; none = none }
 
 -- ---- what is left to do
 
@@ -187,6 +210,8 @@ seen_most o at (Some b) is = most b.kind is.most
   where
     most : (g : GuardKind) → b.words ≤ length (guard_words g) → b.words + 1 ≤ 14
     most guard.Store h = omega arith
+    most (guard.Wide r) h = omega arith
+    most guard.Load h = omega arith
     most guard.Growth h = omega arith
     most guard.Pop h = omega arith
     most guard.Sp h = omega arith

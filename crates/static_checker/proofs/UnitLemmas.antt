@@ -1,29 +1,26 @@
--- CodeUnits: what a guard that begins at a place covers, and an instruction where none begins.
+-- A guard that is begun at a place, and an instruction where none begins.
 use Rattle.std.proofs.Common.{zero, suc, [], ◌∷◌, take, slice_get, add-one, ◌≡◌, ◌≢◌, ℕ, ◌+◌, ◌≤◌, ◌<◌, List, ◌⊎◌, inl, inr, slice_index, length, drop, None, Some, refl, sym, subst, ap, ◌∙◌, arith}
 use Rattle.std.proofs.lemmas.Bool.{cases_order, cases_lt}
 use Rattle.msp_encode.specs.declared.instr.Instr.{Instr}
 use Rattle.code_model.specs.declared.object.Object.{Object}
 use Rattle.code_model.specs.declared.guards.GuardKind.{GuardKind}
+use Rattle.code_model.specs.declared.guards.GuardKind.TheVariants as guard
 use Rattle.code_model.specs.declared.guards.Slot.{Slot}
-use Rattle.code_model.specs.declared.rules.Rule.{Rule}
-use Rattle.code_model.specs.declared.rules.Rule.TheVariants as rule
 use Rattle.code_model.specs.Starts.{Stands, NoneStands, Start}
-use Rattle.code_model.specs.Guards.{Guarded, guard_words, Fits, FitAll, Serves, CoversBy, Covers, Covered, Own, Interior, UnitStart}
-use Rattle.code_model.specs.Rules.{IsReti, Refuses}
-use Rattle.code_laws.specs.Laws.{IsOneGuard}
+use Rattle.code_model.specs.Guards.{Guarded, guard_words, Fits, FitAll, Serves, Own, OwnBy, Interior, UnitStart}
 use Rattle.code_laws.proofs.Standing.{same_instr}
 use Rattle.code_laws.proofs.Starting.{starts_apart}
-use Rattle.code_laws.proofs.DangerLemmas.{guard_begins}
-use Rattle.code_laws.specs.SecondWords.{SecondIs}
-use Rattle.code_laws.proofs.Inside.{guards_apart, second_is}
-use Rattle.code_laws.proofs.Lines.{OnLine, guard_reaches, on_guard_line}
-use Rattle.code_laws.proofs.GuardRelocs.{right_relocs}
+use Rattle.code_laws.proofs.Begins.{guard_begins}
+use Rattle.code_laws.specs.SecondWords.{SecondIs, HighIs}
+use Rattle.code_laws.proofs.Inside.{second_is, high_is}
+use Rattle.code_laws.proofs.Lines.{guard_reaches}
+use Rattle.code_laws.proofs.Runs.{base_before, first_before, also_guarded}
 use Rattle.static_checker.specs.declared.spot.Spot.{Spot}
 use Rattle.static_checker.specs.Spots.{IsSpot, IsStartSpot}
-use Rattle.static_checker.specs.Firsts.{IsLocal}
 use Rattle.static_checker.specs.declared.code_units.BegunGuard.{BegunGuard}
 use Rattle.static_checker.specs.Advances.{IsBegun}
-use Rattle.static_checker.specs.CodeUnits.{NoGuardFrom, OnlyKind, GuardsFrom, IsGuardOf, NoGuardAcross, IsCodeUnit}
+use Rattle.static_checker.specs.CodeUnits.{wording, IsServing, NoGuardFrom, OnlyKind, IsGuardOf, NoGuardAcross, IsCodeUnit}
+use Rattle.static_checker.proofs.RunLemmas.{clear_of, unit_here, guard_unit}
 
 start_spot : (o : Object) (at : ℕ) (s : Spot) → Start o.code at → IsSpot o.code at s → IsStartSpot o.code s
 start_spot o at s start is = record {
@@ -31,66 +28,74 @@ start_spot o at s start is = record {
   is = subst (λ (n : ℕ). IsSpot o.code n s) (sym is.place) is;
 }
 
--- ---- a guard that begins at a place
+-- ---- no guard with the words of a kind begins at a place
 
-pub guards_from : (o : Object) (at len : ℕ) (g : GuardKind) (s : Spot) → Start o.code at → len ≡ length (guard_words g) → FitAll o at (guard_words g)
-    → at + len < length o.code → IsSpot o.code (at + len) s → Serves g o (at + len) s.instr → GuardsFrom o at g s
-guards_from o at len g s start e fit inside is serves =
-    let begins : Start o.code (at + length (guard_words g)) = guard_reaches o at g fit start (omega arith) in
-    let same : at + length (guard_words g) ≡ at + len = omega arith in
-    let here : IsStartSpot o.code s = start_spot o (at + len) s (subst (λ (n : ℕ). Start o.code n) same begins) is in
+-- a guard has the words of its wording
+same_words : (g : GuardKind) → guard_words g ≡ guard_words (wording g)
+same_words guard.Store = refl
+same_words (guard.Wide r) = refl
+same_words guard.Load = refl
+same_words guard.Growth = refl
+same_words guard.Pop = refl
+same_words guard.Sp = refl
+
+pub words_are : (g k : GuardKind) → wording g ≡ k → guard_words g ≡ guard_words k
+words_are g k e = same_words g ∙ ap guard_words e
+
+words_by : (o : Object) (at : ℕ) (k : GuardKind) → OnlyKind o at k → (guarded : ℕ) (g : GuardKind) (h : Guarded o guarded g) → h.first ≡ at → wording g ≡ k
+unfolding OnlyKind
+words_by o at k only = only
+
+pub not_fit : (o : Object) (at : ℕ) (k : GuardKind) → OnlyKind o at k → (FitAll o at (guard_words k) → ⊥) → (g : GuardKind) → NoGuardFrom o at g
+unfolding NoGuardFrom
+not_fit o at k only never g guarded h e =
+    let same : guard_words g ≡ guard_words k = words_are g k (words_by o at k only guarded g h e) in
+    never (subst (λ (ss : List Slot). FitAll o at ss) same (subst (λ (n : ℕ). FitAll o n (guard_words g)) e h.fit))
+
+-- what a guard that begins at a place serves directly behind its words
+record ServesFirst (o : Object) (at end : ℕ) (k g : GuardKind) : Type 0 where
+  instr : Instr
+  words : ℕ
+  stands : Stands o.code end instr words
+  is : IsServing k o at end instr g
+  inside : end < length o.code
+
+first_of : (o : Object) (at len guarded : ℕ) (k g : GuardKind) → OnlyKind o at k → len ≡ length (guard_words k) → (h : Guarded o guarded g) → h.first ≡ at → ServesFirst o at (at + len) k g
+first_of o at len guarded k g only same h e =
+    let worded : wording g ≡ k = words_by o at k only guarded g h e in
+    let size : length (guard_words g) ≡ length (guard_words k) = ap (λ (ss : List Slot). length ss) (words_are g k worded) in
+    let base : h.base ≡ at + len = omega (arith, h.ends) in
+    let inside : h.first + length (guard_words g) < length o.code = omega (arith, h.ends, base_before o guarded g h, h.start.below) in
+    let starts : Start o.code h.base = subst (λ (n : ℕ). Start o.code n) h.ends (guard_reaches o h.first g h.fit h.begins inside) in
+    let also = also_guarded o guarded h.base g h starts (omega arith) (base_before o guarded g h) in
+    let from : also.guarded.first ≡ at = also.first ∙ e in
     record {
-      here = here;
-      guarded = record {
-        start = here.start;
-        first = at;
-        ends = omega (arith, is.place);
-        begins = start;
-        fit = fit;
-        instr = s.instr;
-        words = s.words;
-        stands = here.is.stands;
-        serves = subst (λ (n : ℕ). Serves g o n s.instr) (sym is.place) serves;
+      instr = also.guarded.instr;
+      words = also.guarded.words;
+      stands = subst (λ (n : ℕ). Stands o.code n also.guarded.instr also.guarded.words) base also.guarded.stands;
+      is = record {
+        words = worded;
+        known = h.known;
+        serves = subst (λ (n : ℕ). Serves g o at n also.guarded.instr) base (subst (λ (n : ℕ). Serves g o n h.base also.guarded.instr) from also.guarded.serves);
       };
-      first = refl;
+      inside = omega (arith, h.ends);
     }
 
-pub not_fit : (o : Object) (at : ℕ) (g : GuardKind) → (FitAll o at (guard_words g) → ⊥) → NoGuardFrom o at g
+pub past_code : (o : Object) (at len : ℕ) (k : GuardKind) → OnlyKind o at k → len ≡ length (guard_words k) → length o.code ≤ at + len → (g : GuardKind) → NoGuardFrom o at g
 unfolding NoGuardFrom
-not_fit o at g never guarded h e = never (subst (λ (n : ℕ). FitAll o n (guard_words g)) e h.fit)
+past_code o at len k only same past g guarded h e = omega (arith, (first_of o at len guarded k g only same h e).inside)
 
--- where a guard that begins at a place guards
-guarded_at : (o : Object) (at len guarded : ℕ) (g : GuardKind) (h : Guarded o guarded g) → h.first ≡ at → len ≡ length (guard_words g) → guarded ≡ at + len
-guarded_at o at len guarded g h e same = omega (arith, h.ends)
-
-pub past_code : (o : Object) (at len : ℕ) (g : GuardKind) → len ≡ length (guard_words g) → length o.code ≤ at + len → NoGuardFrom o at g
+pub none_there : (o : Object) (at len : ℕ) (k : GuardKind) → OnlyKind o at k → len ≡ length (guard_words k) → NoneStands o.code (at + len) → (g : GuardKind) → NoGuardFrom o at g
 unfolding NoGuardFrom
-past_code o at len g same past guarded h e = omega (arith, h.ends, h.start.below)
+none_there o at len k only same none g guarded h e = let x = first_of o at len guarded k g only same h e in none x.instr x.words x.stands
 
-pub none_there : (o : Object) (at len : ℕ) (g : GuardKind) → len ≡ length (guard_words g) → NoneStands o.code (at + len) → NoGuardFrom o at g
+pub not_served : (o : Object) (at len : ℕ) (k : GuardKind) (s : Spot) → OnlyKind o at k → len ≡ length (guard_words k) → IsSpot o.code (at + len) s
+    → ((g : GuardKind) → IsServing k o at (at + len) s.instr g → ⊥) → (g : GuardKind) → NoGuardFrom o at g
 unfolding NoGuardFrom
-none_there o at len g same none guarded h e =
-    none h.instr h.words (subst (λ (n : ℕ). Stands o.code n h.instr h.words) (guarded_at o at len guarded g h e same) h.stands)
-
-pub not_served : (o : Object) (at len : ℕ) (g : GuardKind) (s : Spot) → len ≡ length (guard_words g) → IsSpot o.code (at + len) s → (Serves g o (at + len) s.instr → ⊥) → NoGuardFrom o at g
-unfolding NoGuardFrom
-not_served o at len g s same is never guarded h e =
-    let there : guarded ≡ at + len = guarded_at o at len guarded g h e same in
-    let one : h.instr ≡ s.instr = same_instr h.instr s.instr (drop (at + len) o.code) h.words s.words (subst (λ (n : ℕ). Stands o.code n h.instr h.words) there h.stands) is.stands in
-    never (subst (λ (i : Instr). Serves g o (at + len) i) one (subst (λ (n : ℕ). Serves g o n h.instr) there h.serves))
-
--- ---- a place that is clear
-
-clear_of : (o : Object) (at : ℕ) → NoGuardAcross o at → (guarded : ℕ) (g : GuardKind) (h : Guarded o guarded g) → h.first < at → guarded < at
-unfolding NoGuardAcross
-clear_of o at clear = clear
-
-not_covered : (o : Object) (at : ℕ) → NoGuardAcross o at → Covered o at → ⊥
-unfolding Covered Covers CoversBy
-not_covered o at clear (guarded, most, (g, (h, before))) = omega (arith, clear_of o at clear guarded g h before)
-
-unit_here : (o : Object) (at : ℕ) → Start o.code at → NoGuardAcross o at → UnitStart o at
-unit_here o at start clear = (start, λ interior. not_covered o at clear interior.1)
+not_served o at len k s only same is never g guarded h e =
+    let x = first_of o at len guarded k g only same h e in
+    let one : x.instr ≡ s.instr = same_instr x.instr s.instr (drop (at + len) o.code) x.words s.words x.stands is.stands in
+    never g (subst (λ (i : Instr). IsServing k o at (at + len) i g) one x.is)
 
 -- ---- an instruction where no guard begins
 
@@ -110,8 +115,8 @@ module _ (o : Object) (at : ℕ) (s : Spot) (start : Start o.code at) (clear : N
       ]
 
   not_own : Own o at → ⊥
-  unfolding Covered Covers CoversBy
-  not_own (guarded, most, (g, (h, before))) = omega (arith, before_here guarded g h (omega (arith, before, is.least)))
+  unfolding Own OwnBy
+  not_own (guarded, (g, (h, (low, high)))) = omega (arith, before_here guarded g h (omega (arith, low, is.least)), high, base_before o guarded g h)
 
   clear_behind : NoGuardAcross o (at + s.words)
   unfolding NoGuardAcross
@@ -119,132 +124,31 @@ module _ (o : Object) (at : ℕ) (s : Spot) (start : Start o.code at) (clear : N
 
   unguarded : IsGuardOf o at None
   unfolding IsGuardOf
-  unguarded g = ((λ h. absurd (omega (arith, before_here at g h (omega (arith, h.ends, is.least))))), (λ e. cc))
+  unguarded g = ((λ h. absurd (omega (arith, before_here at g h (omega (arith, first_before o at g h, is.least))))), (λ e. cc))
+
+  each_here : (k : ℕ) → Start o.code k → at ≤ k → k < at + s.words → Interior o k ⊎ UnitStart o k
+  each_here k t low high =
+      elim (cases_lt at k) [
+        | inl after ↦ absurd (omega (arith, starts_apart o.code at k s.instr s.words start is.stands t after))
+        | inr same ↦ let e : at ≡ k = omega arith in inr (subst (λ (n : ℕ). UnitStart o n) e (unit_here o at start clear))
+      ]
 
   pub free_unit : IsCodeUnit o at (record { spot = s; guard = None })
   free_unit = record {
-    here = record {
-      is = start_spot o at s start is;
-      guard = subst (λ (n : ℕ). IsGuardOf o n None) (sym is.place) unguarded;
-      free = subst (λ (n : ℕ). Own o n → ⊥) (sym is.place) not_own;
+    next = record {
+      here = record {
+        is = start_spot o at s start is;
+        guard = subst (λ (n : ℕ). IsGuardOf o n None) (sym is.place) unguarded;
+        free = subst (λ (n : ℕ). Own o n → ⊥) (sym is.place) not_own;
+      };
+      order = omega (arith, is.place);
+      each = λ k t low high. each_here k t low (omega (arith, is.place));
+      quiet = λ k r low high. absurd (omega (arith, is.place));
+      own = λ k t low high. absurd (omega (arith, is.place));
     };
-    order = omega (arith, is.place);
     starts = unit_here o at start clear;
     inner = λ k t low high. absurd (omega (arith, is.place, starts_apart o.code at k s.instr s.words start is.stands t low));
-    clear = subst (λ (n : ℕ). NoGuardAcross o (n + s.words)) (sym is.place) clear_behind;
-    quiet = λ k r low high. absurd (omega (arith, is.place));
-    own = λ k t low high. absurd (omega (arith, is.place));
-  }
-
--- ---- a guard with what it guards
-
-module _ (o : Object) (at : ℕ) (g : GuardKind) (s : Spot) (start : Start o.code at) (clear : NoGuardAcross o at) (from : GuardsFrom o at g s) where
-  len : ℕ
-  len = length (guard_words g)
-
-  fit : FitAll o at (guard_words g)
-  fit = subst (λ (n : ℕ). FitAll o n (guard_words g)) from.first from.guarded.fit
-
-  there : at + length (guard_words g) ≡ s.at
-  there = omega (arith, from.first, from.guarded.ends)
-
-  inside : at + length (guard_words g) < length o.code
-  inside = omega (arith, there, from.here.start.below)
-
-  one : (guarded : ℕ) (k : GuardKind) (h : Guarded o guarded k) → at ≤ h.first → h.first ≤ s.at → IsOneGuard o s.at guarded g k from.guarded h
-  one guarded k h low high = guards_apart o s.at guarded h.first g k from.guarded h (omega (arith, from.first)) high (omega arith) (omega (arith, h.ends))
-
-  -- a guard that begins before the unit's end guards something before it, or is this
-  before_end : (guarded : ℕ) (k : GuardKind) (h : Guarded o guarded k) → h.first < s.at + s.words → (guarded < at) ⊎ IsOneGuard o s.at guarded g k from.guarded h
-  before_end guarded k h less =
-      elim (cases_lt h.first at) [
-        | inl before ↦ inl (clear_of o at clear guarded k h before)
-        | inr low ↦ elim (cases_lt s.at h.first) [
-          | inl after ↦ absurd (omega (arith, starts_apart o.code s.at h.first s.instr s.words from.here.start from.here.is.stands h.begins after))
-          | inr high ↦ inr (one guarded k h low high)
-        ]
-      ]
-
-  clear_on : NoGuardAcross o (s.at + s.words)
-  unfolding NoGuardAcross
-  clear_on guarded k h less =
-      elim (before_end guarded k h less) [
-        | inl before ↦ omega (arith, there)
-        | inr same ↦ omega (arith, same.guarded, from.here.is.least)
-      ]
-
-  interior_in : (k : ℕ) → Start o.code k → at < k → k ≤ s.at → Interior o k
-  unfolding Covered Covers CoversBy
-  interior_in k t low high = (t, (s.at, high, (g, (from.guarded, omega (arith, from.first)))))
-
-  inner_in : (k : ℕ) → Start o.code k → at < k → k < s.at + s.words → Interior o k
-  inner_in k t low high =
-      elim (cases_lt s.at k) [
-        | inl after ↦ absurd (omega (arith, starts_apart o.code s.at k s.instr s.words from.here.start from.here.is.stands t after))
-        | inr before ↦ interior_in k t low before
-      ]
-
-  own_in : (k : ℕ) → Start o.code k → at ≤ k → k < s.at → Own o k
-  unfolding Covered Covers CoversBy
-  own_in k t low high = (s.at, omega arith, (g, (from.guarded, omega (arith, from.first))))
-
-  not_own_there : Own o s.at → ⊥
-  unfolding Covered Covers CoversBy
-  not_own_there (guarded, most, (k, (h, before))) =
-      elim (before_end guarded k h (omega (arith, before, from.here.is.least))) [
-        | inl less ↦ omega (arith, there)
-        | inr same ↦ omega (arith, same.guarded)
-      ]
-
-  guard_there : IsGuardOf o s.at (Some g)
-  unfolding IsGuardOf
-  guard_there k = (go, back)
-    where
-      go : Guarded o s.at k → Some g ≡ Some k
-      go h = elim (before_end s.at k h (omega (arith, h.ends, from.here.is.least))) [
-        | inl less ↦ absurd (omega (arith, there))
-        | inr same ↦ ap (λ (x : GuardKind). Some x) same.kind
-      ]
-
-      back : Some g ≡ Some k → Guarded o s.at k
-      back e = let f : g ≡ k = cc in subst (λ (x : GuardKind). Guarded o s.at x) f from.guarded
-
-  line_there : (k : ℕ) → Start o.code k → at ≤ k → k < s.at → OnLine o k
-  line_there k t low high = on_guard_line o at g fit start inside k t low (omega (arith, there))
-
-  no_reti : (k : ℕ) → at ≤ k → k < s.at → Refuses rule.Reti o k → ⊥
-  no_reti k low high x =
-      let on = line_there k x.start low high in
-      on.line.not_reti (subst (λ (i : Instr). IsReti i) (same_instr x.instr on.line.instr (drop k o.code) x.words on.words x.stands on.line.stands) x.breaks)
-
-  no_end : (k : ℕ) → k < s.at → Refuses rule.End o k → ⊥
-  no_end k high x = omega (arith, x.breaks.0, starts_apart o.code k s.at x.instr x.words x.start x.stands from.here.start high, from.here.start.below)
-
-  quiet_in : (k : ℕ) (r : Rule) → at ≤ k → k < s.at → IsLocal r → Refuses r o k → ⊥
-  quiet_in k rule.Spelled low high local x = local
-  quiet_in k rule.Reti low high local x = no_reti k low high x
-  quiet_in k rule.Pc low high local x = x.0 (own_in k x.1.start low high)
-  quiet_in k rule.Sp low high local x = x.0 (own_in k x.1.start low high)
-  quiet_in k rule.Sr low high local x = x.0 (own_in k x.1.start low high)
-  quiet_in k rule.Store low high local x = x.0 (own_in k x.1.start low high)
-  quiet_in k rule.Static low high local x = x.0 (own_in k x.1.start low high)
-  quiet_in k rule.Pop low high local x = x.0 (own_in k x.1.start low high)
-  quiet_in k rule.Push low high local x = x.0 (own_in k x.1.start low high)
-  quiet_in k rule.Target low high local x = local
-  quiet_in k rule.Jump low high local x = local
-  quiet_in k rule.End low high local x = no_end k high x
-  quiet_in k rule.Reloc low high local x = right_relocs o at g fit start inside k low (omega (arith, there)) x
-  quiet_in k rule.Entry low high local x = local
-
-  pub guard_unit : IsCodeUnit o at (record { spot = s; guard = Some g })
-  guard_unit = record {
-    here = record { is = from.here; guard = guard_there; free = not_own_there };
-    order = omega (arith, there);
-    starts = unit_here o at start clear;
-    inner = inner_in;
-    clear = clear_on;
-    quiet = quiet_in;
-    own = own_in;
+    behind = subst (λ (n : ℕ). NoGuardAcross o (n + s.words)) (sym is.place) clear_behind;
   }
 
 -- ---- a guard that is begun
@@ -280,23 +184,17 @@ before_slots [] n s is = cc
 before_slots (x ∷ ss) zero s is = omega arith
 before_slots (x ∷ ss) (suc n) s is = omega (arith, before_slots ss n s is)
 
--- where no guard of the one kind begins, none does
-pub none_begins_at : (o : Object) (at : ℕ) (k : GuardKind) → OnlyKind o at k → NoGuardFrom o at k → (g : GuardKind) → NoGuardFrom o at g
-unfolding OnlyKind NoGuardFrom
-none_begins_at o at k only none g guarded h e =
-    let same : g ≡ k = only guarded g h e in
-    let P : GuardKind → Type 0 = λ x. (j : Guarded o guarded x) → j.first ≡ at → ⊥ in
-    subst P (sym same) (none guarded) h e
-
 pub no_save : (o : Object) (at w : ℕ) → w ≡ slice_index o.code at → w ≢ 0x4205 → (g : GuardKind) → NoGuardFrom o at g
 unfolding NoGuardFrom
 no_save o at w is other g guarded h e = other (is ∙ (ap (slice_index o.code) (sym e) ∙ guard_begins o h.first g h.fit))
 
-pub only_kind : (o : Object) (at w : ℕ) (k : GuardKind) → w ≡ slice_index o.code (at + 1) → ((g : GuardKind) → SecondIs g w → g ≡ k) → OnlyKind o at k
+pub only_kind : (o : Object) (at w v : ℕ) (k : GuardKind) → w ≡ slice_index o.code (at + 1) → v ≡ slice_index o.code (at + 8)
+    → ((g : GuardKind) → SecondIs g w → HighIs g v → wording g ≡ k) → OnlyKind o at k
 unfolding OnlyKind
-only_kind o at w k is by guarded g h e =
+only_kind o at w v k is high by guarded g h e =
     let f : SecondIs g (slice_index o.code (at + 1)) = subst (λ (n : ℕ). SecondIs g (slice_index o.code (n + 1))) e (second_is o h.first g h.fit) in
-    by g (subst (λ (v : ℕ). SecondIs g v) (sym is) f)
+    let j : HighIs g (slice_index o.code (at + 8)) = subst (λ (n : ℕ). HighIs g (slice_index o.code (n + 8))) e (high_is o h.first g h.fit) in
+    by g (subst (λ (x : ℕ). SecondIs g x) (sym is) f) (subst (λ (x : ℕ). HighIs g x) (sym high) j)
 
 -- how a begun guard goes on, or breaks off
 
@@ -306,18 +204,25 @@ one_more_word o at b s is slot fits = record {
   most = omega (arith, before_slots (guard_words b.kind) b.words s slot);
   fit = subst (λ (n : ℕ). FitAll o at (take n (guard_words b.kind))) (sym (add-one b.words)) (fit_more o at (guard_words b.kind) b.words s is.fit slot fits);
   only = is.only;
+  wording = is.wording;
 }
 
 pub breaks_off : (o : Object) (at : ℕ) (b : BegunGuard) (s : Slot) → IsBegun o at b → slice_get (guard_words b.kind) b.words ≡ Some s → (Fits o (at + b.words) s → ⊥) → (g : GuardKind) → NoGuardFrom o at g
-breaks_off o at b s is slot never = none_begins_at o at b.kind is.only (not_fit o at b.kind (λ fit. never (fit_slot o at (guard_words b.kind) b.words s fit slot)))
+breaks_off o at b s is slot never = not_fit o at b.kind is.only (λ fit. never (fit_slot o at (guard_words b.kind) b.words s fit slot))
 
 pub whole_fit : (o : Object) (at : ℕ) (b : BegunGuard) → IsBegun o at b → b.words ≡ length (guard_words b.kind) → FitAll o at (guard_words b.kind)
 whole_fit o at b is e = fit_whole o at (guard_words b.kind) b.words (omega arith) is.fit
 
-pub guard_taken : (o : Object) (at : ℕ) (b : BegunGuard) (s : Spot) → Start o.code at → NoGuardAcross o at → IsBegun o at b → b.words ≡ length (guard_words b.kind)
-    → at + b.words < length o.code → IsSpot o.code (at + b.words) s → Serves b.kind o (at + b.words) s.instr → IsCodeUnit o at (record { spot = s; guard = Some b.kind })
-guard_taken o at b s start clear is whole inside spot serves =
-    guard_unit o at b.kind s start clear (guards_from o at b.words b.kind s start whole (whole_fit o at b is whole) inside spot serves)
+pub guard_taken : (o : Object) (at : ℕ) (b : BegunGuard) (g : GuardKind) (s : Spot) → Start o.code at → NoGuardAcross o at → IsBegun o at b → b.words ≡ length (guard_words b.kind)
+    → at + b.words < length o.code → IsSpot o.code (at + b.words) s → IsServing b.kind o at (at + b.words) s.instr g → IsCodeUnit o at (record { spot = s; guard = Some g })
+guard_taken o at b g s start clear is whole inside spot serving =
+    let same : guard_words g ≡ guard_words b.kind = words_are g b.kind serving.words in
+    let size : length (guard_words g) ≡ length (guard_words b.kind) = ap (λ (ss : List Slot). length ss) same in
+    let fit : FitAll o at (guard_words g) = subst (λ (ss : List Slot). FitAll o at ss) (sym same) (whole_fit o at b is whole) in
+    let begins : Start o.code (at + length (guard_words g)) = guard_reaches o at g fit start (omega arith) in
+    let there : at + length (guard_words g) ≡ at + b.words = omega arith in
+    let here : IsStartSpot o.code s = start_spot o (at + b.words) s (subst (λ (n : ℕ). Start o.code n) there begins) spot in
+    guard_unit o at g s start clear fit serving.known (spot.place ∙ sym there) here (subst (λ (n : ℕ). Serves g o at n s.instr) (sym spot.place) serving.serves)
 
-pub first_word : (o : Object) (at : ℕ) (k : GuardKind) → OnlyKind o at k → IsBegun o at (record { kind = k; words = 0 })
-first_word o at k only = record { most = omega arith; fit = tt; only = only }
+pub first_word : (o : Object) (at : ℕ) (k : GuardKind) → OnlyKind o at k → wording k ≡ k → IsBegun o at (record { kind = k; words = 0 })
+first_word o at k only worded = record { most = omega arith; fit = tt; only = only; wording = worded }

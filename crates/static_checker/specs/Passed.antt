@@ -17,16 +17,24 @@ pub record IsReached (code : List ℕ) (at : ℕ) : Type 0 where
   pub reached : Reached code count at
   pub within : at ≤ length code
 
--- the pass has come to its place, behind which no guard's words go on
-pub record IsPassed (o : Object) (p : Pass) : Type 0 where
+-- what the pass has found is so of the places before its own
+pub record IsGone (o : Object) (p : Pass) : Type 0 where
   pub cursor : IsCursor o.relocs p.cursor
   pub reached : IsReached o.code p.cursor.at
-  pub clear : NoGuardAcross o p.cursor.at
-  pub begun : BegunAt o p.cursor.at p.begun
-  pub units : (k : ℕ) → Has p.units k ↔ (UnitStart o k × (k < p.cursor.at))
   pub transfers : (k : ℕ) → Has p.transfers k ↔ (TransferAt o k × (k < p.cursor.at))
   pub each : (k : ℕ) → Start o.code k → k < p.cursor.at → Interior o k ⊎ UnitStart o k
   pub first : FirstIn o IsLocal 0 p.cursor.at p.first
+
+-- the marks are the unit starts before a place
+unfoldable pub UnitsBelow : Object → (marks : List ℕ) → ℕ → Type 0
+UnitsBelow o marks at = (k : ℕ) → Has marks k ↔ (UnitStart o k × (k < at))
+
+-- the pass has come to its place, behind which no guard's words go on
+pub record IsPassed (o : Object) (p : Pass) : Type 0 where
+  pub gone : IsGone o p
+  pub units : UnitsBelow o p.units p.cursor.at
+  pub clear : NoGuardAcross o p.cursor.at
+  pub begun : BegunAt o p.cursor.at p.begun
 
 -- the pass has come to the code's end
 pub record IsWhole (o : Object) (p : Pass) : Type 0 where

@@ -1,8 +1,9 @@
 //! The units that the pass goes by, and the guard that is begun where it stands.
 //!
-//! A unit is an instruction that no guard guards, or a guard's words with the instruction that it guards. The pass stands at
+//! A unit is an instruction that no guard guards, or a guard's words with the instructions that it guards. The pass stands at
 //! the first word of the next unit and stays there while a guard is begun. So a guard that breaks off leaves nothing to undo:
-//! its first instruction is taken as one like others, and the pass goes on behind that.
+//! its first instruction is taken as one like others, and the pass goes on behind that. Here a guard is found with the first
+//! instruction that it guards; the pass goes on over the others.
 
 ghost use Rattle.std.specs.Prelude.{◌≡◌, ◌+◌, ◌<◌, ◌≤◌, length, Option};
 ghost use Rattle.code_model.specs.declared.guards.GuardKind.{GuardKind};
@@ -14,13 +15,14 @@ ghost use Rattle.static_checker.specs.declared.code_units.BegunGuard.{BegunGuard
 ghost use Rattle.static_checker.specs.Advances.{IsBegun, BegunAt, IsAdvance};
 
 use crate::cursor::Cursor;
-use crate::guards::{kind_at, serves};
+use crate::guards::{kind_at, serving};
 use crate::slots::{FIRST_WORD, fits, slot};
 use crate::spot::{Spot, spot_at, word_at};
 use code_model::guards::GuardKind;
 use code_model::object::Object;
 
-/// A guard that is begun, and how many of its words stand there so far.
+/// A guard that is begun, and how many of its words stand there so far. A load guard has a store guard's words, and is begun as
+/// one.
 #[derive(Clone, Copy, Drop)]
 pub struct BegunGuard {
     pub kind: GuardKind,
@@ -114,16 +116,13 @@ fn guarded_unit(o: &Object, cursor: Cursor, begun: BegunGuard) -> Advance
         return unguarded_unit(o, first);
     }
     match spot_at(&o.code, at) {
-        Some(spot) => {
-            if serves(begun.kind, o, cursor, at, spot.instr) {
-                Advance::Whole(CodeUnit {
-                    spot,
-                    guard: Some(begun.kind),
-                })
-            } else {
-                unguarded_unit(o, first)
-            }
-        }
+        Some(spot) => match serving(begun.kind, o, cursor, at, spot.instr) {
+            Some(kind) => Advance::Whole(CodeUnit {
+                spot,
+                guard: Some(kind),
+            }),
+            None => unguarded_unit(o, first),
+        },
         None => unguarded_unit(o, first),
     }
 }

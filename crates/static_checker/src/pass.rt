@@ -9,16 +9,18 @@ ghost use Rattle.code_model.specs.Starts.{Bad};
 ghost use Rattle.static_checker.specs.Cursors.{IsCursor};
 ghost use Rattle.static_checker.specs.Firsts.{IsLocal, FirstIn};
 ghost use Rattle.static_checker.specs.Marked.{Adds};
-ghost use Rattle.static_checker.specs.CodeUnits.{IsUnitSpot, IsCodeUnit, IsTransfer};
-ghost use Rattle.static_checker.specs.Passed.{IsPassed, IsWhole};
+ghost use Rattle.static_checker.specs.CodeUnits.{IsUnitSpot, IsNextInstr, HasServed, IsCodeUnit, IsTransfer};
+ghost use Rattle.static_checker.specs.Passed.{IsGone, UnitsBelow, IsPassed, IsWhole};
 
 use crate::code_units::{Advance, BegunGuard, CodeUnit, advance_from};
 use crate::cursor::{Cursor, at_start, go_to};
 use crate::forms::is_call;
+use crate::guards::{most_served, served_at};
 use crate::local::first_refusal;
 use crate::marking::mark;
 use crate::refusal::Refusal;
 use crate::registers::is_branch;
+use code_model::guards::GuardKind;
 use code_model::marks::Marks;
 use code_model::object::Object;
 use msp_encode::instr::Instr;
@@ -62,7 +64,7 @@ pub fn pass_over(o: &Object) -> Result<Pass, usize>
     Ok(pass)
 }
 
-/// Goes over one unit: its first place is a unit start, and its instruction meets the rules or not.
+/// Goes over one unit: its first place is a unit start, and its instructions meet the rules or not.
 fn pass_unit(o: &Object, pass: &mut Pass, unit: &CodeUnit)
     requires passed { IsPassed o.now pass.old }
     requires unit { IsCodeUnit o.now pass.old.cursor.at unit.now }
@@ -70,10 +72,53 @@ fn pass_unit(o: &Object, pass: &mut Pass, unit: &CodeUnit)
     ensures further { pass.old.cursor.at < pass.new.cursor.at }
     ensures free { pass.new.begun ≡ None }
 {
-    let here = go_to(o, pass.cursor, unit.spot.at);
-    mark(&mut pass.units, pass.cursor.at);
-    mark_transfer(&mut pass.transfers, unit.spot.at, unit.spot.instr);
+    let from = pass.cursor;
+    mark(&mut pass.units, from.at);
     pass.begun = None;
+    pass_instr(o, pass, unit);
+    match unit.guard {
+        Some(kind) => pass_run(o, pass, from, kind),
+        None => {}
+    }
+}
+
+/// Goes over what else a guard at a cursor serves, behind the first instruction.
+fn pass_run(o: &Object, pass: &mut Pass, from: Cursor, kind: GuardKind)
+    requires cursor { IsCursor o.now.relocs from }
+    requires gone { IsGone o.now pass.old }
+    requires units { UnitsBelow o.now pass.old.units pass.old.cursor.at }
+    requires served { HasServed o.now kind from.at 1 pass.old.cursor.at }
+    requires free { pass.old.begun ≡ None }
+    ensures passed { IsPassed o.now pass.new }
+    ensures further { pass.old.cursor.at ≤ pass.new.cursor.at }
+    ensures free { pass.new.begun ≡ None }
+{
+    for _count in 1..most_served(kind) {
+        match served_at(o, from, kind, pass.cursor.at) {
+            Some(spot) => pass_instr(
+                o,
+                pass,
+                &CodeUnit {
+                    spot,
+                    guard: Some(kind),
+                },
+            ),
+            None => return,
+        }
+    }
+}
+
+/// Goes over one instruction, behind its guard's own words if these stand before it.
+fn pass_instr(o: &Object, pass: &mut Pass, unit: &CodeUnit)
+    requires gone { IsGone o.now pass.old }
+    requires next { IsNextInstr o.now pass.old.cursor.at unit.now }
+    ensures gone { IsGone o.now pass.new }
+    ensures at { pass.new.cursor.at ≡ unit.now.spot.at + unit.now.spot.words }
+    ensures units { pass.new.units ≡ pass.old.units }
+    ensures begun { pass.new.begun ≡ pass.old.begun }
+{
+    let here = go_to(o, pass.cursor, unit.spot.at);
+    mark_transfer(&mut pass.transfers, unit.spot.at, unit.spot.instr);
     pass.first = first_through(o, here, pass.first, unit);
     pass.cursor = go_to(o, here, unit.spot.at + unit.spot.words);
 }

@@ -14,7 +14,7 @@ use code_model::object::Object;
 use msp_encode::instr::{Instr, Src};
 
 /// Tells whether a guard is of this kind.
-pub(crate) fn is_by(guard: Option<GuardKind>, by: GuardKind) -> bool
+fn is_by(guard: Option<GuardKind>, by: GuardKind) -> bool
     ensures { IsTrue result ↔ (guard ≡ Some by) }
 {
     match guard {

@@ -6,7 +6,7 @@ ghost use Rattle.static_checker.specs.Cursors.{IsCursor};
 
 use crate::cursor::{Cursor, has_reloc, unrelocated};
 use crate::spot::word_at;
-use code_model::guards::{GuardKind, Slot};
+use code_model::guards::{GuardKind, Reach, Slot};
 use code_model::object::Object;
 use code_model::parts::RelKind;
 
@@ -21,21 +21,35 @@ const RESTORES: Slot = Slot::Word(0x4502);
 /// `MOV #imm,PC`.
 const BRANCHES: Slot = Slot::Word(0x4030);
 
-static STORE: [Slot; 13] = [
-    SAVES,
-    Slot::Load,
-    Slot::Word(0x5034),
-    Slot::Free,
-    Slot::Word(0x9034),
-    Slot::Low,
-    Slot::Word(0x2803),
-    Slot::Word(0x9034),
-    Slot::High,
-    Slot::Word(0x2802),
-    BRANCHES,
-    Slot::Word(0xF000),
-    RESTORES,
-];
+/// The words of a guard that keeps an address in the region, by the word that the region's end is added to.
+macro_rules! region_slots {
+    ($high:expr) => {
+        [
+            SAVES,
+            Slot::Load,
+            Slot::Word(0x5034),
+            Slot::Free,
+            Slot::Word(0x9034),
+            Slot::Low,
+            Slot::Word(0x2803),
+            Slot::Word(0x9034),
+            Slot::High($high),
+            Slot::Word(0x2802),
+            BRANCHES,
+            Slot::Word(0xF000),
+            RESTORES,
+        ]
+    };
+}
+
+/// The words of a guard of a store, and of one of a load.
+static REGION: [Slot; 13] = region_slots!(0);
+
+static WIDE_TWO: [Slot; 13] = region_slots!(0xFFFE);
+
+static WIDE_FOUR: [Slot; 13] = region_slots!(0xFFFC);
+
+static WIDE_SIX: [Slot; 13] = region_slots!(0xFFFA);
 
 static GROWTH: [Slot; 7] = [
     SAVES,
@@ -75,7 +89,10 @@ fn slots(kind: GuardKind) -> &'static [Slot]
     ensures { result.now ≡ guard_words kind }
 {
     match kind {
-        GuardKind::Store => &STORE,
+        GuardKind::Store | GuardKind::Load => &REGION,
+        GuardKind::Wide(Reach::Two) => &WIDE_TWO,
+        GuardKind::Wide(Reach::Four) => &WIDE_FOUR,
+        GuardKind::Wide(Reach::Six) => &WIDE_SIX,
         GuardKind::Growth => &GROWTH,
         GuardKind::Pop => &POP,
         GuardKind::Sp => &SP,
@@ -111,7 +128,7 @@ fn takes(o: &Object, cursor: Cursor, at: usize, word: u16, slot: Slot) -> bool
         Slot::Load => is_load(word) && unrelocated(o, cursor, at),
         Slot::Free => true,
         Slot::Low => word == 0 && has_reloc(o, cursor, at, RelKind::Lo),
-        Slot::High => word == 0 && has_reloc(o, cursor, at, RelKind::Hi),
+        Slot::High(value) => word == value && has_reloc(o, cursor, at, RelKind::Hi),
     }
 }
 

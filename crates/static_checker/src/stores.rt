@@ -1,14 +1,13 @@
 //! The rules on written memory.
 
 ghost use Rattle.std.specs.Prelude.{◌≡◌, ◌<◌, ◌≤◌, ◌↔◌, IsTrue};
-ghost use Rattle.code_model.specs.declared.guards.GuardKind.TheVariants as kind;
-ghost use Rattle.code_model.specs.Rules.{IsMemoryDst, IsMemorySrc, WritesMemory, IsWildDst, IsWildSrc, WritesWild};
+ghost use Rattle.code_model.specs.Rules.{KeepsStores, IsMemoryDst, IsMemorySrc, WritesMemory, IsWildDst, IsWildSrc, WritesWild};
 ghost use Rattle.code_model.specs.Statics.{InStatic};
 ghost use Rattle.static_checker.specs.Cursors.{IsCursor};
+ghost use Rattle.static_checker.specs.CodeUnits.{IsStoreGuard};
 
 use crate::cursor::{Cursor, has_reloc};
 use crate::forms::{changes, src_size, writes};
-use crate::registers::is_by;
 use code_model::guards::GuardKind;
 use code_model::object::Object;
 use code_model::parts::RelKind;
@@ -16,9 +15,26 @@ use msp_encode::instr::{Dst, Instr, Src};
 
 /// Tells whether memory is written through an indexed, symbolic or indirect operand without a guard.
 pub fn breaks_store(i: Instr, guard: Option<GuardKind>) -> bool
-    ensures { IsTrue result ↔ (WritesMemory i × (guard ≡ Some kind.Store → ⊥)) }
+    ensures { IsTrue result ↔ (WritesMemory i × (IsStoreGuard guard → ⊥)) }
 {
-    writes_memory(i) && !is_by(guard, GuardKind::Store)
+    writes_memory(i) && !is_store_guard(guard)
+}
+
+/// Tells whether there is a guard, and it keeps stores in the region.
+fn is_store_guard(guard: Option<GuardKind>) -> bool
+    ensures { IsTrue result ↔ IsStoreGuard guard }
+{
+    match guard {
+        Some(kind) => keeps_stores(kind),
+        None => false,
+    }
+}
+
+/// Tells whether a guard keeps stores in the region.
+fn keeps_stores(kind: GuardKind) -> bool
+    ensures { IsTrue result ↔ KeepsStores kind }
+{
+    matches!(kind, GuardKind::Store | GuardKind::Wide(_))
 }
 
 /// Tells whether an instruction at a place writes an absolute operand that isn't in the static part.
@@ -89,7 +105,7 @@ fn is_wild_src(o: &Object, cursor: Cursor, at: usize, src: Src) -> bool
 }
 
 /// Tells whether the word at a place is the address of a byte of the static part.
-fn in_static(o: &Object, cursor: Cursor, at: usize, word: u16) -> bool
+pub(crate) fn in_static(o: &Object, cursor: Cursor, at: usize, word: u16) -> bool
     requires cursor { IsCursor o.now.relocs cursor }
     requires order { cursor.at ≤ at }
     requires within { at < 32768 }

@@ -1,7 +1,7 @@
 use Rattle.code_model.specs.declared.guards.GuardKind.TheVariants as guard
 use Rattle.code_model.specs.declared.rules.Rule.TheVariants as rule
 use Rattle.code_model.specs.Rules.{WritesReg, WritesMemory, ReadsStack, IsPushOrCall}
-use Rattle.static_checker.proofs.LocalLemmas.{by_guard, as_rule}
+use Rattle.static_checker.proofs.LocalLemmas.{by_guard, by_store_guard, as_rule}
 use Rattle.static_checker.proofs.local.breaks.Goals as goal
 
 pub returns-in-Sp : goal.returns-in-Sp
@@ -12,7 +12,7 @@ returns-in-Sp c =
 pub returns-in-Store : goal.returns-in-Store
 returns-in-Store c =
     as_rule c.args.rule rule.Store c.args.o.now _ _ c.args.unit.now.spot.instr _ c.in-Store.is
-    (by_guard c.args.o.now c.args.unit.now.spot.at c.args.unit.now.guard guard.Store (WritesMemory c.args.unit.now.spot.instr) _ c.requires.here.guard c.breaks_store.ensures)
+    (by_store_guard c.args.o.now c.args.unit.now.spot.at c.args.unit.now.guard (WritesMemory c.args.unit.now.spot.instr) _ c.requires.here.guard c.breaks_store.ensures)
 
 pub returns-in-Pop : goal.returns-in-Pop
 returns-in-Pop c =
