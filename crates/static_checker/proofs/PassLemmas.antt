@@ -6,7 +6,7 @@ use Rattle.msp_encode.specs.declared.instr.Instr.{Instr}
 use Rattle.code_model.specs.declared.object.Object.{Object}
 use Rattle.kernel_model.specs.Bitmap.{Has}
 use Rattle.code_model.specs.Starts.{Stands, NoneStands, Reached, Start, IsSpelled, Bad}
-use Rattle.code_model.specs.Guards.{guard_words, Interior, UnitStart}
+use Rattle.code_model.specs.Guards.{guard_words, most_served, Serves, Interior, UnitStart}
 use Rattle.code_laws.proofs.Starting.{one_place, further, starts_apart}
 use Rattle.static_checker.specs.declared.cursor.Cursor.{Cursor}
 use Rattle.static_checker.specs.declared.refusal.Refusal.{Refusal}
@@ -17,7 +17,7 @@ use Rattle.static_checker.specs.declared.pass.Pass.{Pass}
 use Rattle.static_checker.specs.Cursors.{IsCursor}
 use Rattle.static_checker.specs.Firsts.{IsLocal, FirstIn}
 use Rattle.static_checker.specs.Marked.{Adds}
-use Rattle.static_checker.specs.CodeUnits.{NoGuardAcross, IsNextInstr, IsCodeUnit, IsTransfer, TransferAt}
+use Rattle.static_checker.specs.CodeUnits.{NoGuardAcross, HasServed, IsBehind, IsServedSpot, IsNextInstr, IsCodeUnit, IsTransfer, TransferAt}
 use Rattle.code_model.specs.declared.guards.GuardKind.{GuardKind}
 use Rattle.code_model.specs.declared.guards.GuardKind.TheVariants as guard
 use Rattle.static_checker.specs.declared.code_units.BegunGuard.{BegunGuard}
@@ -25,6 +25,8 @@ use Rattle.static_checker.specs.Advances.{IsBegun, BegunAt, seen}
 use Rattle.static_checker.specs.Passed.{IsReached, IsGone, UnitsBelow, IsPassed, IsWhole, left}
 use Rattle.static_checker.proofs.Guarding.{instr_of}
 use Rattle.static_checker.proofs.FirstLemmas.{none_at_first, first_over}
+use Rattle.static_checker.proofs.RunLemmas.{interior_next, instr_next, served_next}
+use Rattle.static_checker.proofs.UnitLemmas.{start_spot}
 
 -- ---- the first place
 
@@ -113,7 +115,7 @@ module _ (o : Object) (old : Pass) (p : CodeUnit) (c : Cursor) (transfers : List
 
 -- ---- the unit starts
 
-pub units_first : (o : Object) (at : ℕ) (p : CodeUnit) (old units : List ℕ) → IsCodeUnit o at p → UnitsBelow o old at → Has units at → ((k : ℕ) → k ≢ at → Has units k ↔ Has old k)
+units_first : (o : Object) (at : ℕ) (p : CodeUnit) (old units : List ℕ) → IsCodeUnit o at p → UnitsBelow o old at → Has units at → ((k : ℕ) → k ≢ at → Has units k ↔ Has old k)
     → UnitsBelow o units (p.spot.at + p.spot.words)
 unfolding UnitsBelow
 units_first o at p old units unit was marked others k = (go, back)
@@ -141,6 +143,12 @@ units_first o at p old units unit was marked others k = (go, back)
           ]
         ]
 
+pub units_here : (o : Object) (at : ℕ) (p : CodeUnit) (old marks units : List ℕ) (end : ℕ) → IsCodeUnit o at p → UnitsBelow o old at → Has marks at → ((k : ℕ) → k ≢ at → Has marks k ↔ Has old k)
+    → units ≡ marks → end ≡ p.spot.at + p.spot.words → UnitsBelow o units end
+units_here o at p old marks units end unit was marked others same e =
+    subst (λ (n : ℕ). UnitsBelow o units n) (sym e)
+    (subst (λ (m : List ℕ). UnitsBelow o m (p.spot.at + p.spot.words)) (sym same) (units_first o at p old marks unit was marked others))
+
 -- none is an instruction that a guard serves
 pub units_over : (o : Object) (at : ℕ) (s : Spot) (units : List ℕ) → IsStartSpot o.code s → s.at ≡ at → Interior o s.at → UnitsBelow o units at → UnitsBelow o units (s.at + s.words)
 unfolding UnitsBelow
@@ -159,8 +167,37 @@ units_over o at s units here place interior was k = (go, back)
           ]
         ]
 
+-- ---- an instruction that no guard serves
+
+pub clear_here : (o : Object) (at : ℕ) (p : CodeUnit) (end : ℕ) → IsCodeUnit o at p → p.guard ≡ None → end ≡ p.spot.at + p.spot.words → NoGuardAcross o end
+clear_here o at p end unit none e =
+    subst (λ (n : ℕ). NoGuardAcross o n) (sym e) (subst (λ (x : Option GuardKind). IsBehind o at x (p.spot.at + p.spot.words)) none unit.behind)
+
 pub passed_of : (o : Object) (p : Pass) → IsGone o p → UnitsBelow o p.units p.cursor.at → NoGuardAcross o p.cursor.at → p.begun ≡ None → IsPassed o p
 passed_of o p gone units clear free = record { gone = gone; units = units; clear = clear; begun = subst (λ (x : Option BegunGuard). BegunAt o p.cursor.at x) (sym free) tt }
+
+-- ---- over what a guard serves behind its first instruction
+
+module _ (o : Object) (g : GuardKind) (first count at : ℕ) (s : Spot) (reached : IsReached o.code at) (was : HasServed o g first count at) (few : count < most_served g) (served : IsServedSpot g o first at s) where
+  spot_here : IsStartSpot o.code s
+  spot_here = start_spot o at s (record { count = reached.count; reached = reached.reached; below = omega (arith, served.is.within, served.is.least) }) served.is
+
+  served_to : HasServed o g first count s.at
+  served_to = subst (λ (n : ℕ). HasServed o g first count n) (sym served.is.place) was
+
+  serves_it : Serves g o first s.at s.instr
+  serves_it = subst (λ (n : ℕ). Serves g o first n s.instr) (sym served.is.place) served.serves
+
+  pub next_in_run : IsNextInstr o at (record { spot = s; guard = Some g })
+  next_in_run = subst (λ (n : ℕ). IsNextInstr o n (record { spot = s; guard = Some g })) served.is.place (instr_next o g first count s served_to few spot_here serves_it)
+
+  pub served_in_run : (end : ℕ) → end ≡ s.at + s.words → HasServed o g first (count + 1) end
+  served_in_run end e = subst (λ (n : ℕ). HasServed o g first (count + 1) n) (sym e) (served_next o g first count s served_to few spot_here serves_it)
+
+  pub units_in_run : (old units : List ℕ) (end : ℕ) → end ≡ s.at + s.words → units ≡ old → UnitsBelow o old at → UnitsBelow o units end
+  units_in_run old units end e same below =
+      let over : UnitsBelow o old (s.at + s.words) = units_over o at s old spot_here served.is.place (interior_next o g first count s served_to few spot_here serves_it) below in
+      subst (λ (n : ℕ). UnitsBelow o units n) (sym e) (subst (λ (m : List ℕ). UnitsBelow o m (s.at + s.words)) (sym same) over)
 
 -- ---- the end
 

@@ -106,13 +106,14 @@ module _ (o : Object) (at : ℕ) (g : GuardKind) (s : Spot) (start : Start o.cod
   }
 
   before_spot : at < s.at
+  unfolding guarded_first
   before_spot = first_before o s.at g guarded_first
 
   inside : at + length (guard_words g) < length o.code
   inside = omega (arith, place, here.start.below)
 
   one_before : OneGuardAcross o g at s.at
-  unfolding OneGuardAcross
+  unfolding OneGuardAcross guarded_first
   one_before guarded k j less =
       elim (cases_lt j.first at) [
         | inl before ↦ inl (omega (arith, clear_of o at clear guarded k j before, before_spot))
@@ -122,7 +123,7 @@ module _ (o : Object) (at : ℕ) (g : GuardKind) (s : Spot) (start : Start o.cod
       ]
 
   interior_in : (k : ℕ) → Start o.code k → at < k → k ≤ s.at → Interior o k
-  unfolding Covered Covers CoversBy
+  unfolding Covered Covers CoversBy guarded_first
   interior_in k t low high = (t, (s.at, high, (g, (guarded_first, low))))
 
   inner_in : (k : ℕ) → Start o.code k → at < k → k < s.at + s.words → Interior o k
@@ -140,7 +141,7 @@ module _ (o : Object) (at : ℕ) (g : GuardKind) (s : Spot) (start : Start o.cod
       ]
 
   own_in : (k : ℕ) → Start o.code k → at ≤ k → k < s.at → Own o k
-  unfolding Own OwnBy
+  unfolding Own OwnBy guarded_first
   own_in k t low high = (s.at, (g, (guarded_first, (low, omega (arith, place)))))
 
   line_there : (k : ℕ) → Start o.code k → at ≤ k → k < s.at → OnLine o k
@@ -171,6 +172,7 @@ module _ (o : Object) (at : ℕ) (g : GuardKind) (s : Spot) (start : Start o.cod
   quiet_in k rule.Entry low high local x = local
 
   pub guard_unit : IsCodeUnit o at (record { spot = s; guard = Some g })
+  unfolding guarded_first
   guard_unit = record {
     next = record {
       here = unit_spot o g at s here guarded_first refl;
@@ -222,6 +224,7 @@ module _ (o : Object) (g : GuardKind) (first count : ℕ) (s : Spot) (was : HasS
       ]
 
   pub instr_next : IsNextInstr o s.at (record { spot = s; guard = Some g })
+  unfolding guarded_next
   instr_next = record {
     here = unit_spot o g first s here guarded_next refl;
     order = omega arith;
@@ -231,6 +234,7 @@ module _ (o : Object) (g : GuardKind) (first count : ℕ) (s : Spot) (was : HasS
   }
 
   pub served_next : HasServed o g first (count + 1) (s.at + s.words)
+  unfolding guarded_next
   served_next = record {
     begins = was.begins;
     fit = was.fit;

@@ -22,7 +22,7 @@ use Rattle.static_checker.specs.Advances.{IsBegun}
 use Rattle.static_checker.specs.CodeUnits.{wording, IsServing, NoGuardFrom, OnlyKind, IsGuardOf, NoGuardAcross, IsCodeUnit}
 use Rattle.static_checker.proofs.RunLemmas.{clear_of, unit_here, guard_unit}
 
-start_spot : (o : Object) (at : ℕ) (s : Spot) → Start o.code at → IsSpot o.code at s → IsStartSpot o.code s
+pub start_spot : (o : Object) (at : ℕ) (s : Spot) → Start o.code at → IsSpot o.code at s → IsStartSpot o.code s
 start_spot o at s start is = record {
   start = subst (λ (n : ℕ). Start o.code n) (sym is.place) start;
   is = subst (λ (n : ℕ). IsSpot o.code n s) (sym is.place) is;
