@@ -37,10 +37,13 @@ fn push_numbers(text: &mut Vec<u8>, numbers: &[u16]) -> Result<(), AllocError> {
     Ok(())
 }
 
-/// The head of a text, with two zeroed bytes.
-fn push_head(text: &mut Vec<u8>, parts: &Parts, is_module: bool) -> Result<(), AllocError> {
-    let kind = if is_module { 0x0201 } else { 0x0101 };
-    push_numbers(text, &[0x4552, 0x4F54, kind, count(parts.code.len())])?;
+/// The head of a text of a version, with two zeroed bytes.
+fn push_head(text: &mut Vec<u8>, version: u8, parts: &Parts) -> Result<(), AllocError> {
+    let is_module = !parts.exports.is_empty();
+    push_numbers(text, &[0x4552, 0x4F54])?;
+    text.push(version)?;
+    text.push(if is_module { 2 } else { 1 })?;
+    push_word(text, count(parts.code.len()))?;
     push_numbers(text, &[count(parts.init.len()), 2])?;
     if is_module {
         let exports = count(parts.exports.len());
@@ -55,9 +58,9 @@ fn count(len: usize) -> u16 {
     u16::try_from(len).unwrap_or(0)
 }
 
-fn text(alloc: Global, parts: &Parts) -> Result<Vec<u8>, AllocError> {
+fn text(alloc: Global, version: u8, parts: &Parts) -> Result<Vec<u8>, AllocError> {
     let mut text = Vec::new(alloc);
-    push_head(&mut text, parts, !parts.exports.is_empty())?;
+    push_head(&mut text, version, parts)?;
     push_numbers(&mut text, parts.code)?;
     text.extend_from_slice(parts.init)?;
     push_relocs(&mut text, parts.relocs)?;
@@ -83,9 +86,14 @@ fn push_exports(text: &mut Vec<u8>, exports: &[(u8, u16)]) -> Result<(), AllocEr
     Ok(())
 }
 
-/// The object of these parts. None where they are no object's, or there is no memory.
+/// The object of version 1 of these parts. None where they are no object's, or there is no memory.
 pub(crate) fn object(alloc: Global, parts: &Parts) -> Option<Object> {
-    match text(alloc, parts) {
+    object_of(alloc, 1, parts)
+}
+
+/// The object of a version of these parts. None where they are no object's, or there is no memory.
+pub(crate) fn object_of(alloc: Global, version: u8, parts: &Parts) -> Option<Object> {
+    match text(alloc, version, parts) {
         Ok(text) => read_object(alloc, &text).ok(),
         Err(_) => None,
     }

@@ -1,7 +1,7 @@
 //! Guards that break off: into another guard, or at the code's end.
 
 use super::Answer;
-use super::units::{KINDS, STAYS, Source, guard_len, offset, restores, said_of};
+use super::units::{STAYS, Source, VERSIONS, guard_len, kinds, offset, restores, said_of};
 use code_model::guards::GuardKind;
 use std::alloc::{AllocError, Global};
 use std::test::*;
@@ -63,7 +63,7 @@ static CUT_SP: [Cut; 10] = [
 
 fn cuts(kind: GuardKind) -> &'static [Cut] {
     match kind {
-        GuardKind::Store => &CUT_STORE,
+        GuardKind::Store | GuardKind::Wide(_) | GuardKind::Load => &CUT_STORE,
         GuardKind::Growth | GuardKind::Pop => &CUT_STACK,
         GuardKind::Sp => &CUT_SP,
     }
@@ -76,7 +76,7 @@ fn cut_answer(cut: Cut, left: usize, next: GuardKind) -> Answer {
         Cut::Refused(rule, place) => Answer::Refused(rule, place),
         Cut::Operand => Answer::Refused(5, restores(next, left)),
         Cut::OperandBehindJump(place) => match next {
-            GuardKind::Store => Answer::Refused(5, restores(next, left)),
+            GuardKind::Store | GuardKind::Wide(_) | GuardKind::Load => Answer::Refused(5, restores(next, left)),
             _ => Answer::Refused(11, place),
         },
     }
@@ -84,11 +84,12 @@ fn cut_answer(cut: Cut, left: usize, next: GuardKind) -> Answer {
 
 fn cut_source(
     alloc: Global,
+    version: u8,
     kind: GuardKind,
     left: usize,
     next: GuardKind,
 ) -> Result<Source, AllocError> {
-    let mut source = Source::new(alloc);
+    let mut source = Source::new(alloc, version);
     source.first_words(kind, left)?;
     source.unit(next)?;
     source.word(STAYS)?;
@@ -98,15 +99,17 @@ fn cut_source(
 #[test]
 fn a_guard_may_break_off_at_each_word_into_each_guard(rt: HostRuntime) {
     let alloc = rt.alloc();
-    for kind in KINDS {
-        for next in KINDS {
-            for (index, cut) in cuts(kind).iter().enumerate() {
-                let left = usize::saturating_add(index, 1);
-                assert_eq!(rt;
-                    said_of(alloc, cut_source(alloc, kind, left, next)),
-                    cut_answer(*cut, left, next),
-                    "{left} words"
-                );
+    for version in VERSIONS {
+        for kind in kinds(version) {
+            for next in kinds(version) {
+                for (index, cut) in cuts(*kind).iter().enumerate() {
+                    let left = usize::saturating_add(index, 1);
+                    assert_eq!(rt;
+                        said_of(alloc, cut_source(alloc, version, *kind, left, *next)),
+                        cut_answer(*cut, left, *next),
+                        "{left} words"
+                    );
+                }
             }
         }
     }
@@ -146,20 +149,20 @@ static END_SP: [(u8, u16); 10] = [
 
 fn ends(kind: GuardKind) -> &'static [(u8, u16)] {
     match kind {
-        GuardKind::Store => &END_STORE,
+        GuardKind::Store | GuardKind::Wide(_) | GuardKind::Load => &END_STORE,
         GuardKind::Growth | GuardKind::Pop => &END_STACK,
         GuardKind::Sp => &END_SP,
     }
 }
 
-fn end_source(alloc: Global, kind: GuardKind, left: usize) -> Result<Source, AllocError> {
-    let mut source = Source::new(alloc);
+fn end_source(alloc: Global, version: u8, kind: GuardKind, left: usize) -> Result<Source, AllocError> {
+    let mut source = Source::new(alloc, version);
     source.first_words(kind, left)?;
     Ok(source)
 }
 
-fn unit_source(alloc: Global, kind: GuardKind) -> Result<Source, AllocError> {
-    let mut source = Source::new(alloc);
+fn unit_source(alloc: Global, version: u8, kind: GuardKind) -> Result<Source, AllocError> {
+    let mut source = Source::new(alloc, version);
     source.unit(kind)?;
     Ok(source)
 }
@@ -167,20 +170,22 @@ fn unit_source(alloc: Global, kind: GuardKind) -> Result<Source, AllocError> {
 #[test]
 fn a_guard_may_stand_at_the_code_end(rt: HostRuntime) {
     let alloc = rt.alloc();
-    for kind in KINDS {
-        for (index, end) in ends(kind).iter().enumerate() {
-            let (rule, place) = *end;
-            let left = usize::saturating_add(index, 1);
+    for version in VERSIONS {
+        for kind in kinds(version) {
+            for (index, end) in ends(*kind).iter().enumerate() {
+                let (rule, place) = *end;
+                let left = usize::saturating_add(index, 1);
+                assert_eq!(rt;
+                    said_of(alloc, end_source(alloc, version, *kind, left)),
+                    Answer::Refused(rule, place),
+                    "{left} words"
+                );
+            }
+            // the guarded instruction is the last
             assert_eq!(rt;
-                said_of(alloc, end_source(alloc, kind, left)),
-                Answer::Refused(rule, place),
-                "{left} words"
+                said_of(alloc, unit_source(alloc, version, *kind)),
+                Answer::Refused(12, offset(guard_len(*kind)))
             );
         }
-        // the guarded instruction is the last
-        assert_eq!(rt;
-            said_of(alloc, unit_source(alloc, kind)),
-            Answer::Refused(12, offset(guard_len(kind)))
-        );
     }
 }

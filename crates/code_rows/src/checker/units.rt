@@ -1,16 +1,40 @@
 //! The words of guards and of what they guard, and code made of them.
 
-use super::{Answer, said};
+use super::{Answer, said_with};
 use crate::object_parts::{HI, LO};
-use code_model::guards::GuardKind;
+use code_model::guards::{GuardKind, Reach};
 use std::alloc::{AllocError, Global};
 
-pub(super) const KINDS: [GuardKind; 4] = [
+/// The guards of version 1.
+static FIRST_KINDS: [GuardKind; 4] = [
     GuardKind::Store,
     GuardKind::Growth,
     GuardKind::Pop,
     GuardKind::Sp,
 ];
+
+/// The guards of version 2.
+static SECOND_KINDS: [GuardKind; 8] = [
+    GuardKind::Store,
+    GuardKind::Wide(Reach::Two),
+    GuardKind::Wide(Reach::Four),
+    GuardKind::Wide(Reach::Six),
+    GuardKind::Load,
+    GuardKind::Growth,
+    GuardKind::Pop,
+    GuardKind::Sp,
+];
+
+pub(super) const VERSIONS: [u8; 2] = [1, 2];
+
+/// The guards of a version.
+pub(super) fn kinds(version: u8) -> &'static [GuardKind] {
+    if version == 1 {
+        &FIRST_KINDS
+    } else {
+        &SECOND_KINDS
+    }
+}
 
 /// `JMP` to itself.
 pub(super) const STAYS: u16 = 0x3FFF;
@@ -19,6 +43,28 @@ pub(super) const STAYS: u16 = 0x3FFF;
 static STORE: [u16; 15] = [
     0x4205, 0x4604, 0x5034, 0x0000, 0x9034, 0x0000, 0x2803, 0x9034, 0x0000, 0x2802, 0x4030, 0xF000,
     0x4502, 0x4384, 0x0000,
+];
+
+/// The wide guards, each with `MOV #0,x(R4)` for the greatest x that it serves.
+static WIDE_TWO: [u16; 15] = [
+    0x4205, 0x4604, 0x5034, 0x0000, 0x9034, 0x0000, 0x2803, 0x9034, 0xFFFE, 0x2802, 0x4030, 0xF000,
+    0x4502, 0x4384, 0x0002,
+];
+
+static WIDE_FOUR: [u16; 15] = [
+    0x4205, 0x4604, 0x5034, 0x0000, 0x9034, 0x0000, 0x2803, 0x9034, 0xFFFC, 0x2802, 0x4030, 0xF000,
+    0x4502, 0x4384, 0x0004,
+];
+
+static WIDE_SIX: [u16; 15] = [
+    0x4205, 0x4604, 0x5034, 0x0000, 0x9034, 0x0000, 0x2803, 0x9034, 0xFFFA, 0x2802, 0x4030, 0xF000,
+    0x4502, 0x4384, 0x0006,
+];
+
+/// The load guard and `CMP R7,0(R4)`.
+static LOAD: [u16; 15] = [
+    0x4205, 0x4604, 0x5034, 0x0000, 0x9034, 0x0000, 0x2803, 0x9034, 0x0000, 0x2802, 0x4030, 0xF000,
+    0x4502, 0x9784, 0x0000,
 ];
 
 /// The growth guard and `PUSH R6`.
@@ -40,6 +86,10 @@ static SP: [u16; 11] = [
 pub(super) fn words(kind: GuardKind) -> &'static [u16] {
     match kind {
         GuardKind::Store => &STORE,
+        GuardKind::Wide(Reach::Two) => &WIDE_TWO,
+        GuardKind::Wide(Reach::Four) => &WIDE_FOUR,
+        GuardKind::Wide(Reach::Six) => &WIDE_SIX,
+        GuardKind::Load => &LOAD,
         GuardKind::Growth => &GROWTH,
         GuardKind::Pop => &POP,
         GuardKind::Sp => &SP,
@@ -49,7 +99,7 @@ pub(super) fn words(kind: GuardKind) -> &'static [u16] {
 /// How many of them are the guard's.
 pub(super) fn guard_len(kind: GuardKind) -> usize {
     match kind {
-        GuardKind::Store => 13,
+        GuardKind::Store | GuardKind::Wide(_) | GuardKind::Load => 13,
         GuardKind::Growth | GuardKind::Pop => 7,
         GuardKind::Sp => 10,
     }
@@ -58,8 +108,9 @@ pub(super) fn guard_len(kind: GuardKind) -> usize {
 /// The relocation that a guard has on its word at an index.
 fn bound(kind: GuardKind, index: usize) -> Option<u8> {
     match (kind, index) {
-        (GuardKind::Store, 5) => Some(LO),
-        (GuardKind::Store, 8) => Some(HI),
+        (GuardKind::Growth | GuardKind::Pop | GuardKind::Sp, _) => None,
+        (_, 5) => Some(LO),
+        (_, 8) => Some(HI),
         _ => None,
     }
 }
@@ -74,16 +125,18 @@ pub(super) fn restores(kind: GuardKind, at: usize) -> u16 {
     offset(usize::saturating_sub(usize::saturating_add(at, guard_len(kind)), 1))
 }
 
-/// An object's code, with its relocations.
+/// An object's version and code, with its relocations.
 #[derive(Drop)]
 pub(super) struct Source {
+    version: u8,
     code: Vec<u16>,
     relocs: Vec<(u8, u8, u16)>,
 }
 
 impl Source {
-    pub(super) fn new(alloc: Global) -> Source {
+    pub(super) fn new(alloc: Global, version: u8) -> Source {
         Source {
+            version,
             code: Vec::new(alloc),
             relocs: Vec::new(alloc),
         }
@@ -99,7 +152,7 @@ impl Source {
         Ok(())
     }
 
-    fn word_with(&mut self, word: u16, reloc: Option<u8>) -> Result<(), AllocError> {
+    pub(super) fn word_with(&mut self, word: u16, reloc: Option<u8>) -> Result<(), AllocError> {
         match reloc {
             Some(kind) => self.relocs.push((0, kind, offset(self.code.len())))?,
             None => {}
@@ -144,7 +197,7 @@ impl Source {
 /// What is said of an object of this code.
 pub(super) fn said_of(alloc: Global, source: Result<Source, AllocError>) -> Answer {
     match source {
-        Ok(source) => said(alloc, 0, &source.code, &source.relocs),
+        Ok(source) => said_with(alloc, source.version, 0, &source.code, &source.relocs),
         Err(_) => Answer::NoObject,
     }
 }

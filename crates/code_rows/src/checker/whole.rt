@@ -1,14 +1,14 @@
 //! Guards that stand whole: in a row, with jumps to their words, and with another relocation on a word.
 
 use super::Answer;
-use super::units::{KINDS, STAYS, Source, offset, restores, said_of, words};
+use super::units::{STAYS, Source, VERSIONS, kinds, offset, restores, said_of, words};
 use crate::object_parts::{CODE, DATA, HI, LO};
 use code_model::guards::GuardKind;
 use std::alloc::{AllocError, Global};
 use std::test::*;
 
-fn row_source(alloc: Global, kind: GuardKind, next: GuardKind) -> Result<Source, AllocError> {
-    let mut source = Source::new(alloc);
+fn row_source(alloc: Global, version: u8, kind: GuardKind, next: GuardKind) -> Result<Source, AllocError> {
+    let mut source = Source::new(alloc, version);
     source.unit(kind)?;
     source.unit(next)?;
     source.word(STAYS)?;
@@ -18,12 +18,14 @@ fn row_source(alloc: Global, kind: GuardKind, next: GuardKind) -> Result<Source,
 #[test]
 fn guards_in_a_row_are_units_of_their_own(rt: HostRuntime) {
     let alloc = rt.alloc();
-    for kind in KINDS {
-        for next in KINDS {
-            assert_eq!(rt;
-                said_of(alloc, row_source(alloc, kind, next)),
-                Answer::Units(3)
-            );
+    for version in VERSIONS {
+        for kind in kinds(version) {
+            for next in kinds(version) {
+                assert_eq!(rt;
+                    said_of(alloc, row_source(alloc, version, *kind, *next)),
+                    Answer::Units(3)
+                );
+            }
         }
     }
 }
@@ -90,7 +92,7 @@ static ON_SP: [OnWord; 11] = [
 
 fn on_words(kind: GuardKind) -> &'static [OnWord] {
     match kind {
-        GuardKind::Store => &ON_STORE,
+        GuardKind::Store | GuardKind::Wide(_) | GuardKind::Load => &ON_STORE,
         GuardKind::Growth | GuardKind::Pop => &ON_STACK,
         GuardKind::Sp => &ON_SP,
     }
@@ -123,11 +125,12 @@ fn on_word_answer(on_word: OnWord, kind: GuardKind, index: usize, reloc: u8) -> 
 
 fn on_word_source(
     alloc: Global,
+    version: u8,
     kind: GuardKind,
     index: usize,
     reloc: u8,
 ) -> Result<Source, AllocError> {
-    let mut source = Source::new(alloc);
+    let mut source = Source::new(alloc, version);
     source.relocated(kind, index, reloc)?;
     source.word(STAYS)?;
     Ok(source)
@@ -136,14 +139,16 @@ fn on_word_source(
 #[test]
 fn a_guard_has_its_relocations_alone(rt: HostRuntime) {
     let alloc = rt.alloc();
-    for kind in KINDS {
-        for (index, expected) in on_words(kind).iter().enumerate() {
-            for reloc in [CODE, DATA, LO, HI] {
-                assert_eq!(rt;
-                    said_of(alloc, on_word_source(alloc, kind, index, reloc)),
-                    on_word_answer(*expected, kind, index, reloc),
-                    "relocation {reloc} on word {index}"
-                );
+    for version in VERSIONS {
+        for kind in kinds(version) {
+            for (index, expected) in on_words(*kind).iter().enumerate() {
+                for reloc in [CODE, DATA, LO, HI] {
+                    assert_eq!(rt;
+                        said_of(alloc, on_word_source(alloc, version, *kind, index, reloc)),
+                        on_word_answer(*expected, *kind, index, reloc),
+                        "relocation {reloc} on word {index}"
+                    );
+                }
             }
         }
     }
@@ -156,8 +161,8 @@ fn jump_back(from: usize, to: usize) -> u16 {
 }
 
 /// A guard with what it guards, and `JMP` to one of their words.
-fn jump_source(alloc: Global, kind: GuardKind, to: usize) -> Result<Source, AllocError> {
-    let mut source = Source::new(alloc);
+fn jump_source(alloc: Global, version: u8, kind: GuardKind, to: usize) -> Result<Source, AllocError> {
+    let mut source = Source::new(alloc, version);
     source.unit(kind)?;
     let from = source.len();
     source.word(jump_back(from, to))?;
@@ -167,18 +172,20 @@ fn jump_source(alloc: Global, kind: GuardKind, to: usize) -> Result<Source, Allo
 #[test]
 fn a_guard_is_jumped_to_at_its_first_word_alone(rt: HostRuntime) {
     let alloc = rt.alloc();
-    for kind in KINDS {
-        let jump = words(kind).len();
-        assert_eq!(rt;
-            said_of(alloc, jump_source(alloc, kind, 0)),
-            Answer::Units(2)
-        );
-        for to in 1..jump {
+    for version in VERSIONS {
+        for kind in kinds(version) {
+            let jump = words(*kind).len();
             assert_eq!(rt;
-                said_of(alloc, jump_source(alloc, kind, to)),
-                Answer::Refused(11, offset(jump)),
-                "to {to}"
+                said_of(alloc, jump_source(alloc, version, *kind, 0)),
+                Answer::Units(2)
             );
+            for to in 1..jump {
+                assert_eq!(rt;
+                    said_of(alloc, jump_source(alloc, version, *kind, to)),
+                    Answer::Refused(11, offset(jump)),
+                    "to {to}"
+                );
+            }
         }
     }
 }
