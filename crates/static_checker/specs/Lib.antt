@@ -3,6 +3,7 @@ pub mod Spots
 pub mod Marked
 pub mod Places
 pub mod Firsts
+pub mod Loads
 pub mod CodeUnits
 pub mod Advances
 pub mod Passed

@@ -1,12 +1,12 @@
 //! Guards: which instructions a guard may stand before, how many, from which version of the form on, and whether one does.
 
-ghost use Rattle.std.specs.Prelude.{◌≡◌, ℕ, ◌+◌, ◌*◌, ◌<◌, ◌≤◌, ◌↔◌, IsTrue, length, slice_index, MatchOption};
+ghost use Rattle.std.specs.Prelude.{◌≡◌, ℕ, ◌+◌, ◌<◌, ◌≤◌, ◌↔◌, IsTrue, length, MatchOption};
 ghost use Rattle.code_model.specs.declared.object.TheConstants.{CODE_WORDS_MAX};
 ghost use Rattle.code_model.specs.declared.guards.GuardKind.{GuardKind};
 ghost use Rattle.code_model.specs.Guards.{IsPlainStore, IsStoreForm, IsGrowthForm, IsPopForm, IsSpForm, IsNearStore, IsWideForm, IsOwnDst, IsLoadSrc, IsLoadForm, Serves, ServesAt, reach_bytes, most_served, least_version};
-ghost use Rattle.code_model.specs.Relocs.{Unrelocated};
 ghost use Rattle.static_checker.specs.Cursors.{IsCursor};
 ghost use Rattle.code_laws.specs.SecondWords.{SecondIs, HighIs};
+ghost use Rattle.static_checker.specs.Loads.{TestsRegister};
 ghost use Rattle.static_checker.specs.CodeUnits.{wording, OnlyKind, IsServing, IsServedSpot};
 
 use crate::cursor::{Cursor, unrelocated};
@@ -241,7 +241,7 @@ fn tests_register(o: &Object, cursor: Cursor, n: u8) -> bool
     requires cursor { IsCursor o.now.relocs cursor }
     requires within { cursor.at < CODE_WORDS_MAX }
     requires register { n ≤ 15 }
-    ensures { IsTrue result ↔ ((slice_index o.now.code (cursor.at + 1) ≡ 0x4004 + 256 * n) × (slice_index o.now.code (cursor.at + 3) ≡ 0) × Unrelocated o.now.relocs (cursor.at + 3)) }
+    ensures { IsTrue result ↔ TestsRegister o.now cursor.at n }
 {
     word_at(&o.code, cursor.at + 1) == 0x4004 + 256 * u16::from(n)
         && word_at(&o.code, cursor.at + 3) == 0

@@ -76,7 +76,10 @@ fn cut_answer(cut: Cut, left: usize, next: GuardKind) -> Answer {
         Cut::Refused(rule, place) => Answer::Refused(rule, place),
         Cut::Operand => Answer::Refused(5, restores(next, left)),
         Cut::OperandBehindJump(place) => match next {
-            GuardKind::Store | GuardKind::Wide(_) | GuardKind::Load => Answer::Refused(5, restores(next, left)),
+            GuardKind::Store | GuardKind::Wide(_) | GuardKind::Load => Answer::Refused(
+                5,
+                restores(next, left),
+            ),
             _ => Answer::Refused(11, place),
         },
     }
@@ -155,7 +158,12 @@ fn ends(kind: GuardKind) -> &'static [(u8, u16)] {
     }
 }
 
-fn end_source(alloc: Global, version: u8, kind: GuardKind, left: usize) -> Result<Source, AllocError> {
+fn end_source(
+    alloc: Global,
+    version: u8,
+    kind: GuardKind,
+    left: usize,
+) -> Result<Source, AllocError> {
     let mut source = Source::new(alloc, version);
     source.first_words(kind, left)?;
     Ok(source)

@@ -120,6 +120,11 @@ pub(super) fn offset(at: usize) -> u16 {
     u16::try_from(usize::saturating_mul(2, at)).unwrap_or(0)
 }
 
+/// `MOV Rn,R4`.
+fn move_to_r4(register: u16) -> u16 {
+    u16::saturating_add(0x4004, u16::saturating_mul(256, register))
+}
+
 /// The offset of `MOV R5,SR` of a guard that begins at a place.
 pub(super) fn restores(kind: GuardKind, at: usize) -> u16 {
     offset(usize::saturating_sub(usize::saturating_add(at, guard_len(kind)), 1))
@@ -158,6 +163,30 @@ impl Source {
             None => {}
         }
         self.word(word)
+    }
+
+    pub(super) fn words(&mut self, words: &[u16]) -> Result<(), AllocError> {
+        for word in words {
+            self.word(*word)?;
+        }
+        Ok(())
+    }
+
+    /// Puts in a guard that keeps an address in the region, by the register whose value it tests, what it adds to it, with a
+    /// relocation or none, and the word that the region's end is added to.
+    pub(super) fn region_guard(
+        &mut self,
+        register: u16,
+        added: (u16, Option<u8>),
+        high: u16,
+    ) -> Result<(), AllocError> {
+        self.words(&[0x4205, move_to_r4(register), 0x5034])?;
+        self.word_with(added.0, added.1)?;
+        self.word(0x9034)?;
+        self.word_with(0, Some(LO))?;
+        self.words(&[0x2803, 0x9034])?;
+        self.word_with(high, Some(HI))?;
+        self.words(&[0x2802, 0x4030, 0xF000, 0x4502])
     }
 
     /// Puts in the first words of a guard and of what it guards.

@@ -7,7 +7,12 @@ use code_model::guards::GuardKind;
 use std::alloc::{AllocError, Global};
 use std::test::*;
 
-fn row_source(alloc: Global, version: u8, kind: GuardKind, next: GuardKind) -> Result<Source, AllocError> {
+fn row_source(
+    alloc: Global,
+    version: u8,
+    kind: GuardKind,
+    next: GuardKind,
+) -> Result<Source, AllocError> {
     let mut source = Source::new(alloc, version);
     source.unit(kind)?;
     source.unit(next)?;
@@ -161,7 +166,12 @@ fn jump_back(from: usize, to: usize) -> u16 {
 }
 
 /// A guard with what it guards, and `JMP` to one of their words.
-fn jump_source(alloc: Global, version: u8, kind: GuardKind, to: usize) -> Result<Source, AllocError> {
+fn jump_source(
+    alloc: Global,
+    version: u8,
+    kind: GuardKind,
+    to: usize,
+) -> Result<Source, AllocError> {
     let mut source = Source::new(alloc, version);
     source.unit(kind)?;
     let from = source.len();
