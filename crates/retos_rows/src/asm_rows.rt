@@ -1,8 +1,9 @@
 //! Worked rows of `asm`: what it writes and prints, what it refuses, and calls that fail.
 
-use crate::test_support::{Case, Failing, SELF_JUMP, add, folder, try_case, writable};
+use crate::test_support::{
+    Case, Failing, SELF_JUMP, compare_held, no_command, try_case, try_stored, with_files, writable,
+};
 use edge_io::lists::Bytes;
-use edge_io::name::Name;
 use std::alloc::Global;
 use std::process::Abort;
 use std::test::Fail;
@@ -27,94 +28,102 @@ fn try_asm(
     case: &Case,
     written: Option<&[u8]>,
 ) -> Result<(), Fail> {
-    let mut files = writable(alloc, room, fail)?;
-    add(&mut files, b"j.s", source)?;
+    let files = writable(alloc, room, fail)?;
+    let mut files = with_files(files, &[(b"j.s", source)])?;
     try_case(rt, alloc, &mut files, fail.out, case)?;
-    let from = Name::from_slice(b"j.s").ok_or("a name")?;
-    let to = Name::from_slice(b"j.o").ok_or("a name")?;
-    assert_eq!(rt;
-        files.held(&from),
-        Some(source),
-        "the source of {}",
-        case.line
-    );
-    assert_eq!(rt; files.held(&to), written, "the file of {}", case.line);
-    Ok(())
+    compare_held(rt, &files, b"j.s", Some(source), case.line)?;
+    compare_held(rt, &files, b"j.o", written, case.line)
 }
+
+/// What the assembler prints of the source.
+const ASSEMBLED: Case = Case {
+    line: "asm j.s j.o",
+    out: "j.o: assembled 1 words\n",
+    err: "",
+    status: 0,
+};
 
 #[test]
 fn asm_writes_the_object_and_prints_its_line(rt: HostRuntime) -> Result<(), Fail> {
-    let case = Case {
-        line: "asm j.s j.o",
-        out: "j.o: assembled 1 words\n",
-        err: "",
-        status: 0,
-    };
     try_asm(
         &rt,
         rt.alloc(),
         SOURCE,
         22,
         &NONE,
-        &case,
+        &ASSEMBLED,
         Some(SELF_JUMP.as_slice()),
     )
 }
 
+/// The object takes the name of its source.
+const OVER_SOURCE: Case = Case {
+    line: "asm j.s j.s",
+    out: "j.s: assembled 1 words\n",
+    err: "",
+    status: 0,
+};
+
 #[test]
 fn asm_may_write_over_its_source(rt: HostRuntime) -> Result<(), Fail> {
-    let mut files = writable(rt.alloc(), 22, &NONE)?;
-    add(&mut files, b"j.s", SOURCE)?;
-    let case = Case {
-        line: "asm j.s j.s",
-        out: "j.s: assembled 1 words\n",
-        err: "",
-        status: 0,
-    };
-    try_case(&rt, rt.alloc(), &mut files, &[], &case)?;
-    let name = Name::from_slice(b"j.s").ok_or("a name")?;
-    assert_eq!(rt; files.held(&name), Some(SELF_JUMP.as_slice()));
-    Ok(())
+    let files = writable(rt.alloc(), 22, &NONE)?;
+    let mut files = with_files(files, &[(b"j.s", SOURCE)])?;
+    try_case(&rt, rt.alloc(), &mut files, &[], &OVER_SOURCE)?;
+    let written = Some(SELF_JUMP.as_slice());
+    compare_held(&rt, &files, b"j.s", written, OVER_SOURCE.line)
 }
+
+/// Tells where a source, or its absence, isn't refused with this line, or `j.o` is then held.
+fn try_refused(
+    rt: &impl Abort,
+    alloc: Global,
+    line: &str,
+    source: &[u8],
+    err: &str,
+) -> Result<(), Fail> {
+    let case = Case {
+        line,
+        out: "",
+        err,
+        status: 1,
+    };
+    try_asm(rt, alloc, source, 22, &NONE, &case, None)
+}
+
+/// Source texts, and the line of each one's first fault.
+const FAULTS: [(&[u8], &str); 8] = [
+    (b"", "retos: j.s: line 0: baddirective\n"),
+    (
+        b".app 16 1\n.entry s\ns: FOO R6\n",
+        "retos: j.s: line 3: unknownword\n",
+    ),
+    (b"\x01: NOP\nFOO", "retos: j.s: line 1: nottext\n"),
+    (
+        b".app 16 1\n.entry s\ns: NOP\ns: NOP",
+        "retos: j.s: line 4: doublelabel\n",
+    ),
+    (
+        b".app 16 1\n.entry s\ns: MOV R5",
+        "retos: j.s: line 3: badoperand\n",
+    ),
+    (
+        b".app 16 1\n.entry s\ns: MOV #65536,R6",
+        "retos: j.s: line 3: numberrange\n",
+    ),
+    (
+        b".app 16 1\n.entry s\ns: JMP t\n",
+        "retos: j.s: line 3: nolabel\n",
+    ),
+    (
+        b".app 16 1\n.zero\n.space 16384\n.space 1\n",
+        "retos: j.s: line 4: toolarge\n",
+    ),
+];
 
 #[test]
 fn a_source_is_refused_at_its_first_fault(rt: HostRuntime) -> Result<(), Fail> {
-    let rows: [(&[u8], &str); 8] = [
-        (b"", "retos: j.s: line 0: baddirective\n"),
-        (
-            b".app 16 1\n.entry s\ns: FOO R6\n",
-            "retos: j.s: line 3: unknownword\n",
-        ),
-        (b"\x01: NOP\nFOO", "retos: j.s: line 1: nottext\n"),
-        (
-            b".app 16 1\n.entry s\ns: NOP\ns: NOP",
-            "retos: j.s: line 4: doublelabel\n",
-        ),
-        (
-            b".app 16 1\n.entry s\ns: MOV R5",
-            "retos: j.s: line 3: badoperand\n",
-        ),
-        (
-            b".app 16 1\n.entry s\ns: MOV #65536,R6",
-            "retos: j.s: line 3: numberrange\n",
-        ),
-        (
-            b".app 16 1\n.entry s\ns: JMP t\n",
-            "retos: j.s: line 3: nolabel\n",
-        ),
-        (
-            b".app 16 1\n.zero\n.space 16384\n.space 1\n",
-            "retos: j.s: line 4: toolarge\n",
-        ),
-    ];
-    for (source, err) in rows {
-        let case = Case {
-            line: "asm j.s j.o",
-            out: "",
-            err,
-            status: 1,
-        };
-        try_asm(&rt, rt.alloc(), source, 22, &NONE, &case, None)?;
+    for (source, err) in &FAULTS {
+        try_refused(&rt, rt.alloc(), "asm j.s j.o", source, err)?;
     }
     Ok(())
 }
@@ -126,24 +135,14 @@ fn a_jump_that_is_too_far_is_named(rt: HostRuntime) -> Result<(), Fail> {
         source.extend_from_slice(b"NOP\n")?;
     }
     source.extend_from_slice(b"JMP s")?;
-    let case = Case {
-        line: "asm j.s j.o",
-        out: "",
-        err: "retos: j.s: line 516: jumprange\n",
-        status: 1,
-    };
-    try_asm(&rt, rt.alloc(), source.as_slice(), 22, &NONE, &case, None)
+    let err = "retos: j.s: line 516: jumprange\n";
+    try_refused(&rt, rt.alloc(), "asm j.s j.o", source.as_slice(), err)
 }
 
 #[test]
 fn an_absent_source_is_named(rt: HostRuntime) -> Result<(), Fail> {
-    let case = Case {
-        line: "asm none.s j.o",
-        out: "",
-        err: "retos: none.s: absent\n",
-        status: 1,
-    };
-    try_asm(&rt, rt.alloc(), SOURCE, 22, &NONE, &case, None)
+    let err = "retos: none.s: absent\n";
+    try_refused(&rt, rt.alloc(), "asm none.s j.o", SOURCE, err)
 }
 
 #[test]
@@ -162,50 +161,51 @@ fn a_failing_read_of_the_source_is_named(rt: HostRuntime) -> Result<(), Fail> {
     try_asm(&rt, rt.alloc(), SOURCE, 22, &fail, &case, None)
 }
 
+/// Tells where something else stands in `j.o` once these writes of the folder or of out fail.
+fn try_write_fault(
+    rt: &impl Abort,
+    alloc: Global,
+    writes: &[u32],
+    out: &[u32],
+    room: u32,
+    written: Option<&[u8]>,
+) -> Result<(), Fail> {
+    let fail = Failing {
+        reads: &[],
+        writes,
+        out,
+    };
+    let case = Case {
+        line: "asm j.s j.o",
+        out: "",
+        err: "retos: write fault\n",
+        status: 4,
+    };
+    try_asm(rt, alloc, SOURCE, room, &fail, &case, written)
+}
+
 /// The create is write 0 of the folder, the first append write 1.
 #[test]
 fn a_failing_write_leaves_a_prefix(rt: HostRuntime) -> Result<(), Fail> {
-    let rows: [(&[u32], &[u32], u32, Option<&[u8]>); 4] = [
-        (&[0], &[], 22, None),
-        (&[1], &[], 22, Some(&[])),
-        (&[], &[], 10, Some(&SELF_JUMP[..10])),
-        (&[], &[0], 22, Some(&SELF_JUMP)),
-    ];
-    for (writes, out, room, written) in rows {
-        let fail = Failing {
-            reads: &[],
-            writes,
-            out,
-        };
-        let case = Case {
-            line: "asm j.s j.o",
-            out: "",
-            err: "retos: write fault\n",
-            status: 4,
-        };
-        try_asm(&rt, rt.alloc(), SOURCE, room, &fail, &case, written)?;
-    }
-    Ok(())
+    try_write_fault(&rt, rt.alloc(), &[0], &[], 22, None)?;
+    try_write_fault(&rt, rt.alloc(), &[1], &[], 22, Some(&[]))?;
+    try_write_fault(&rt, rt.alloc(), &[], &[], 10, Some(&SELF_JUMP[..10]))?;
+    try_write_fault(&rt, rt.alloc(), &[], &[0], 22, Some(&SELF_JUMP))
 }
+
+/// Lines of words that are no command.
+const NO_ASM: [&str; 5] = [
+    "asm",
+    "asm j.s",
+    "asm j.s -o",
+    "asm -j.s j.o",
+    "asm j.s j.o k.o",
+];
 
 #[test]
 fn asm_takes_two_names(rt: HostRuntime) -> Result<(), Fail> {
-    let lines = [
-        "asm",
-        "asm j.s",
-        "asm j.s -o",
-        "asm -j.s j.o",
-        "asm j.s j.o k.o",
-    ];
-    for line in lines {
-        let mut files = folder(rt.alloc(), &[])?;
-        let case = Case {
-            line,
-            out: "",
-            err: "retos: words\n",
-            status: 2,
-        };
-        try_case(&rt, rt.alloc(), &mut files, &[], &case)?;
+    for line in &NO_ASM {
+        try_stored(&rt, rt.alloc(), &[], &no_command(line))?;
     }
     Ok(())
 }

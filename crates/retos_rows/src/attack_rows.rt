@@ -1,6 +1,6 @@
 //! Worked rows of programs that leave their stack: each is a fault at its guard, whenever an interrupt comes, and the others go on.
 
-use crate::test_support::{Case, EMITS, PUSHES, add, application, folder, try_case};
+use crate::test_support::{Case, EMITS, PUSHES, Stored, application, try_stored};
 use std::alloc::Global;
 use std::process::Abort;
 use std::test::Fail;
@@ -16,6 +16,24 @@ const LOWERS_SP: [u16; 14] = [
     0x4401, 0x3FFF,
 ];
 
+/// Runs an application under a script, and tells where it prints something else.
+fn try_raised<'a>(
+    rt: &impl Abort,
+    alloc: Global,
+    text: &'a [u8],
+    script: &'a [u8],
+    out: &str,
+) -> Result<(), Fail> {
+    let stored: [Stored<'a>; 2] = [(b"x.o", text), (b"raise", script)];
+    let case = Case {
+        line: "run raise 100 x.o",
+        out,
+        err: "",
+        status: 6,
+    };
+    try_stored(rt, alloc, &stored, &case)
+}
+
 /// Runs an application with line 1 raised at each of these steps in turn.
 fn try_interrupted(
     rt: &impl Abort,
@@ -26,16 +44,7 @@ fn try_interrupted(
 ) -> Result<(), Fail> {
     for step in 1..=last {
         let script = format!(in alloc; "at {step} raise 1\n")?;
-        let mut files = folder(alloc, &[])?;
-        add(&mut files, b"x.o", text)?;
-        add(&mut files, b"raise", script.as_bytes())?;
-        let case = Case {
-            line: "run raise 100 x.o",
-            out,
-            err: "",
-            status: 6,
-        };
-        try_case(rt, alloc, &mut files, &[], &case)?;
+        try_raised(rt, alloc, text, script.as_bytes(), out)?;
     }
     Ok(())
 }
@@ -61,23 +70,22 @@ fn a_lower_stack_pointer_fails_whenever_an_interrupt_comes(rt: HostRuntime) -> R
     try_interrupted(&rt, rt.alloc(), text.as_slice(), 6, out)
 }
 
-#[test]
-fn a_fault_leaves_the_other_application(rt: HostRuntime) -> Result<(), Fail> {
-    let text = application(rt.alloc(), &POPS, &[])?;
-    let mut files = folder(rt.alloc(), &[])?;
-    add(&mut files, b"x.o", text.as_slice())?;
-    add(&mut files, b"e.o", &EMITS)?;
-    add(&mut files, b"empty", b"")?;
-    let case = Case {
-        line: "run empty 100 x.o e.o",
-        out: "a0 6000 6012 2000 2010\n\
+/// A run of an application that leaves its stack and of one that emits 5 and exits.
+const BESIDE: Case = Case {
+    line: "run empty 100 x.o e.o",
+    out: "a0 6000 6012 2000 2010\n\
 a1 6012 603C 2010 2020\n\
 5 a0.t0 fault stack 2010\n\
 12 a1.t0 emit 0005\n\
 18 a1.t0 exit last\n\
 end quiet 18 emits 1 faults 1\n",
-        err: "",
-        status: 6,
-    };
-    try_case(&rt, rt.alloc(), &mut files, &[], &case)
+    err: "",
+    status: 6,
+};
+
+#[test]
+fn a_fault_leaves_the_other_application(rt: HostRuntime) -> Result<(), Fail> {
+    let text = application(rt.alloc(), &POPS, &[])?;
+    let stored: [Stored; 3] = [(b"x.o", text.as_slice()), (b"e.o", &EMITS), (b"empty", b"")];
+    try_stored(&rt, rt.alloc(), &stored, &BESIDE)
 }

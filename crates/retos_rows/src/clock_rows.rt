@@ -34,39 +34,41 @@ pub const SOURCES: [Source; 2] = [
     },
 ];
 
+/// Words, and pieces of what they print.
+const BY_CLOCK: [(&str, &[&str]); 3] = [
+    (
+        "run s 260 blink.o pc.o",
+        &[
+            NODE_LINES,
+            "259 a1.t1 emit 0000\nend limit 260 emits 5 faults 0\n",
+        ],
+    ),
+    ("run s 20000 blink.o pc.o", &[NODE_LINES]),
+    (
+        "run --all s 260 blink.o pc.o",
+        &["\n99 idle\n100 idle int 0 F07E 10FC:08 10FD:00 10FE:7E 10FF:F0\n101 kernel line 0\n"],
+    ),
+];
+
 #[test]
 fn a_node_of_two_applications_runs_by_its_clock(rt: HostRuntime) -> Result<(), Fail> {
-    let rows: [(&str, &[&str]); 3] = [
-        (
-            "run s 260 blink.o pc.o",
-            &[
-                NODE_LINES,
-                "259 a1.t1 emit 0000\nend limit 260 emits 5 faults 0\n",
-            ],
-        ),
-        ("run s 20000 blink.o pc.o", &[NODE_LINES]),
-        (
-            "run --all s 260 blink.o pc.o",
-            &[
-                "\n99 idle\n100 idle int 0 F07E 10FC:08 10FD:00 10FE:7E 10FF:F0\n101 kernel line 0\n",
-            ],
-        ),
-    ];
-    for (line, pieces) in rows {
-        let mut files = node(rt.alloc(), b"every 100 0", &SOURCES)?;
+    for (line, pieces) in &BY_CLOCK {
+        let mut files = node(rt.alloc(), &[], b"every 100 0", &SOURCES)?;
         try_pieces(&rt, rt.alloc(), &mut files, line, pieces, 0)?;
     }
     Ok(())
 }
 
+/// What it prints.
+const BLINK_LINES: Case = Case {
+    line: "run s 260 blink.o",
+    out: "a0 6000 6030 2000 2020\n8 a0.t0 emit 0000\n109 a0.t0 emit 0001\n209 a0.t0 emit 0000\n\
+end limit 260 emits 3 faults 0\n",
+    err: "",
+    status: 0,
+};
+
 #[test]
 fn one_application_blinks_by_the_clock(rt: HostRuntime) -> Result<(), Fail> {
-    let case = Case {
-        line: "run s 260 blink.o",
-        out: "a0 6000 6030 2000 2020\n8 a0.t0 emit 0000\n109 a0.t0 emit 0001\n209 a0.t0 emit 0000\n\
-end limit 260 emits 3 faults 0\n",
-        err: "",
-        status: 0,
-    };
-    try_run(&rt, rt.alloc(), &SOURCES[..1], b"every 100 0", &case)
+    try_run(&rt, rt.alloc(), &SOURCES[..1], b"every 100 0", &BLINK_LINES)
 }

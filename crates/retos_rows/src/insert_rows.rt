@@ -1,10 +1,10 @@
 //! Worked rows of `insert`: what it writes and prints, what it refuses, and calls that fail.
 
 use crate::test_support::{
-    Case, CodeReloc, Failing, SELF_JUMP, UNGUARDED, add, application, folder, try_case, writable,
+    Case, CodeReloc, Failing, SELF_JUMP, UNGUARDED, application, compare_held, no_command,
+    try_case, try_stored, with_files, writable,
 };
 use edge_io::lists::Bytes;
-use edge_io::name::Name;
 use std::alloc::Global;
 use std::process::Abort;
 use std::test::Fail;
@@ -38,77 +38,79 @@ fn try_insert(
     case: &Case,
     written: Option<&[u8]>,
 ) -> Result<(), Fail> {
-    let mut files = writable(alloc, room, fail)?;
-    add(&mut files, b"s.o", text)?;
+    let files = writable(alloc, room, fail)?;
+    let mut files = with_files(files, &[(b"s.o", text)])?;
     try_case(rt, alloc, &mut files, fail.out, case)?;
-    let from = Name::from_slice(b"s.o").ok_or("a name")?;
-    let to = Name::from_slice(b"g.o").ok_or("a name")?;
-    assert_eq!(rt;
-        files.held(&from),
-        Some(text),
-        "the object of {}",
-        case.line
-    );
-    assert_eq!(rt; files.held(&to), written, "the file of {}", case.line);
-    Ok(())
+    compare_held(rt, &files, b"s.o", Some(text), case.line)?;
+    compare_held(rt, &files, b"g.o", written, case.line)
 }
+
+/// What the inserter prints of the store.
+const INSERTED: Case = Case {
+    line: "insert s.o g.o",
+    out: "g.o: inserted 17 words\n",
+    err: "",
+    status: 0,
+};
 
 #[test]
 fn insert_writes_the_guards_and_prints_its_line(rt: HostRuntime) -> Result<(), Fail> {
     let plain = application(rt.alloc(), &STORE, &[])?;
     let guarded = application(rt.alloc(), &WITH_GUARD, &RELOCS)?;
-    let case = Case {
-        line: "insert s.o g.o",
-        out: "g.o: inserted 17 words\n",
-        err: "",
-        status: 0,
-    };
     try_insert(
         &rt,
         rt.alloc(),
         plain.as_slice(),
         66,
         &NONE,
-        &case,
+        &INSERTED,
         Some(guarded.as_slice()),
     )
+}
+
+/// Tells where an object, or its absence, isn't refused with this line, or `g.o` is then held.
+fn try_refused(
+    rt: &impl Abort,
+    alloc: Global,
+    line: &str,
+    text: &[u8],
+    err: &str,
+) -> Result<(), Fail> {
+    let case = Case {
+        line,
+        out: "",
+        err,
+        status: 1,
+    };
+    try_insert(rt, alloc, text, 66, &NONE, &case, None)
 }
 
 #[test]
 fn a_guarded_object_gets_no_guards_again(rt: HostRuntime) -> Result<(), Fail> {
     let guarded = application(rt.alloc(), &WITH_GUARD, &RELOCS)?;
-    let case = Case {
-        line: "insert s.o g.o",
-        out: "",
-        err: "retos: s.o: insert usescheckregister at 0\n",
-        status: 1,
-    };
-    try_insert(&rt, rt.alloc(), guarded.as_slice(), 66, &NONE, &case, None)
+    let err = "retos: s.o: insert usescheckregister at 0\n";
+    try_refused(&rt, rt.alloc(), "insert s.o g.o", guarded.as_slice(), err)
 }
+
+/// Code words, and the line of their first fault.
+const FAULTS: [(&[u16], &str); 4] = [
+    (&[0x4303, 0], "retos: s.o: insert notdecoded at 2\n"),
+    (
+        &[0x4303, 0x4506],
+        "retos: s.o: insert usescheckregister at 2\n",
+    ),
+    (
+        &[0x4303, 0x1300, 0x3FFF],
+        "retos: s.o: insert forbidden at 2\n",
+    ),
+    (&[0x4303, 0x4303], "retos: s.o: insert badtarget at 2\n"),
+];
 
 #[test]
 fn an_object_is_refused_at_its_first_fault(rt: HostRuntime) -> Result<(), Fail> {
-    let rows: [(&[u16], &str); 4] = [
-        (&[0x4303, 0], "retos: s.o: insert notdecoded at 2\n"),
-        (
-            &[0x4303, 0x4506],
-            "retos: s.o: insert usescheckregister at 2\n",
-        ),
-        (
-            &[0x4303, 0x1300, 0x3FFF],
-            "retos: s.o: insert forbidden at 2\n",
-        ),
-        (&[0x4303, 0x4303], "retos: s.o: insert badtarget at 2\n"),
-    ];
-    for (code, err) in rows {
+    for (code, err) in &FAULTS {
         let text = application(rt.alloc(), code, &[])?;
-        let case = Case {
-            line: "insert s.o g.o",
-            out: "",
-            err,
-            status: 1,
-        };
-        try_insert(&rt, rt.alloc(), text.as_slice(), 66, &NONE, &case, None)?;
+        try_refused(&rt, rt.alloc(), "insert s.o g.o", text.as_slice(), err)?;
     }
     Ok(())
 }
@@ -122,31 +124,17 @@ fn an_object_that_would_be_too_large_is_named(rt: HostRuntime) -> Result<(), Fai
         text.extend_from_slice(&[0x86, 0x47, 0, 0])?;
     }
     text.extend_from_slice(&[0xFF, 0x3F])?;
-    let case = Case {
-        line: "insert s.o g.o",
-        out: "",
-        err: "retos: s.o: insert toolarge at 2184\n",
-        status: 1,
-    };
-    try_insert(&rt, rt.alloc(), text.as_slice(), 66, &NONE, &case, None)
+    let err = "retos: s.o: insert toolarge at 2184\n";
+    try_refused(&rt, rt.alloc(), "insert s.o g.o", text.as_slice(), err)
 }
 
 #[test]
 fn an_absent_or_malformed_object_is_named(rt: HostRuntime) -> Result<(), Fail> {
-    let rows: [(&str, &str); 2] = [
-        ("insert none.o g.o", "retos: none.o: absent\n"),
-        ("insert s.o g.o", "retos: s.o: form short at 29\n"),
-    ];
-    for (line, err) in rows {
-        let case = Case {
-            line,
-            out: "",
-            err,
-            status: 1,
-        };
-        try_insert(&rt, rt.alloc(), &UNGUARDED[..29], 66, &NONE, &case, None)?;
-    }
-    Ok(())
+    let text = &UNGUARDED[..29];
+    let absent = "retos: none.o: absent\n";
+    try_refused(&rt, rt.alloc(), "insert none.o g.o", text, absent)?;
+    let short = "retos: s.o: form short at 29\n";
+    try_refused(&rt, rt.alloc(), "insert s.o g.o", text, short)
 }
 
 #[test]
@@ -165,60 +153,54 @@ fn a_failing_read_of_the_object_is_named(rt: HostRuntime) -> Result<(), Fail> {
     try_insert(&rt, rt.alloc(), &SELF_JUMP, 66, &fail, &case, None)
 }
 
+/// Tells where something else stands in `g.o` once these writes of the folder or of out fail.
+fn try_write_fault(
+    rt: &impl Abort,
+    alloc: Global,
+    writes: &[u32],
+    out: &[u32],
+    room: u32,
+    written: Option<&[u8]>,
+) -> Result<(), Fail> {
+    let fail = Failing {
+        reads: &[],
+        writes,
+        out,
+    };
+    let case = Case {
+        line: "insert s.o g.o",
+        out: "",
+        err: "retos: write fault\n",
+        status: 4,
+    };
+    let plain = application(alloc, &STORE, &[])?;
+    try_insert(rt, alloc, plain.as_slice(), room, &fail, &case, written)
+}
+
 /// The create is write 0 of the folder, the first append write 1.
 #[test]
 fn a_failing_write_of_guards_leaves_a_prefix(rt: HostRuntime) -> Result<(), Fail> {
-    let plain = application(rt.alloc(), &STORE, &[])?;
     let guarded = application(rt.alloc(), &WITH_GUARD, &RELOCS)?;
-    let rows: [(&[u32], &[u32], u32, Option<&[u8]>); 4] = [
-        (&[0], &[], 66, None),
-        (&[1], &[], 66, Some(&[])),
-        (&[], &[], 10, Some(b"RETO\x01\x01\x11\x00\x00\x00")),
-        (&[], &[0], 66, Some(guarded.as_slice())),
-    ];
-    for (writes, out, room, written) in rows {
-        let fail = Failing {
-            reads: &[],
-            writes,
-            out,
-        };
-        let case = Case {
-            line: "insert s.o g.o",
-            out: "",
-            err: "retos: write fault\n",
-            status: 4,
-        };
-        try_insert(
-            &rt,
-            rt.alloc(),
-            plain.as_slice(),
-            room,
-            &fail,
-            &case,
-            written,
-        )?;
-    }
-    Ok(())
+    try_write_fault(&rt, rt.alloc(), &[0], &[], 66, None)?;
+    try_write_fault(&rt, rt.alloc(), &[1], &[], 66, Some(&[]))?;
+    let prefix = b"RETO\x01\x01\x11\x00\x00\x00";
+    try_write_fault(&rt, rt.alloc(), &[], &[], 10, Some(prefix))?;
+    try_write_fault(&rt, rt.alloc(), &[], &[0], 66, Some(guarded.as_slice()))
 }
+
+/// Lines of words that are no command.
+const NO_INSERTS: [&str; 5] = [
+    "insert",
+    "insert s.o",
+    "insert s.o -g",
+    "insert -s.o g.o",
+    "insert s.o g.o h.o",
+];
 
 #[test]
 fn insert_takes_two_names(rt: HostRuntime) -> Result<(), Fail> {
-    let lines = [
-        "insert",
-        "insert s.o",
-        "insert s.o -g",
-        "insert -s.o g.o",
-        "insert s.o g.o h.o",
-    ];
-    for line in lines {
-        let mut files = folder(rt.alloc(), &[])?;
-        let case = Case {
-            line,
-            out: "",
-            err: "retos: words\n",
-            status: 2,
-        };
-        try_case(&rt, rt.alloc(), &mut files, &[], &case)?;
+    for line in &NO_INSERTS {
+        try_stored(&rt, rt.alloc(), &[], &no_command(line))?;
     }
     Ok(())
 }

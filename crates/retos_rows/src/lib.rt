@@ -5,7 +5,11 @@
 //! `gen_rows` a command each, `tail_rows` the option `--tail`, `attack_rows` programs that leave their stack, `system_rows` the
 //! system's own files. The others have runs of nodes: `thread_rows` who runs next, `code_rows` the codes of calls, `jump_rows`
 //! addresses that are jumped to, `line_rows` interrupts and picks, `lock_rows` mutexes and conditions, `module_rows` modules,
-//! `clock_rows` a node of two applications; `damage_rows` damaged objects and failing devices. What they leave comes from outside of the program.
+//! `clock_rows` a node of two applications; `damage_rows` damaged objects and failing devices. What they leave comes from outside
+//! of the program.
+//!
+//! A test is a table of rows and a loop over it, or a call: what a row does stands in a function of its own. The check of a function
+//! takes long where many values that have to be let go live beside many ways out, so each has few of both.
 #![tactic(auto)]
 
 #[cfg(test)]

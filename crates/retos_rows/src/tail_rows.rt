@@ -2,7 +2,7 @@
 
 ghost use Rattle.std.specs.Prelude.{◌≡◌, None, IfOk};
 
-use crate::test_support::{Case, add, all_files, application, try_case};
+use crate::test_support::{Case, all_files, application, no_command, try_case, with_files};
 use edge_io::mem_folder::MemFolder;
 use std::alloc::Global;
 use std::process::Abort;
@@ -24,25 +24,30 @@ const YIELDS_AND_JUMPS: [u16; 13] = [
 fn tailed(alloc: Global) -> Result<MemFolder, Fail>
     ensures { IfOk result (λ files. files.created ≡ None) }
 {
-    let mut files = all_files(alloc, &[])?;
     let into = application(alloc, &JUMPS_INTO_GUARD, &[(1, 2)])?;
+    let files = with_files(
+        all_files(alloc, &[])?,
+        &[(b"into.o", into.as_slice()), (b"empty", b"")],
+    )?;
     let yields = application(alloc, &YIELDS_AND_JUMPS, &[])?;
-    add(&mut files, b"into.o", into.as_slice())?;
-    add(&mut files, b"yields.o", yields.as_slice())?;
-    add(&mut files, b"empty", b"")?;
-    Ok(files)
+    with_files(files, &[(b"yields.o", yields.as_slice())])
 }
 
 /// A run with a fault, and what it prints.
 fn try_tail(rt: &impl Abort, alloc: Global, line: &str, out: &str) -> Result<(), Fail> {
-    let mut files = tailed(alloc)?;
     let case = Case {
         line,
         out,
         err: "",
         status: 6,
     };
-    try_case(rt, alloc, &mut files, &[], &case)
+    try_tailed(rt, alloc, &[], &case)
+}
+
+/// Does what a case's words say in that folder, and tells where it comes to something else. These writes of out fail.
+fn try_tailed(rt: &impl Abort, alloc: Global, fail: &[u32], case: &Case) -> Result<(), Fail> {
+    let mut files = tailed(alloc)?;
+    try_case(rt, alloc, &mut files, fail, case)
 }
 
 /// The first step's line stands before the last eight.
@@ -123,64 +128,61 @@ end quiet 9 emits 0 faults 1\n";
     try_tail(&rt, rt.alloc(), "solo --tail yields.o 100", out)
 }
 
-/// Without a fault the option prints nothing more.
-#[test]
-fn no_fault_has_no_tail(rt: HostRuntime) -> Result<(), Fail> {
-    let mut files = tailed(rt.alloc())?;
-    let case = Case {
-        line: "solo --tail e.o 100",
-        out: "a0 6000 602A 2000 2010\n\
+/// A run of the application that emits 5 and exits.
+const NO_FAULT: Case = Case {
+    line: "solo --tail e.o 100",
+    out: "a0 6000 602A 2000 2010\n\
 7 a0.t0 emit 0005\n\
 13 a0.t0 exit last\n\
 end quiet 13 emits 1 faults 0\n",
-        err: "",
-        status: 0,
-    };
-    try_case(&rt, rt.alloc(), &mut files, &[], &case)
+    err: "",
+    status: 0,
+};
+
+/// Without a fault the option prints nothing more.
+#[test]
+fn no_fault_has_no_tail(rt: HostRuntime) -> Result<(), Fail> {
+    try_tailed(&rt, rt.alloc(), &[], &NO_FAULT)
 }
+
+/// What stands on out where the third write fails.
+const CUT: Case = Case {
+    line: "solo --tail s.o 100",
+    out: "a0 6000 6024 2000 2010\n| 2 a0.t0 6004 4205\n",
+    err: "retos: write fault\n",
+    status: 4,
+};
 
 /// Each line of the tail is written by a call of its own: where the third fails, counted from 0 as 2, two lines stand on out.
 #[test]
 fn each_line_of_the_tail_is_a_write_of_its_own(rt: HostRuntime) -> Result<(), Fail> {
-    let mut files = tailed(rt.alloc())?;
-    let case = Case {
-        line: "solo --tail s.o 100",
-        out: "a0 6000 6024 2000 2010\n| 2 a0.t0 6004 4205\n",
-        err: "retos: write fault\n",
-        status: 4,
-    };
-    try_case(&rt, rt.alloc(), &mut files, &[2], &case)
+    try_tailed(&rt, rt.alloc(), &[2], &CUT)
 }
+
+/// Lines of words that are no command.
+const NO_TAILS: [&str; 16] = [
+    "solo --tail",
+    "solo --tail s.o",
+    "solo --tail --tail s.o 9",
+    "solo --all --tail --all s.o 9",
+    "solo --tail --all --tail s.o 9",
+    "solo s.o --tail 9",
+    "solo s.o 9 --tail",
+    "run --tail --tail empty 9 s.o",
+    "run --all --all empty 9 s.o",
+    "run --all empty --tail 9 s.o",
+    "run --tail empty 9 --all s.o",
+    "run --tail empty 9",
+    "check --tail s.o",
+    "--tail solo s.o 9",
+    "solo -tail s.o 9",
+    "solo --Tail s.o 9",
+];
 
 #[test]
 fn the_option_stands_behind_the_command_and_once(rt: HostRuntime) -> Result<(), Fail> {
-    let lines = [
-        "solo --tail",
-        "solo --tail s.o",
-        "solo --tail --tail s.o 9",
-        "solo --all --tail --all s.o 9",
-        "solo --tail --all --tail s.o 9",
-        "solo s.o --tail 9",
-        "solo s.o 9 --tail",
-        "run --tail --tail empty 9 s.o",
-        "run --all --all empty 9 s.o",
-        "run --all empty --tail 9 s.o",
-        "run --tail empty 9 --all s.o",
-        "run --tail empty 9",
-        "check --tail s.o",
-        "--tail solo s.o 9",
-        "solo -tail s.o 9",
-        "solo --Tail s.o 9",
-    ];
-    for line in lines {
-        let mut files = tailed(rt.alloc())?;
-        let case = Case {
-            line,
-            out: "",
-            err: "retos: words\n",
-            status: 2,
-        };
-        try_case(&rt, rt.alloc(), &mut files, &[], &case)?;
+    for line in &NO_TAILS {
+        try_tailed(&rt, rt.alloc(), &[], &no_command(line))?;
     }
     Ok(())
 }

@@ -2,7 +2,7 @@
 
 ghost use Rattle.std.specs.Prelude.{◌≡◌, None, IfOk};
 
-use crate::test_support::{Case, Left, add, folder, guarded, leave};
+use crate::test_support::{Case, Stored, add, compare, filled, guarded, leave, with_files};
 use edge_io::mem_folder::MemFolder;
 use std::alloc::Global;
 use std::process::Abort;
@@ -23,38 +23,20 @@ pub fn add_guarded(alloc: Global, files: &mut MemFolder, source: &Source) -> Res
     add(files, source.name, object.as_slice())
 }
 
-/// A folder with a script, which is named `s`, and with the objects of sources.
-pub fn node(alloc: Global, script: &[u8], sources: &[Source]) -> Result<MemFolder, Fail>
+/// A folder with a script, which is named `s`, and with the objects of sources, in which these reads fail.
+pub fn node(
+    alloc: Global,
+    fail: &[u32],
+    script: &[u8],
+    sources: &[Source],
+) -> Result<MemFolder, Fail>
     ensures { IfOk result (λ files. files.created ≡ None) }
 {
-    let mut files = folder(alloc, &[])?;
-    add(&mut files, b"s", script)?;
+    let mut files = filled(alloc, fail, &[(b"s", script)])?;
     for source in sources {
         add_guarded(alloc, &mut files, source)?;
     }
     Ok(files)
-}
-
-/// Tells where what words left differs from a case.
-fn compare(rt: &impl Abort, left: &Left, case: &Case) {
-    assert_eq!(rt;
-        left.out.bytes(),
-        case.out.as_bytes(),
-        "out of {}",
-        case.line
-    );
-    assert_eq!(rt;
-        left.err.bytes(),
-        case.err.as_bytes(),
-        "err of {}",
-        case.line
-    );
-    assert_eq!(rt;
-        left.status.number(),
-        case.status,
-        "status of {}",
-        case.line
-    );
 }
 
 /// Does what a case's words say, and tells where it comes to something else.
@@ -79,6 +61,20 @@ pub fn try_run(
     script: &[u8],
     case: &Case,
 ) -> Result<(), Fail> {
-    let mut files = node(alloc, script, sources)?;
+    let mut files = node(alloc, &[], script, sources)?;
+    try_node(rt, alloc, &mut files, case)
+}
+
+/// The same where the folder has these files too.
+pub fn try_beside(
+    rt: &impl Abort,
+    alloc: Global,
+    sources: &[Source],
+    script: &[u8],
+    stored: &[Stored],
+    case: &Case,
+) -> Result<(), Fail> {
+    let files = node(alloc, &[], script, sources)?;
+    let mut files = with_files(files, stored)?;
     try_node(rt, alloc, &mut files, case)
 }

@@ -86,7 +86,7 @@ pub fn folder(alloc: Global, fail: &[u32]) -> Result<MemFolder, AllocError>
 }
 
 /// The calls that are to fail: reads and writes of the folder, and writes of out.
-#[derive(Drop)]
+#[derive(Clone, Copy)]
 pub struct Failing<'a> {
     pub reads: &'a [u32],
     pub writes: &'a [u32],
@@ -123,12 +123,22 @@ pub fn words_of(alloc: Global, line: &str) -> Result<Words, AllocError> {
 }
 
 /// What a line of words is to do in a folder: what stands on out and on err, and the status.
-#[derive(Drop)]
+#[derive(Clone, Copy)]
 pub struct Case<'a> {
     pub line: &'a str,
     pub out: &'a str,
     pub err: &'a str,
     pub status: u8,
+}
+
+/// A line of words that is no command.
+pub fn no_command<'a>(line: &'a str) -> Case<'a> {
+    Case {
+        line,
+        out: "",
+        err: "retos: words\n",
+        status: 2,
+    }
 }
 
 /// Does what words say in a folder in which no name was created.
@@ -157,9 +167,22 @@ pub struct Left {
 pub fn leave(alloc: Global, files: &mut MemFolder, line: &str, room: u32) -> Result<Left, Fail>
     requires { files.old.created ≡ None }
 {
+    let out = MemSink::new(alloc, room, Calls::new(alloc), Calls::new(alloc))?;
+    let err = sink(alloc, &[])?;
+    leave_on(alloc, files, line, out, err)
+}
+
+/// Does what a line of words says, with these sinks.
+pub fn leave_on(
+    alloc: Global,
+    files: &mut MemFolder,
+    line: &str,
+    mut out: MemSink,
+    mut err: MemSink,
+) -> Result<Left, Fail>
+    requires { files.old.created ≡ None }
+{
     let words = words_of(alloc, line)?;
-    let mut out = MemSink::new(alloc, room, Calls::new(alloc), Calls::new(alloc))?;
-    let mut err = sink(alloc, &[])?;
     let status = do_words(alloc, &words, files, &mut out, &mut err);
     Ok(Left { out, err, status })
 }
@@ -193,10 +216,23 @@ pub fn try_pieces(
     requires { files.old.created ≡ None }
 {
     let left = leave(alloc, files, line, 1_000_000)?;
-    assert_eq!(rt; left.err.bytes(), b"".as_slice(), "err of {line}");
-    assert_eq!(rt; left.status.number(), status, "status of {line}");
+    compare_err(rt, &left, "", line);
+    compare_status(rt, &left, status, line);
     find_pieces(rt, left.out.bytes(), pieces, line);
     Ok(())
+}
+
+/// The same in a folder of these files.
+pub fn try_stored_pieces(
+    rt: &impl Abort,
+    alloc: Global,
+    stored: &[Stored],
+    line: &str,
+    pieces: &[&str],
+    status: u8,
+) -> Result<(), Fail> {
+    let mut files = filled(alloc, &[], stored)?;
+    try_pieces(rt, alloc, &mut files, line, pieces, status)
 }
 
 /// What a folder holds under a name.
@@ -208,23 +244,28 @@ pub fn held_bytes(alloc: Global, files: &MemFolder, name: &[u8]) -> Result<Bytes
     }
 }
 
-/// A folder of one file, with room for 2,000 bytes of another.
-fn one_file(alloc: Global, name: &[u8], whole: &[u8]) -> Result<MemFolder, Fail>
-    ensures { IfOk result (λ files. files.created ≡ None) }
-{
+/// Tells where a folder holds something else under a name.
+pub fn compare_held(
+    rt: &impl Abort,
+    files: &MemFolder,
+    name: &[u8],
+    wanted: Option<&[u8]>,
+    line: &str,
+) -> Result<(), Fail> {
+    let name = Name::from_slice(name).ok_or("a name")?;
+    assert_eq!(rt; files.held(&name), wanted, "the file of {line}");
+    Ok(())
+}
+
+/// What a command leaves in `y.o`, which has `x` as its input. There is room for 2,000 bytes.
+fn made(alloc: Global, line: &str, input: &[u8]) -> Result<Bytes, Fail> {
     let none = Failing {
         reads: &[],
         writes: &[],
         out: &[],
     };
-    let mut files = writable(alloc, 2000, &none)?;
-    add(&mut files, name, whole)?;
-    Ok(files)
-}
-
-/// What a command leaves in `y.o`, which has `x` as its input.
-fn made(alloc: Global, line: &str, input: &[u8]) -> Result<Bytes, Fail> {
-    let mut files = one_file(alloc, b"x", input)?;
+    let files = writable(alloc, 2000, &none)?;
+    let mut files = with_files(files, &[(b"x", input)])?;
     let _ = leave(alloc, &mut files, line, 1000)?;
     held_bytes(alloc, &files, b"y.o")
 }
@@ -235,7 +276,29 @@ pub fn guarded(alloc: Global, source: &[u8]) -> Result<Bytes, Fail> {
     made(alloc, "insert x y.o", plain.as_slice())
 }
 
-/// Does what a case's words say, and tells where it comes to something else.
+/// Tells where bytes aren't those of a text.
+fn compare_text(rt: &impl Abort, bytes: &[u8], text: &str, of: &str, line: &str) {
+    assert_eq!(rt; bytes, text.as_bytes(), "{of} of {line}");
+}
+
+/// Tells where what words left differs from a case.
+pub fn compare(rt: &impl Abort, left: &Left, case: &Case) {
+    compare_text(rt, left.out.bytes(), case.out, "out", case.line);
+    compare_err(rt, left, case.err, case.line);
+    compare_status(rt, left, case.status, case.line);
+}
+
+/// Tells where what stands on err is another text.
+pub fn compare_err(rt: &impl Abort, left: &Left, text: &str, line: &str) {
+    compare_text(rt, left.err.bytes(), text, "err", line);
+}
+
+/// Tells where the status of words is another.
+pub fn compare_status(rt: &impl Abort, left: &Left, status: u8, line: &str) {
+    assert_eq!(rt; left.status.number(), status, "status of {line}");
+}
+
+/// Does what a case's words say, and tells where it comes to something else. These writes of out fail.
 pub fn try_case(
     rt: &impl Abort,
     alloc: Global,
@@ -245,30 +308,83 @@ pub fn try_case(
 ) -> Result<(), Fail>
     requires { files.old.created ≡ None }
 {
-    let words = words_of(alloc, case.line)?;
-    let mut out = sink(alloc, fail)?;
-    let mut err = sink(alloc, &[])?;
-    let status = do_words(alloc, &words, files, &mut out, &mut err);
-    assert_eq!(rt; out.bytes(), case.out.as_bytes(), "out of {}", case.line);
-    assert_eq!(rt; err.bytes(), case.err.as_bytes(), "err of {}", case.line);
-    assert_eq!(rt; status.number(), case.status, "status of {}", case.line);
+    let out = sink(alloc, fail)?;
+    let err = sink(alloc, &[])?;
+    let left = leave_on(alloc, files, case.line, out, err)?;
+    compare(rt, &left, case);
     Ok(())
 }
+
+/// Does what a case's words say in a folder of these files, and tells where it comes to something else.
+pub fn try_stored(
+    rt: &impl Abort,
+    alloc: Global,
+    stored: &[Stored],
+    case: &Case,
+) -> Result<(), Fail> {
+    let mut files = filled(alloc, &[], stored)?;
+    try_case(rt, alloc, &mut files, &[], case)
+}
+
+/// The same over the files of the cases, in which these reads and these writes of out fail.
+pub fn try_failing(
+    rt: &impl Abort,
+    alloc: Global,
+    reads: &[u32],
+    writes: &[u32],
+    case: &Case,
+) -> Result<(), Fail> {
+    let mut files = all_files(alloc, reads)?;
+    try_case(rt, alloc, &mut files, writes, case)
+}
+
+/// Tries each case in a folder of its own, with the files of the cases.
+pub fn try_cases(rt: &impl Abort, alloc: Global, cases: &[Case]) -> Result<(), Fail> {
+    for case in cases {
+        try_failing(rt, alloc, &[], &[], case)?;
+    }
+    Ok(())
+}
+
+/// A file that a folder holds: its name, and its bytes.
+pub type Stored<'a> = (&'a [u8], &'a [u8]);
+
+/// The files of the cases, but one.
+const STORED: [Stored; 8] = [
+    (b"j.o", &SELF_JUMP),
+    (b"s.o", &GUARDED_STORE),
+    (b"low.o", &STORE_BELOW),
+    (b"u.o", &UNGUARDED),
+    (b"p.o", &PUSHES),
+    (b"e.o", &EMITS),
+    (b"m.o", &MODULE),
+    (b"empty.o", b""),
+];
 
 /// The files of the cases.
 pub fn all_files(alloc: Global, fail: &[u32]) -> Result<MemFolder, Fail>
     ensures { IfOk result (λ files. files.created ≡ None) }
 {
-    let mut files = folder(alloc, fail)?;
-    add(&mut files, b"j.o", &SELF_JUMP)?;
-    add(&mut files, b"s.o", &GUARDED_STORE)?;
-    add(&mut files, b"low.o", &STORE_BELOW)?;
-    add(&mut files, b"u.o", &UNGUARDED)?;
-    add(&mut files, b"p.o", &PUSHES)?;
-    add(&mut files, b"e.o", &EMITS)?;
-    add(&mut files, b"m.o", &MODULE)?;
-    add(&mut files, b"short.o", &GUARDED_STORE[..67])?;
-    add(&mut files, b"empty.o", &[])?;
+    let files = filled(alloc, fail, &STORED)?;
+    with_files(files, &[(b"short.o", &GUARDED_STORE[..67])])
+}
+
+/// A folder of files, in which these reads fail.
+pub fn filled(alloc: Global, fail: &[u32], stored: &[Stored]) -> Result<MemFolder, Fail>
+    ensures { IfOk result (λ files. files.created ≡ None) }
+{
+    let files = folder(alloc, fail)?;
+    with_files(files, stored)
+}
+
+/// A folder with these files beside those that it has.
+pub fn with_files(mut files: MemFolder, stored: &[Stored]) -> Result<MemFolder, Fail>
+    requires { files.created ≡ None }
+    ensures { IfOk result (λ more. more.created ≡ None) }
+{
+    for (name, whole) in stored {
+        add(&mut files, name, whole)?;
+    }
     Ok(files)
 }
 
