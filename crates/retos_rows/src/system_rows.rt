@@ -2,7 +2,7 @@
 
 ghost use Rattle.std.specs.Prelude.{◌≡◌, None};
 
-use crate::test_support::{SELF_JUMP, sink, words_of};
+use crate::test_support::{Case, Left, SELF_JUMP, compare, sink, words_of};
 use edge_io::mem_sink::MemSink;
 use edge_io::name::Name;
 use edge_io::standard::StdFolder;
@@ -12,6 +12,7 @@ use retos_cli::outcome::Status;
 use retos_cli::top::retos;
 use std::alloc::Global;
 use std::fs;
+use std::process::Abort;
 use std::test::Fail;
 
 /// Does what words say in the system's folder, in which no name was created.
@@ -28,26 +29,48 @@ fn do_here(
     retos(alloc, words, files, out, err)
 }
 
+/// What the assembler prints of the source.
+const ASSEMBLED: Case = Case {
+    line: "asm retos_cli_test.s retos_cli_test.o",
+    out: "retos_cli_test.o: assembled 1 words\n",
+    err: "",
+    status: 0,
+};
+
+/// Assembles the source in the system's folder, and tells where it comes to something else.
+fn try_here(rt: &impl Abort, alloc: Global, files: &mut StdFolder) -> Result<(), Fail>
+    requires { files.old.created ≡ None }
+{
+    let mut out = sink(alloc, &[])?;
+    let mut err = sink(alloc, &[])?;
+    let words = words_of(alloc, ASSEMBLED.line)?;
+    let status = do_here(alloc, &words, files, &mut out, &mut err);
+    compare(rt, &Left { out, err, status }, &ASSEMBLED);
+    Ok(())
+}
+
+/// Tells where the system's folder doesn't hold these bytes under a name.
+fn compare_file(
+    rt: &impl Abort,
+    alloc: Global,
+    files: &mut StdFolder,
+    name: &Name,
+    wanted: &[u8],
+) -> Result<(), Fail> {
+    let got = read_all(alloc, files, name).ok().ok_or("the object")?;
+    assert_eq!(rt; got.as_slice(), wanted);
+    Ok(())
+}
+
 #[test]
 fn a_source_of_the_system_is_assembled(rt: HostRuntime) -> Result<(), Fail> {
     let source = Name::from_slice(b"retos_cli_test.s").ok_or("a name")?;
     let object = Name::from_slice(b"retos_cli_test.o").ok_or("a name")?;
     let text = b".app 16 1\n.entry s\ns: JMP s\n";
     assert!(rt; write_file(&mut StdFolder::new(rt), &source, text).is_ok());
-    let words = words_of(rt.alloc(), "asm retos_cli_test.s retos_cli_test.o")?;
     let mut files = StdFolder::new(rt);
-    let mut out = sink(rt.alloc(), &[])?;
-    let mut err = sink(rt.alloc(), &[])?;
-    let status = do_here(rt.alloc(), &words, &mut files, &mut out, &mut err);
-    assert_eq!(rt; status.number(), 0);
-    assert_eq!(rt;
-        out.bytes(),
-        b"retos_cli_test.o: assembled 1 words\n".as_slice()
-    );
-    let got = read_all(rt.alloc(), &mut files, &object)
-        .ok()
-        .ok_or("the object")?;
-    assert_eq!(rt; got.as_slice(), SELF_JUMP.as_slice());
+    try_here(&rt, rt.alloc(), &mut files)?;
+    compare_file(&rt, rt.alloc(), &mut files, &object, &SELF_JUMP)?;
     fs::remove_file(&rt, "retos_cli_test.s")?;
     fs::remove_file(&rt, "retos_cli_test.o")?;
     Ok(())
