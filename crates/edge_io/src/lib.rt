@@ -21,7 +21,5 @@ pub mod sink;
 pub mod standard;
 mod std_folder;
 mod std_sink;
-#[cfg(test)]
-mod tests;
 pub mod whole;
 pub mod words;

@@ -1,6 +1,6 @@
 use crate::test_support::{
-    Case, Stored, compare_err, compare_status, folder, leave_on, sink, try_cases, try_failing,
-    try_stored,
+    Case, Stored, compare_err, compare_status, leave_among, sink, try_cases, try_failing,
+    try_stored, unwritten,
 };
 use edge_io::lists::Bytes;
 use std::test::Fail;
@@ -185,11 +185,11 @@ fn failing_reads_and_writes_are_told(rt: HostRuntime) -> Result<(), Fail> {
 
 #[test]
 fn a_refusal_that_cannot_be_written_is_a_write_fault(rt: HostRuntime) -> Result<(), Fail> {
-    let mut files = folder(rt.alloc(), &[])?;
-    let (out, err) = (sink(rt.alloc(), &[])?, sink(rt.alloc(), &[0])?);
-    let left = leave_on(rt.alloc(), &mut files, "solo none.o 9", out, err)?;
-    compare_status(&rt, &left, 4, "solo none.o 9");
-    compare_err(&rt, &left, "", "solo none.o 9");
+    let line = "solo none.o 9";
+    let mut left = unwritten(rt.alloc(), sink(rt.alloc(), &[])?, &[0])?;
+    leave_among(rt.alloc(), &[], line, &mut left)?;
+    compare_status(&rt, &left, 4, line);
+    compare_err(&rt, &left, "", line);
     Ok(())
 }
 

@@ -3,7 +3,7 @@
 use crate::clock_rows::SOURCES;
 use crate::test_nodes::node;
 use crate::test_support::{
-    Case, GUARDED_STORE, all_files, calls, compare, leave_on, sink, try_case, try_stored,
+    Case, GUARDED_STORE, calls, compare, leave_cases, try_case, try_stored, unwritten,
 };
 use edge_io::lists::Bytes;
 use edge_io::mem_sink::MemSink;
@@ -113,6 +113,11 @@ fn each_read_of_a_run_that_fails_names_its_input(rt: HostRuntime) -> Result<(), 
     Ok(())
 }
 
+/// A sink with room for 100 bytes, in which these writes fail and these take nothing.
+fn cut_sink(alloc: Global, fails: &[u32], takes_none: &[u32]) -> Result<MemSink, AllocError> {
+    MemSink::new(alloc, 100, calls(alloc, fails)?, calls(alloc, takes_none)?)
+}
+
 /// A run of the application that emits 5 and exits, whose write with this number fails, or takes nothing.
 fn try_cut(
     rt: &impl Abort,
@@ -127,9 +132,8 @@ fn try_cut(
         err: "retos: write fault\n",
         status: 4,
     };
-    let out = MemSink::new(alloc, 100, calls(alloc, fails)?, calls(alloc, takes_none)?)?;
-    let mut files = all_files(alloc, &[])?;
-    let left = leave_on(alloc, &mut files, case.line, out, sink(alloc, &[])?)?;
+    let mut left = unwritten(alloc, cut_sink(alloc, fails, takes_none)?, &[])?;
+    leave_cases(alloc, case.line, &mut left)?;
     compare(rt, &left, &case);
     Ok(())
 }

@@ -42,6 +42,23 @@ fn first_words(files: &MemFolder) -> Result<[u8; 4], Fail> {
     }
 }
 
+/// Tells where the object's first two words are others.
+fn compare_first(
+    rt: &impl Abort,
+    files: &MemFolder,
+    words: [u8; 4],
+    line: &str,
+) -> Result<(), Fail> {
+    assert_eq!(rt; first_words(files)?, words, "the first words of {line}");
+    Ok(())
+}
+
+/// Tells where `g.o` holds another number of bytes.
+fn compare_size(rt: &impl Abort, files: &MemFolder, size: Option<usize>) -> Result<(), Fail> {
+    assert_eq!(rt; written(files)?, size);
+    Ok(())
+}
+
 /// Makes the object of a number, and checks it.
 fn try_gen(rt: &impl Abort, alloc: Global, row: &(&str, &str, &str, [u8; 4])) -> Result<(), Fail> {
     let (line, out, checked, words) = row;
@@ -53,7 +70,7 @@ fn try_gen(rt: &impl Abort, alloc: Global, row: &(&str, &str, &str, [u8; 4])) ->
         status: 0,
     };
     try_case(rt, alloc, &mut files, &[], &made)?;
-    assert_eq!(rt; first_words(&files)?, *words, "the first words of {}", line);
+    compare_first(rt, &files, *words, line)?;
     check_again(rt, alloc, &files, checked)
 }
 
@@ -150,8 +167,7 @@ fn try_write_fault(
     };
     let mut files = writable(alloc, room, &fail)?;
     try_case(rt, alloc, &mut files, fails, &case)?;
-    assert_eq!(rt; written(&files)?, left);
-    Ok(())
+    compare_size(rt, &files, left)
 }
 
 /// The create is write 0 of the folder and the first append write 1. The text of 3,014 words has 20 bytes before them, and four

@@ -2,7 +2,7 @@
 
 ghost use Rattle.std.specs.Prelude.{◌≡◌, None};
 
-use crate::test_support::{Case, Left, SELF_JUMP, compare, sink, words_of};
+use crate::test_support::{Case, SELF_JUMP, compare, sink, unwritten, words_of};
 use edge_io::mem_sink::MemSink;
 use edge_io::name::Name;
 use edge_io::standard::StdFolder;
@@ -29,6 +29,16 @@ fn do_here(
     retos(alloc, words, files, out, err)
 }
 
+/// Writes the source of a jump to itself into the system's folder, in which no name was created.
+fn put_source(rt: &impl Abort, files: &mut StdFolder) -> Result<(), Fail>
+    requires { files.old.created ≡ None }
+{
+    let source = Name::from_slice(b"retos_cli_test.s").ok_or("a name")?;
+    let text = b".app 16 1\n.entry s\ns: JMP s\n";
+    assert!(rt; write_file(files, &source, text).is_ok());
+    Ok(())
+}
+
 /// What the assembler prints of the source.
 const ASSEMBLED: Case = Case {
     line: "asm retos_cli_test.s retos_cli_test.o",
@@ -41,11 +51,10 @@ const ASSEMBLED: Case = Case {
 fn try_here(rt: &impl Abort, alloc: Global, files: &mut StdFolder) -> Result<(), Fail>
     requires { files.old.created ≡ None }
 {
-    let mut out = sink(alloc, &[])?;
-    let mut err = sink(alloc, &[])?;
     let words = words_of(alloc, ASSEMBLED.line)?;
-    let status = do_here(alloc, &words, files, &mut out, &mut err);
-    compare(rt, &Left { out, err, status }, &ASSEMBLED);
+    let mut left = unwritten(alloc, sink(alloc, &[])?, &[])?;
+    left.status = do_here(alloc, &words, files, &mut left.out, &mut left.err);
+    compare(rt, &left, &ASSEMBLED);
     Ok(())
 }
 
@@ -64,10 +73,8 @@ fn compare_file(
 
 #[test]
 fn a_source_of_the_system_is_assembled(rt: HostRuntime) -> Result<(), Fail> {
-    let source = Name::from_slice(b"retos_cli_test.s").ok_or("a name")?;
     let object = Name::from_slice(b"retos_cli_test.o").ok_or("a name")?;
-    let text = b".app 16 1\n.entry s\ns: JMP s\n";
-    assert!(rt; write_file(&mut StdFolder::new(rt), &source, text).is_ok());
+    put_source(&rt, &mut StdFolder::new(rt))?;
     let mut files = StdFolder::new(rt);
     try_here(&rt, rt.alloc(), &mut files)?;
     compare_file(&rt, rt.alloc(), &mut files, &object, &SELF_JUMP)?;

@@ -163,28 +163,54 @@ pub struct Left {
     pub status: Status,
 }
 
+/// Streams on which nothing stands yet: this out, and an err in which these writes fail.
+pub fn unwritten(alloc: Global, out: MemSink, fail: &[u32]) -> Result<Left, AllocError> {
+    Ok(Left {
+        out,
+        err: sink(alloc, fail)?,
+        status: Status::Done,
+    })
+}
+
 /// Does what a line of words says, where out has room for so many bytes.
 pub fn leave(alloc: Global, files: &mut MemFolder, line: &str, room: u32) -> Result<Left, Fail>
     requires { files.old.created ≡ None }
 {
     let out = MemSink::new(alloc, room, Calls::new(alloc), Calls::new(alloc))?;
-    let err = sink(alloc, &[])?;
-    leave_on(alloc, files, line, out, err)
+    let mut left = unwritten(alloc, out, &[])?;
+    leave_on(alloc, files, line, &mut left)?;
+    Ok(left)
 }
 
-/// Does what a line of words says, with these sinks.
+/// Does what a line of words says, on these streams.
 pub fn leave_on(
     alloc: Global,
     files: &mut MemFolder,
     line: &str,
-    mut out: MemSink,
-    mut err: MemSink,
-) -> Result<Left, Fail>
+    left: &mut Left,
+) -> Result<(), Fail>
     requires { files.old.created ≡ None }
 {
     let words = words_of(alloc, line)?;
-    let status = do_words(alloc, &words, files, &mut out, &mut err);
-    Ok(Left { out, err, status })
+    left.status = do_words(alloc, &words, files, &mut left.out, &mut left.err);
+    Ok(())
+}
+
+/// The same in a folder of these files.
+pub fn leave_among(
+    alloc: Global,
+    stored: &[Stored],
+    line: &str,
+    left: &mut Left,
+) -> Result<(), Fail> {
+    let mut files = filled(alloc, &[], stored)?;
+    leave_on(alloc, &mut files, line, left)
+}
+
+/// The same in a folder with the files of the cases.
+pub fn leave_cases(alloc: Global, line: &str, left: &mut Left) -> Result<(), Fail> {
+    let mut files = all_files(alloc, &[])?;
+    leave_on(alloc, &mut files, line, left)
 }
 
 /// Whether a piece stands somewhere in bytes.
@@ -308,9 +334,8 @@ pub fn try_case(
 ) -> Result<(), Fail>
     requires { files.old.created ≡ None }
 {
-    let out = sink(alloc, fail)?;
-    let err = sink(alloc, &[])?;
-    let left = leave_on(alloc, files, case.line, out, err)?;
+    let mut left = unwritten(alloc, sink(alloc, fail)?, &[])?;
+    leave_on(alloc, files, case.line, &mut left)?;
     compare(rt, &left, case);
     Ok(())
 }
