@@ -564,8 +564,10 @@ const LEFT_LINES: [(u16, [u8; 5]); 3] = [
 
 /// Tells which bytes from an address on aren't these.
 fn compare_bytes(rt: &impl Abort, m: &FlatMem, at: u16, wanted: &[u8]) {
-    for (i, byte) in wanted.iter().enumerate() {
-        assert_eq!(rt; m.byte(at.wrapping_add(i as u16)), *byte, "{at:#x}, {i}");
+    let mut next = at;
+    for byte in wanted {
+        assert_eq!(rt; m.byte(next), *byte, "{next:#x}");
+        next = next.wrapping_add(1);
     }
 }
 
