@@ -14,6 +14,7 @@ use crate::queues::place_of;
 use crate::*;
 use arrayvec::ArrayVec;
 use flat_mem::FlatMem;
+use std::process::Abort;
 use std::test::Fail;
 
 /// Whether a thread stands in neither list, and the lists hold.
@@ -136,38 +137,76 @@ fn thread_row(t: u8, priority: u16) -> ThreadRow {
     }
 }
 
+/// Tells which words in memory are others.
+fn compare_words(rt: &impl Abort, m: &FlatMem, words: &[(u16, u16)]) {
+    for (at, word) in words {
+        assert_eq!(rt; m.word(*at), *word, "at {at:#x}");
+    }
+}
+
+/// Tells which bytes in memory are others.
+fn compare_bytes(rt: &impl Abort, m: &FlatMem, bytes: &[(u16, u8)]) {
+    for (at, byte) in bytes {
+        assert_eq!(rt; m.byte(*at), *byte, "at {at:#x}");
+    }
+}
+
+/// Words of the empty kernel, one beside it, and two vectors.
+const EMPTY_WORDS: [(u16, u16); 18] = [
+    (0x0200, 0x1006),
+    (0x0202, 0x1100),
+    (0x0204, 0xFFFF),
+    (0x0206, 0xFFFF),
+    (0x0208, 0),
+    (0x0234, 0),
+    (0x0252, 0),
+    (0x0260, 0),
+    (0x0320, 0xFFFF),
+    (0x0322, 0),
+    (0x041C, 0xFFFF),
+    (0x0A20, 0xFFFF),
+    (0x0A26, 0),
+    (0x0B20, 0xFFFF),
+    (0x0D5E, 0xFFFF),
+    (0x1000, 0x1234),
+    (0xFFE0, 0xF080),
+    (0xFFFA, 0xF09A),
+];
+
 #[test]
 fn clear_writes_the_empty_kernel_and_the_vectors(rt: HostRuntime) -> Result<(), Fail> {
     let mut m = FlatMem::new(rt.alloc())?;
     m.copy_in(0x0234, &[7; 32]);
     m.set_word(0x1000, 0x1234);
     clear(&mut m);
-    let words: [(u16, u16); 18] = [
-        (0x0200, 0x1006),
-        (0x0202, 0x1100),
-        (0x0204, 0xFFFF),
-        (0x0206, 0xFFFF),
-        (0x0208, 0),
-        (0x0234, 0),
-        (0x0252, 0),
-        (0x0260, 0),
-        (0x0320, 0xFFFF),
-        (0x0322, 0),
-        (0x041C, 0xFFFF),
-        (0x0A20, 0xFFFF),
-        (0x0A26, 0),
-        (0x0B20, 0xFFFF),
-        (0x0D5E, 0xFFFF),
-        (0x1000, 0x1234),
-        (0xFFE0, 0xF080),
-        (0xFFFA, 0xF09A),
-    ];
-    for (at, word) in words {
-        assert_eq!(rt; m.word(at), word, "at {at:#x}");
-    }
+    compare_words(&rt, &m, &EMPTY_WORDS);
     assert!(rt; queues_hold(&m));
     Ok(())
 }
+
+/// Words of rows that are written, and of the ends of others.
+const ROW_WORDS: [(u16, u16); 20] = [
+    (0x020A, 0x2001),
+    (0x0290, 1),
+    (0x0292, 0x6000),
+    (0x029A, 0x20),
+    (0x029E, 2),
+    (0x02A0, 0),
+    (0x02F0, 1),
+    (0x02F8, 0x2000),
+    (0x02FA, 0),
+    (0x0334, 1),
+    (0x0336, 0x6012),
+    (0x09F0, 0x011F),
+    (0x0A0E, 0x011F),
+    (0x0A10, 0x0120),
+    (0x0A12, 7),
+    (0x0A1A, 0x0125),
+    (0x0A1C, 0),
+    (0x0A68, 2),
+    (0x0A6A, 0x0003),
+    (0x0D40, 0xFF09),
+];
 
 #[test]
 fn rows_stand_at_their_addresses(rt: HostRuntime) -> Result<(), Fail> {
@@ -208,31 +247,7 @@ fn rows_stand_at_their_addresses(rt: HostRuntime) -> Result<(), Fail> {
     assert!(rt; put_mutex(&mut m, 2, 1, &mutex_row));
     assert!(rt; put_line(&mut m, 13, &members(&[9])));
     put(&mut m, SysWord::Pending, 0x2001);
-    let words: [(u16, u16); 20] = [
-        (0x020A, 0x2001),
-        (0x0290, 1),
-        (0x0292, 0x6000),
-        (0x029A, 0x20),
-        (0x029E, 2),
-        (0x02A0, 0),
-        (0x02F0, 1),
-        (0x02F8, 0x2000),
-        (0x02FA, 0),
-        (0x0334, 1),
-        (0x0336, 0x6012),
-        (0x09F0, 0x011F),
-        (0x0A0E, 0x011F),
-        (0x0A10, 0x0120),
-        (0x0A12, 7),
-        (0x0A1A, 0x0125),
-        (0x0A1C, 0),
-        (0x0A68, 2),
-        (0x0A6A, 0x0003),
-        (0x0D40, 0xFF09),
-    ];
-    for (at, word) in words {
-        assert_eq!(rt; m.word(at), word, "at {at:#x}");
-    }
+    compare_words(&rt, &m, &ROW_WORDS);
     assert_eq!(rt; (app(&m, 3), module(&m, 1)), (app_row, module_row));
     assert_eq!(rt;
         (thread(&m, 31), function(&m, 5).address),
@@ -263,62 +278,69 @@ fn lists_of_each_length_are_read_back(rt: HostRuntime) -> Result<(), Fail> {
     Ok(())
 }
 
+/// Priority 3 has threads 5, 1, 3, priority 0 has thread 4, priority 5 has thread 2, and the sleepers are 7, 9, 6, 8.
+const ORDER_BYTES: [(u16, u8); 26] = [
+    (0x0220, 5),
+    (0x0221, 5),
+    (0x0222, 0),
+    (0x0226, 6),
+    (0x0227, 4),
+    (0x022A, 3),
+    (0x022B, 3),
+    (0x0230, 8),
+    (0x0231, 9),
+    (0x0232, 0),
+    (0x044C, 0),
+    (0x044D, 0),
+    (0x047C, 4),
+    (0x047D, 6),
+    (0x04DC, 0),
+    (0x04DD, 2),
+    (0x053C, 2),
+    (0x053D, 0),
+    (0x059C, 10),
+    (0x059D, 0),
+    (0x05FC, 7),
+    (0x05FD, 8),
+    (0x056C, 9),
+    (0x056D, 10),
+    (0x05CC, 0),
+    (0x05CD, 7),
+];
+
+/// A thread, its priority, its tick, and where it goes.
+const ORDERED: [(u8, u16, u16, Place); 10] = [
+    (0, 3, 0, Place::End),
+    (1, 3, 0, Place::End),
+    (2, 5, 0, Place::End),
+    (4, 0, 0, Place::End),
+    (3, 3, 0, Place::End),
+    (5, 3, 0, Place::Front),
+    (6, 0, 5, Place::Sleepers),
+    (7, 0, 3, Place::Sleepers),
+    (8, 0, 5, Place::Sleepers),
+    (9, 0, 4, Place::Sleepers),
+];
+
+/// Writes a thread's row and puts the thread into its list, and tells where that isn't done.
+fn put_ordered(rt: &impl Abort, m: &mut FlatMem, row: &(u8, u16, u16, Place)) {
+    let (t, priority, tick, place) = *row;
+    let mut row = thread_row(t, priority);
+    row.wake_low = tick;
+    row.wake_high = 0;
+    assert!(rt; put_row(m, t, &row), "the row of {t}");
+    assert!(rt; put_in(m, t, place), "the list of {t}");
+}
+
 #[test]
 fn equal_priorities_and_ticks_keep_their_order(rt: HostRuntime) -> Result<(), Fail> {
     let mut m = FlatMem::new(rt.alloc())?;
     clear(&mut m);
-    let rows: [(u8, u16, u16, Place); 10] = [
-        (0, 3, 0, Place::End),
-        (1, 3, 0, Place::End),
-        (2, 5, 0, Place::End),
-        (4, 0, 0, Place::End),
-        (3, 3, 0, Place::End),
-        (5, 3, 0, Place::Front),
-        (6, 0, 5, Place::Sleepers),
-        (7, 0, 3, Place::Sleepers),
-        (8, 0, 5, Place::Sleepers),
-        (9, 0, 4, Place::Sleepers),
-    ];
-    for (t, priority, tick, place) in rows {
-        let mut row = thread_row(t, priority);
-        row.wake_low = tick;
-        row.wake_high = 0;
-        assert!(rt; put_row(&mut m, t, &row));
-        assert!(rt; put_in(&mut m, t, place));
+    for row in &ORDERED {
+        put_ordered(&rt, &mut m, row);
     }
     assert!(rt; take(&mut m, 0));
     assert!(rt; !take(&mut m, 6));
-    // priority 3 has threads 5, 1, 3, priority 0 has thread 4, priority 5 has thread 2, and the sleepers are 7, 9, 6, 8
-    let bytes: [(u16, u8); 26] = [
-        (0x0220, 5),
-        (0x0221, 5),
-        (0x0222, 0),
-        (0x0226, 6),
-        (0x0227, 4),
-        (0x022A, 3),
-        (0x022B, 3),
-        (0x0230, 8),
-        (0x0231, 9),
-        (0x0232, 0),
-        (0x044C, 0),
-        (0x044D, 0),
-        (0x047C, 4),
-        (0x047D, 6),
-        (0x04DC, 0),
-        (0x04DD, 2),
-        (0x053C, 2),
-        (0x053D, 0),
-        (0x059C, 10),
-        (0x059D, 0),
-        (0x05FC, 7),
-        (0x05FD, 8),
-        (0x056C, 9),
-        (0x056D, 10),
-        (0x05CC, 0),
-        (0x05CD, 7),
-    ];
-    for (at, byte) in bytes {
-        assert_eq!(rt; m.byte(at), byte, "at {at:#x}");
-    }
+    compare_bytes(&rt, &m, &ORDER_BYTES);
     Ok(())
 }

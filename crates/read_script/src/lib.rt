@@ -11,8 +11,6 @@
 mod draft;
 pub mod reading;
 mod statements;
-#[cfg(test)]
-mod tests;
 mod text;
 
 pub use reading::read_script;

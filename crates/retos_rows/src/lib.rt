@@ -8,8 +8,8 @@
 //! `clock_rows` a node of two applications; `damage_rows` damaged objects and failing devices; `wide_rows` the guards of version 2.
 //! What they leave comes from outside of the program.
 //!
-//! A test is a table of rows and a loop over it, or a call: what a row does stands in a function of its own. The check of a function
-//! takes long where many values that have to be let go live beside many ways out, so each has few of both.
+//! A test is a table of rows and a loop over it, or a call: what a row does stands in a function of its own. The check of a
+//! function takes long where many values that have to be let go live beside many ways out, so each has few of both.
 #![tactic(auto)]
 
 #[cfg(test)]

@@ -1,6 +1,6 @@
 //! Scripts of a few lines, and the lines that break a rule.
 
-use crate::read_script;
+use read_script::read_script;
 use std::alloc::Global;
 use std::test::*;
 use trace_model::scripts::{At, AtKind, Every, Script, ScriptFault};
