@@ -2,6 +2,7 @@
 
 ghost use Rattle.std.specs.Prelude.{◌≡◌, ◌≤◌, length};
 ghost use Rattle.retos_cli.specs.Lines.{marked_below};
+ghost use Rattle.code_model.specs.declared.object.TheConstants.{CODE_WORDS_MAX};
 
 use code_model::marks::Marks;
 use code_model::object::Object;
@@ -23,7 +24,7 @@ pub fn count_units(o: &Object, units: &Marks) -> u32
 /// How many of the first words are marked.
 #[tactic(auto, using(crate::proofs::Counting::marked_more, crate::proofs::Counting::unmarked_more))]
 fn count_marks(units: &Marks, words: usize) -> u32
-    requires { words ≤ 8192 }
+    requires { words ≤ CODE_WORDS_MAX }
     ensures { result ≡ marked_below units.now words }
 {
     let mut count = 0;
