@@ -67,7 +67,7 @@ eight-is f = omega (arith, weighs (f 0) 1, weighs (f 1) 2, weighs (f 2) 4, weigh
 bit-of : (f : ℕ → Bool) (j : ℕ) → j < 8 → bit_at (eight f) j ≡ weight (f j)
 bit-of f j l = ap (λ (x : ℕ). bit_at x j) (eight-is f)
     ∙ bits-of _ _ _ _ _ _ _ _ (weight-small (f 0)) (weight-small (f 1)) (weight-small (f 2)) (weight-small (f 3)) (weight-small (f 4)) (weight-small (f 5)) (weight-small (f 6)) (weight-small (f 7)) j l
-    ∙ get_or-map-range_with_len (λ (i : ℕ). weight (f i)) 0 8 j j 0 l refl
+    ∙ get_or-map-range_with_len (λ (i : ℕ). weight (f i)) 0 8 j j 0 l (omega arith)
 
 -- ---- whose mark it is
 
