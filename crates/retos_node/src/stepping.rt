@@ -62,12 +62,12 @@ const MASKS: u16 = 0x4000;
 const GIE: u16 = 8;
 
 /// The first and the last entry.
-const FIRST_ENTRY: u16 = 0xF000;
+pub(crate) const FIRST_ENTRY: u16 = 0xF000;
 
 const LAST_ENTRY: u16 = 0xF026;
 
 /// Where the machine idles.
-const IDLE: u16 = 0xF07E;
+pub(crate) const IDLE: u16 = 0xF07E;
 
 /// The routines of the first and of the last line.
 pub(crate) const FIRST_ROUTINE: u16 = 0xF080;
@@ -114,7 +114,7 @@ fn raise(m: &mut FlatMem, mask: u16)
 
 /// The highest pending line, if SR lets interrupts be accepted.
 #[inline(always)]
-fn line_to_accept(m: &FlatMem, r: &Regs) -> Option<u8>
+pub(crate) fn line_to_accept(m: &FlatMem, r: &Regs) -> Option<u8>
     ensures value { result ≡ line_to_accept (kernel_of m.now) r.now }
     ensures line { IfSome result (λ n. n < LINES) }
     ensures pending { IfSome result (λ n. 2 ^ n ≤ pending (kernel_of m.now)) }
@@ -376,7 +376,7 @@ fn instruction(m: &mut FlatMem, r: &mut Regs, who: Who, moment: Moment) -> Recor
 
 /// Runs the instruction at PC, of so many words.
 #[inline(always)]
-fn execute(
+pub(crate) fn execute(
     m: &mut FlatMem,
     r: &mut Regs,
     instr: &Instr,
