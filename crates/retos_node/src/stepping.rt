@@ -376,7 +376,7 @@ fn instruction(m: &mut FlatMem, r: &mut Regs, who: Who, moment: Moment) -> Recor
 
 /// Runs the instruction at PC, of so many words.
 #[inline(always)]
-pub(crate) fn execute(
+fn execute(
     m: &mut FlatMem,
     r: &mut Regs,
     instr: &Instr,
@@ -405,7 +405,7 @@ pub(crate) fn execute(
 
 /// The word at an address.
 #[tactic(auto, unfolding(machine_model::specs::Memory::word_at))]
-fn word(m: &FlatMem, at: u16) -> u16
+pub(crate) fn word(m: &FlatMem, at: u16) -> u16
     ensures { result ≡ word_at m.now at }
 {
     m.word(at)

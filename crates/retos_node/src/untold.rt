@@ -13,10 +13,10 @@ ghost use Rattle.retos_node.specs.Parts.{parts};
 ghost use Rattle.retos_node.specs.Tails.{kept_of};
 ghost use Rattle.retos_node.specs.Untold.{IdlesUntold, IsPlain, IsUntold, plain_record};
 
-use crate::node::Node;
+use crate::node::{Node, Show};
 use crate::objects::ObjectList;
 use crate::step_laws::{instruction_law, step_law};
-use crate::stepping::{FIRST_ENTRY, IDLE, execute, line_to_accept};
+use crate::stepping::{FIRST_ENTRY, IDLE, line_to_accept, word};
 use crate::tails::keep;
 use crate::turns::{Moment, module_runs, who_runs};
 use flat_mem::FlatMem;
@@ -29,6 +29,7 @@ use node_laws::code::{memory_is_shown, raised_is_shown, turn_stands};
 use node_laws::holding::nodes_are_sound;
 use node_model::laws::fetched_where_spelled;
 use trace_model::records::Record;
+use trace_print::Tail;
 
 /// The instruction that the next step runs, with its words, where it is an application's: no interrupt is accepted, PC is at no
 /// address of the kernel, and no module runs.
@@ -47,28 +48,30 @@ fn plain_instruction(m: &FlatMem, r: &Regs) -> Option<(Instr, u8)>
     }
 }
 
-/// Runs an application's instruction, of so many words.
+/// Runs an application's instruction, of so many words. Its record is made only where the tail keeps it.
 #[inline(always)]
-fn run_plain(m: &mut FlatMem, r: &mut Regs, instr: &Instr, words: u8, moment: Moment)
-    requires { IsPlain m.old r.old instr.now words }
-    ensures { Gives m.old m.new r.old r.new moment (plain_record m.old r.old instr.now words moment.step) }
-{
-    instruction_law();
-    let _ = moment;
-    let _ = exec(m, r, instr, words);
-}
-
-/// Runs an application's instruction, of so many words, and gives its record.
-#[inline(always)]
-fn run_recorded(m: &mut FlatMem, r: &mut Regs, instr: &Instr, words: u8, moment: Moment) -> Record
+fn run_plain(
+    m: &mut FlatMem,
+    r: &mut Regs,
+    instr: &Instr,
+    words: u8,
+    moment: Moment,
+    show: Show,
+    tail: &mut Tail,
+)
     requires settled { IsSettled m.old }
     requires plain { IsPlain m.old r.old instr.now words }
     ensures gives { Gives m.old m.new r.old r.new moment (plain_record m.old r.old instr.now words moment.step) }
-    ensures record { result ≡ plain_record m.old r.old instr.now words moment.step }
+    ensures kept { tail.new ≡ kept_with show tail.old (plain_record m.old r.old instr.now words moment.step) }
 {
     instruction_law();
     let who = who_runs(m);
-    execute(m, r, instr, words, who, moment)
+    let pc = r.get(PC);
+    let word = word(m, pc);
+    let writes = exec(m, r, instr, words);
+    if show.tail {
+        tail.keep(moment.step, who, pc, word, writes);
+    }
 }
 
 /// What the idle machine's turn gives.
@@ -122,14 +125,16 @@ impl Node {
         let _ = raised;
         let step = self.steps + 1;
         let moment = Moment { step, pick };
-        if self.show.tail {
-            let record = run_recorded(&mut self.mem, &mut self.regs, instr, words, moment);
-            self.steps = step;
-            keep(self.show, &mut self.tail, &record);
-        } else {
-            run_plain(&mut self.mem, &mut self.regs, instr, words, moment);
-            self.steps = step;
-        }
+        run_plain(
+            &mut self.mem,
+            &mut self.regs,
+            instr,
+            words,
+            moment,
+            self.show,
+            &mut self.tail,
+        );
+        self.steps = step;
     }
 
     /// Whether the next step is a turn of the idle machine, where no line is raised before it and no line tells of it.
