@@ -17,7 +17,7 @@ use crate::node::{Node, Show};
 use crate::objects::ObjectList;
 use crate::step_laws::{instruction_law, step_law};
 use crate::stepping::{FIRST_ENTRY, IDLE, line_to_accept, word};
-use crate::tails::keep;
+use crate::tails::{keep, keep_instr};
 use crate::turns::{Moment, module_runs, who_runs};
 use flat_mem::FlatMem;
 use msp_encode::instr::Instr;
@@ -62,16 +62,14 @@ fn run_plain(
     requires settled { IsSettled m.old }
     requires plain { IsPlain m.old r.old instr.now words }
     ensures gives { Gives m.old m.new r.old r.new moment (plain_record m.old r.old instr.now words moment.step) }
-    ensures kept { tail.new ≡ kept_with show tail.old (plain_record m.old r.old instr.now words moment.step) }
+    ensures holds { (made : List RecordOf) → tail.old ≡ kept_of show made → tail.new ≡ kept_of show (made ++ plain_record m.old r.old instr.now words moment.step ∷ []) }
 {
     instruction_law();
     let who = who_runs(m);
     let pc = r.get(PC);
     let word = word(m, pc);
     let writes = exec(m, r, instr, words);
-    if show.tail {
-        tail.keep(moment.step, who, pc, word, writes);
-    }
+    keep_instr(show, tail, moment.step, who, pc, word, writes);
 }
 
 /// What the idle machine's turn gives.

@@ -80,7 +80,8 @@ impl Tail {
     /// Keeps an instruction's record, of these parts, and gives up the oldest where there were eight.
     #[inline(always)]
     pub fn keep(&mut self, step: u32, who: Who, pc: u16, word: u16, writes: Writes)
-        ensures { self.new ≡ keep_last tail_length (self.old ++ told.Instr step who pc word writes ∷ []) }
+        ensures kept { self.new ≡ keep_last tail_length (self.old ++ told.Instr step who pc word writes ∷ []) }
+        ensures follows { (earlier : List Record) → self.old ≡ last_instrs earlier → self.new ≡ last_instrs (earlier ++ told.Instr step who pc word writes ∷ []) }
     {
         self.ring[self.next] = Record::Instr {
             step,

@@ -5,12 +5,13 @@ use Rattle.trace_model.specs.declared.records.Record.TheVariants as told
 use Rattle.trace_model.specs.Texts.{tail_length}
 use Rattle.circular_buffer.specs.Buffer.{keep_last}
 use Rattle.trace_print.specs.Kept.{AreInstrs, last_of_ring}
+use Rattle.trace_print.proofs.Following.{last_with_instr}
 use Rattle.trace_print.proofs.Ringing.{ring_instrs, ring_kept}
 use Rattle.trace_print.proofs.tail.Tail.keep.Goals as goal
 use Rattle.trace_print.proofs.tail.Tail.keep.Goals.{then-self-eq-LAST, else-self-eq-LAST}
 
-pub returns-then-self-lt-TAIL_LENGTH : goal.returns-then-self-lt-TAIL_LENGTH
-returns-then-self-lt-TAIL_LENGTH c =
+pub returns-then-self-lt-TAIL_LENGTH-clause-kept : goal.returns-then-self-lt-TAIL_LENGTH-clause-kept
+returns-then-self-lt-TAIL_LENGTH-clause-kept c =
     let x : Record = told.Instr c.args.step c.args.who c.args.pc c.args.word c.args.writes in
     ring_kept c.self.inside.ring.items c.self.inside.next c.if-self-eq-LAST.self c.self.inside.count (c.self.inside.count + 1) x
     c.self.invariant.0 c.self.invariant.1
@@ -18,8 +19,8 @@ returns-then-self-lt-TAIL_LENGTH c =
     (inl (c.if-self-lt-TAIL_LENGTH.true , refl))
     ∙ ap (λ (kept : List Record). keep_last tail_length (kept ++ x ∷ [])) c.self.view_is
 
-pub returns-else-self-lt-TAIL_LENGTH : goal.returns-else-self-lt-TAIL_LENGTH
-returns-else-self-lt-TAIL_LENGTH c =
+pub returns-else-self-lt-TAIL_LENGTH-clause-kept : goal.returns-else-self-lt-TAIL_LENGTH-clause-kept
+returns-else-self-lt-TAIL_LENGTH-clause-kept c =
     let x : Record = told.Instr c.args.step c.args.who c.args.pc c.args.word c.args.writes in
     let full : c.self.inside.count ≡ 8 = omega (arith, c.self.invariant.2, c.if-self-lt-TAIL_LENGTH.false) in
     ring_kept c.self.inside.ring.items c.self.inside.next c.if-self-eq-LAST.self c.self.inside.count c.self.inside.count x
@@ -50,3 +51,13 @@ invariant_of-self-else-self-lt-TAIL_LENGTH c =
      c.self.invariant.2,
      ring_instrs c.self.inside.ring.items c.self.inside.next c.if-self-eq-LAST.self c.self.inside.count c.self.inside.count x
          c.self.invariant.0 c.self.invariant.1 next (inr (full , full)) c.self.invariant.3 refl)
+
+pub returns-then-self-lt-TAIL_LENGTH-clause-follows : goal.returns-then-self-lt-TAIL_LENGTH-clause-follows
+returns-then-self-lt-TAIL_LENGTH-clause-follows c earlier e =
+    returns-then-self-lt-TAIL_LENGTH-clause-kept c
+    ∙ last_with_instr earlier c.args.self.now (told.Instr c.args.step c.args.who c.args.pc c.args.word c.args.writes) refl e
+
+pub returns-else-self-lt-TAIL_LENGTH-clause-follows : goal.returns-else-self-lt-TAIL_LENGTH-clause-follows
+returns-else-self-lt-TAIL_LENGTH-clause-follows c earlier e =
+    returns-else-self-lt-TAIL_LENGTH-clause-kept c
+    ∙ last_with_instr earlier c.args.self.now (told.Instr c.args.step c.args.who c.args.pc c.args.word c.args.writes) refl e
