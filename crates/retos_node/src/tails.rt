@@ -42,9 +42,10 @@ pub(crate) fn keep_instr(
     ensures kept { tail.new ≡ kept_with show tail.old (told.Instr step who pc word writes) }
     ensures holds { (made : List RecordOf) → tail.old ≡ kept_of show made → tail.new ≡ kept_of show (made ++ told.Instr step who pc word writes ∷ []) }
 {
-    if show.tail {
-        tail.keep(step, who, pc, word, writes);
+    if !show.tail {
+        return;
     }
+    tail.keep(step, who, pc, word, writes);
 }
 
 /// Prints the lines of the last instructions, if they are shown and a fault's line is next.
