@@ -38,9 +38,9 @@ last_more : (ts : List Record) (c d : ℕ) (x : Record) → length ts ≡ 8 → 
     → drop (8 - d) (drop 1 (ts ++ x ∷ [])) ≡ keep_last 8 (drop (8 - c) ts ++ x ∷ [])
 last_more ts c d x size (inl fewer) =
     let whole : drop (8 - d) (drop 1 (ts ++ x ∷ [])) ≡ drop (8 - c) (ts ++ x ∷ []) =
-        drop-drop (8 - d) 1 (ts ++ x ∷ []) ∙ ap (λ k. drop k (ts ++ x ∷ [])) (omega (arith, fewer.0, fewer.1)) in
+    drop-drop (8 - d) 1 (ts ++ x ∷ []) ∙ ap (λ k. drop k (ts ++ x ∷ [])) (omega (arith, fewer.0, fewer.1)) in
     let kept : length (drop (8 - c) ts ++ x ∷ []) - 8 ≡ 0 =
-        omega (arith, size, fewer.0, length-append (drop (8 - c) ts) (x ∷ []), length-drop (8 - c) ts) in
+    omega (arith, size, fewer.0, length-append (drop (8 - c) ts) (x ∷ []), length-drop (8 - c) ts) in
     whole ∙ drop-append-le (8 - c) ts (x ∷ []) (omega (arith, size)) ∙ sym (ap (λ k. drop k (drop (8 - c) ts ++ x ∷ [])) kept)
 last_more ts c d x size (inr full) = grind (arith, size, full.0, full.1, length-append ts (x ∷ []))
 
