@@ -25,6 +25,7 @@ mod step_laws;
 mod stepping;
 mod tails;
 mod turns;
+mod untold;
 
 pub use node::{BootFault, End, Node, Show};
 pub use objects::ObjectList;

@@ -1,3 +1,4 @@
 pub mod WriteLemmas
 pub mod Copying
 pub mod Following
+pub mod Ringing
