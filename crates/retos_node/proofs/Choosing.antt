@@ -101,5 +101,5 @@ at_entry k r none l u e =
     }
 
 -- an application's instruction is next where no line is accepted, PC lies below the entries and no module runs
-pub runs_plainly : (k : Kernel) (r : List ℕ) → line_to_accept k r ≡ None → reg r 0 < 0xF000 → module_runs k ≡ false → case_of k r ≡ Runs
+pub runs_plainly : (k : Kernel) (r : List ℕ) → line_to_accept k r ≡ None → reg r 0 < FIRST_ENTRY → module_runs k ≡ false → case_of k r ≡ Runs
 runs_plainly k r none low e = in_code k r none (inl low) ∙ ap (λ (b : Bool). cond (b && nat_le most_instructions (word_of k Budget)) OverBudget Runs) e

@@ -1,4 +1,3 @@
 pub mod WriteLemmas
 pub mod Copying
 pub mod Following
-pub mod Ringing

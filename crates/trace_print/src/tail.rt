@@ -1,6 +1,6 @@
 //! The last instructions of a run.
 
-ghost use Rattle.std.specs.Prelude.{◌≡◌, ◌∷◌, ◌++◌, [], List, IsTrue, IsFalse, slice_get, ◌<◌, IfOk, IfSome};
+ghost use Rattle.std.specs.Prelude.{◌≡◌, ◌∷◌, ◌++◌, [], List, IsTrue, IsFalse, slice_get, length, ◌<◌, IfOk, IfSome};
 ghost use Rattle.std.specs.Option.{option_map};
 ghost use Rattle.trace_model.specs.declared.records.Record.{Record};
 ghost use Rattle.trace_model.specs.declared.records.Record.TheVariants as told;
@@ -9,6 +9,7 @@ ghost use Rattle.circular_buffer.specs.Buffer.{keep_last};
 
 use super::line::Line;
 use super::record_lines::text;
+use circular_buffer::HeapCircularBuffer;
 use machine_model::writes::Writes;
 use std::alloc::{AllocError, Global};
 use std::marker::Model;
@@ -17,29 +18,22 @@ use trace_model::records::{Record, Who};
 /// How many instructions are kept.
 pub const TAIL_LENGTH: usize = 8;
 
-/// The last place of the ring.
-const LAST: usize = 7;
-
 /// The records of the last instructions that were made, at most eight, the oldest first.
-///
-/// They lie in a ring of eight places, of which the last `count` up to `next` are taken. The others hold a record that nobody reads.
 #[derive(Drop)]
 pub struct Tail {
-    ring: Vec<Record>,
-    next: usize,
-    count: usize,
+    kept: HeapCircularBuffer<Record>,
 }
 
 impl Model for Tail {
-    ghost use Rattle.std.specs.Prelude.{◌≡◌, ◌≤◌, ◌<◌, List, length};
+    ghost use Rattle.std.specs.Prelude.{◌≡◌, ◌≤◌, List, length};
     ghost use Rattle.trace_model.specs.declared.records.Record.{Record};
-    ghost use Rattle.trace_print.specs.Kept.{AreInstrs, last_of_ring};
+    ghost use Rattle.trace_print.specs.Kept.{AreInstrs};
 
     ghost Value = { List Record };
 
-    ghost view = { λ tail. last_of_ring tail.ring.items tail.next tail.count };
+    ghost view = { λ tail. tail.kept.items };
 
-    ghost invariant = { λ tail. (length tail.ring.items ≡ 8) × (tail.next < 8) × (tail.count ≤ 8) × AreInstrs (last_of_ring tail.ring.items tail.next tail.count) };
+    ghost invariant = { λ tail. (tail.kept.capacity ≡ 8) × (length tail.kept.items ≤ 8) × AreInstrs tail.kept.items };
 }
 
 impl Tail {
@@ -47,14 +41,8 @@ impl Tail {
     pub fn new(alloc: Global) -> Result<Tail, AllocError>
         ensures { IfOk result (λ tail. tail ≡ []) }
     {
-        let mut ring = Vec::with_capacity(alloc, TAIL_LENGTH)?;
-        for _ in 0..TAIL_LENGTH {
-            ring.push(Record::IdleTurn { step: 0 })?;
-        }
         Ok(Tail {
-            ring,
-            next: 0,
-            count: 0,
+            kept: HeapCircularBuffer::with_capacity(alloc, TAIL_LENGTH)?,
         })
     }
 
@@ -79,21 +67,18 @@ impl Tail {
 
     /// Keeps an instruction's record, of these parts, and gives up the oldest where there were eight.
     #[inline(always)]
+    #[tactic(auto, using(crate::proofs::Following::last_with_instr))]
     pub fn keep(&mut self, step: u32, who: Who, pc: u16, word: u16, writes: Writes)
         ensures kept { self.new ≡ keep_last tail_length (self.old ++ told.Instr step who pc word writes ∷ []) }
         ensures follows { (earlier : List Record) → self.old ≡ last_instrs earlier → self.new ≡ last_instrs (earlier ++ told.Instr step who pc word writes ∷ []) }
     {
-        self.ring[self.next] = Record::Instr {
+        let _oldest = self.kept.push_back(Record::Instr {
             step,
             who,
             pc,
             word,
             writes,
-        };
-        self.next = if self.next == LAST { 0 } else { self.next + 1 };
-        if self.count < TAIL_LENGTH {
-            self.count += 1;
-        }
+        });
     }
 
     /// The line of the record at a place, the oldest at 0. None exactly past the last.
@@ -101,11 +86,9 @@ impl Tail {
         ensures line { result ≡ option_map record_text (slice_get self.now at) }
         ensures few { IfSome result (λ line. at < TAIL_LENGTH) }
     {
-        if at < self.count {
-            let place = (self.next + (TAIL_LENGTH - self.count) + at) % TAIL_LENGTH;
-            Some(text(&self.ring[place]))
-        } else {
-            None
+        match self.kept.get(at) {
+            None => None,
+            Some(rec) => Some(text(rec)),
         }
     }
 }
