@@ -64,10 +64,12 @@ pub guarded_leaves : GuardedLeaves
 guarded_leaves o at g h alone inside =
     let start : Start o.code (at + h.words) = next_start o.code at h.instr h.words h.start h.stands inside in
     let least : 1 ≤ h.words = size_least h.instr (drop at o.code) h.words h.stands in
-    let here : at ≡ h.base = served_alone o at g h alone in
-    (start, λ interior.
-        let on = guarded_goes_on o at g h interior in
-        omega (arith, here, served_alone o (at + h.words) g on.guarded alone, on.guarded.ends, h.ends, on.first))
+    let here : at ≡ h.base = served_alone o at g h alone in (
+      start,
+      λ interior.
+          let on = guarded_goes_on o at g h interior in
+          omega (arith, here, served_alone o (at + h.words) g on.guarded alone, on.guarded.ends, h.ends, on.first),
+    )
 
 -- ---- accepted objects
 

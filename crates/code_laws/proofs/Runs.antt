@@ -94,9 +94,20 @@ also_guarded o at x g h t low high =
           let on = on_run g o h.first h.base h.before at h.run (base_start o at g h) h.start.below x t low less in
           record {
             guarded = record {
-              start = t; first = h.first; base = h.base; ends = h.ends; begins = h.begins; fit = h.fit; known = h.known;
-              before = on.before; few = omega (arith, on.fewer, h.few); run = on.run;
-              instr = on.serves.instr; words = on.serves.words; stands = on.serves.stands; serves = on.serves.serves;
+              start = t;
+              first = h.first;
+              base = h.base;
+              ends = h.ends;
+              begins = h.begins;
+              fit = h.fit;
+              known = h.known;
+              before = on.before;
+              few = omega (arith, on.fewer, h.few);
+              run = on.run;
+              instr = on.serves.instr;
+              words = on.serves.words;
+              stands = on.serves.stands;
+              serves = on.serves.serves;
             };
             first = refl;
           }

@@ -92,8 +92,8 @@ served-leads d low top m q guarded k of h e is ends same t =
     let j = first.guarded in
     let here : reg e.context 0 ≡ address d h.base = omega (arith, t.place.pc, ends, words-as k (guard_of q) of, h.ends) in
     let kept : (r : ℕ) → k ≡ guard.Load → HasAddress q → Steps j.instr r → reg e.context 4 ≡ reg e.context r = λ r load has s.
-        let alone : guarded ≡ h.base = served_alone d.object guarded k h (ap most_served load) in
-        same r load has (subst (λ (i : Instr). Steps i r) (one-at d.object h.base guarded k k j h (sym alone)) s) in
+    let alone : guarded ≡ h.base = served_alone d.object guarded k h (ap most_served load) in
+    same r load has (subst (λ (i : Instr). Steps i r) (one-at d.object h.base guarded k k j h (sym alone)) s) in
     record {
       good = record {
         steady = t.steady;
@@ -341,8 +341,8 @@ kept-same : SameLaw → (d : Domain) (b : Bounds) (m c : List ℕ) (p : GuardPla
 kept-same same-stays d b m c p guarded k h i n s cc' same own r load t st =
     subst (λ (x : GuardKind). (h : Guarded d.object guarded x) → SameAt x p h.instr c → IsOwn p (guard_at d m h.first) b i n → Steps h.instr r → reg (does m c i n).context 4 ≡ reg (does m c i n).context r) (sym load)
     (λ h same own st.
-        let l = loads-through d.object h.first guarded r h.instr h.serves st in
-        same-stays p (guard_at d m h.first) b m c i n r cc' own l.least l.most (takes-from d m c p guarded h r s t (λ has. same r refl has st) l))
+    let l = loads-through d.object h.first guarded r h.instr h.serves st in
+    same-stays p (guard_at d m h.first) b m c i n r cc' own l.least l.most (takes-from d m c p guarded h r s t (λ has. same r refl has st) l))
     h same own st
 
 -- a step at a place of a guard's own instructions

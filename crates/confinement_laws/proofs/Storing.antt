@@ -196,8 +196,14 @@ stored-leads laws store-stays store-leaves d low top m c i n guarded g h keeps s
           good = record {
             steady = passes.steady;
             somewhere = Within Stores record {
-              guarded = guarded + h.words; kind = g; of = keeps-region g keeps; by = on.guarded; pc = passes.pc ∙ behind; saved = λ t. absurd (false≢true t);
-              known = (omega (arith, four, known.0), omega (arith, four, known.1)); same = λ r load has t. absurd (not-load g keeps load);
+              guarded = guarded + h.words;
+              kind = g;
+              of = keeps-region g keeps;
+              by = on.guarded;
+              pc = passes.pc ∙ behind;
+              saved = λ t. absurd (false≢true t);
+              known = (omega (arith, four, known.0), omega (arith, four, known.1));
+              same = λ r load has t. absurd (not-load g keeps load);
             };
           };
           inside = in-region d low top (does m c i n).written passes.inside;

@@ -12,9 +12,7 @@ ghost use Rattle.asm_model.specs.Lines.{lines_of};
 ghost use Rattle.asm_model.specs.FirstPass.{put_code, take_instruction, go_on, define, tell, take_directive, take_keyword, take_statement, take_labelled, take_body, take_line, first_pass};
 ghost use Rattle.msp_asm.specs.Given.{Gives, HasSmallNumber};
 
-use crate::directives::{
-    enter, entry, export, head, in_code, space, tell, version, with_version,
-};
+use crate::directives::{enter, entry, export, head, in_code, space, tell, version, with_version};
 use crate::drafts::{Pieces, Stop, grow, place, words};
 use crate::static_data::data;
 use asm_lines::bytes::{is_empty, is_text};

@@ -1,8 +1,6 @@
 //! Worked rows of object version 2: several stores under one guard, and loads under theirs.
 
-use crate::test_support::{
-    Case, CodeReloc, Stored, application_of, try_stored, try_stored_pieces,
-};
+use crate::test_support::{Case, CodeReloc, Stored, application_of, try_stored, try_stored_pieces};
 use edge_io::lists::Bytes;
 use std::alloc::Global;
 use std::test::Fail;
@@ -174,9 +172,19 @@ fn load(alloc: Global, from: u8, instruction: u16) -> Result<Bytes, Fail> {
 /// From where, the load's word, a piece of the trace, and the status: `MOV @R4,R7` and `MOV @R6+,R7`.
 const LOADS: [(u8, u16, &str, u8); 4] = [
     (LO, 0x4427, "\n10 a0.t0 601E 4427\n11 a0.t0 6020 3FFF\n", 0),
-    (HI, 0x4427, "\n10 a0.t0 fault store 2010\nend quiet 10 emits 0 faults 1\n", 6),
+    (
+        HI,
+        0x4427,
+        "\n10 a0.t0 fault store 2010\nend quiet 10 emits 0 faults 1\n",
+        6,
+    ),
     (LO, 0x4637, "\n10 a0.t0 601E 4637\n11 a0.t0 6020 3FFF\n", 0),
-    (HI, 0x4637, "\n10 a0.t0 fault store 2010\nend quiet 10 emits 0 faults 1\n", 6),
+    (
+        HI,
+        0x4637,
+        "\n10 a0.t0 fault store 2010\nend quiet 10 emits 0 faults 1\n",
+        6,
+    ),
 ];
 
 #[test]

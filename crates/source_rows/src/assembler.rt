@@ -203,7 +203,10 @@ const VERSIONS: [(u8, &str); 6] = [
     (1, ".app 16 1\n.entry s\ns: JMP s\n"),
     (2, ".app 16 1\n.version 2\n.entry s\ns: JMP s\n"),
     (2, ".module\n.version 2\n.equ n 1\n.export 1 s\ns: JMP s\n"),
-    (2, ".module\n; the kind stands before\n\n  .Version 0x2\n.export 1 s\ns: JMP s\n"),
+    (
+        2,
+        ".module\n; the kind stands before\n\n  .Version 0x2\n.export 1 s\ns: JMP s\n",
+    ),
     (2, ".app 16 1\nl: .version 2\n.equ x 1\n.entry l\nJMP l\n"),
     (1, ".app 16 1\n.equ x 1\n.entry s\ns: JMP s\n"),
 ];
