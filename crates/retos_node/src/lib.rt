@@ -25,7 +25,6 @@ mod step_laws;
 mod stepping;
 mod tails;
 mod turns;
-mod untold;
 
 pub use node::{BootFault, End, Node, Show};
 pub use objects::ObjectList;
