@@ -1,5 +1,5 @@
 -- The pass over the code: from unit to unit.
-use Rattle.std.proofs.Common.{◌≡◌, ◌≢◌, ◌↔◌, ℕ, zero, suc, ◌+◌, ◌≤◌, ◌<◌, List, ◌⊎◌, inl, inr, length, Option, None, Some, refl, sym, ap, subst, arith}
+use Rattle.std.proofs.Common.{◌≡◌, ◌≢◌, ◌↔◌, ℕ, zero, suc, ◌+◌, ◌≤◌, ◌<◌, List, ◌⊎◌, inl, inr, length, Option, None, Some, MatchOption, refl, sym, ap, subst, arith}
 use Rattle.std.proofs.Math.Nat.{eq-or-lt_of_le}
 use Rattle.std.proofs.lemmas.Bool.{cases_lt, cases_order}
 use Rattle.msp_encode.specs.declared.instr.Instr.{Instr}
@@ -17,7 +17,7 @@ use Rattle.static_checker.specs.declared.pass.Pass.{Pass}
 use Rattle.static_checker.specs.Cursors.{IsCursor}
 use Rattle.static_checker.specs.Firsts.{IsLocal, FirstIn}
 use Rattle.static_checker.specs.Marked.{Adds}
-use Rattle.static_checker.specs.CodeUnits.{NoGuardAcross, HasServed, IsBehind, IsServedSpot, IsNextInstr, IsCodeUnit, IsTransfer, TransferAt}
+use Rattle.static_checker.specs.CodeUnits.{NoGuardAcross, HasServed, IsBehind, IsServedSpot, IsNextInstr, IsNextServed, IsCodeUnit, IsTransfer, TransferAt}
 use Rattle.code_model.specs.declared.guards.GuardKind.{GuardKind}
 use Rattle.code_model.specs.declared.guards.GuardKind.TheVariants as guard
 use Rattle.static_checker.specs.declared.code_units.BegunGuard.{BegunGuard}
@@ -25,7 +25,7 @@ use Rattle.static_checker.specs.Advances.{IsBegun, BegunAt, seen}
 use Rattle.static_checker.specs.Passed.{IsReached, IsGone, UnitsBelow, IsPassed, IsWhole, left}
 use Rattle.static_checker.proofs.Guarding.{instr_of}
 use Rattle.static_checker.proofs.FirstLemmas.{none_at_first, first_over}
-use Rattle.static_checker.proofs.RunLemmas.{interior_next, instr_next, served_next}
+use Rattle.static_checker.proofs.RunLemmas.{served_next}
 use Rattle.static_checker.proofs.UnitLemmas.{start_spot}
 
 -- ---- the first place
@@ -115,7 +115,7 @@ module _ (o : Object) (old : Pass) (p : CodeUnit) (c : Cursor) (transfers : List
 
 -- ---- the unit starts
 
-units_first : (o : Object) (at : ℕ) (p : CodeUnit) (old units : List ℕ) → IsCodeUnit o at p → UnitsBelow o old at → Has units at → ((k : ℕ) → k ≢ at → Has units k ↔ Has old k)
+pub units_first : (o : Object) (at : ℕ) (p : CodeUnit) (old units : List ℕ) → IsCodeUnit o at p → UnitsBelow o old at → Has units at → ((k : ℕ) → k ≢ at → Has units k ↔ Has old k)
     → UnitsBelow o units (p.spot.at + p.spot.words)
 unfolding UnitsBelow
 units_first o at p old units unit was marked others k = (go, back)
@@ -143,61 +143,46 @@ units_first o at p old units unit was marked others k = (go, back)
           ]
         ]
 
-pub units_here : (o : Object) (at : ℕ) (p : CodeUnit) (old marks units : List ℕ) (end : ℕ) → IsCodeUnit o at p → UnitsBelow o old at → Has marks at → ((k : ℕ) → k ≢ at → Has marks k ↔ Has old k)
-    → units ≡ marks → end ≡ p.spot.at + p.spot.words → UnitsBelow o units end
-units_here o at p old marks units end unit was marked others same e =
-    subst (λ (n : ℕ). UnitsBelow o units n) (sym e)
-    (subst (λ (m : List ℕ). UnitsBelow o m (p.spot.at + p.spot.words)) (sym same) (units_first o at p old marks unit was marked others))
-
 -- none is an instruction that a guard serves
-pub units_over : (o : Object) (at : ℕ) (s : Spot) (units : List ℕ) → IsStartSpot o.code s → s.at ≡ at → Interior o s.at → UnitsBelow o units at → UnitsBelow o units (s.at + s.words)
+pub units_over : (o : Object) (at end : ℕ) (units : List ℕ) → at ≤ end → ((k : ℕ) → Start o.code k → at ≤ k → k < end → Interior o k) → UnitsBelow o units at → UnitsBelow o units end
 unfolding UnitsBelow
-units_over o at s units here place interior was k = (go, back)
+units_over o at end units order inner was k = (go, back)
   where
-    go : Has units k → UnitStart o k × (k < s.at + s.words)
+    go : Has units k → UnitStart o k × (k < end)
     go h = let b : UnitStart o k × (k < at) = (was k).0 h in (b.0, omega (arith, b.1))
 
-    back : UnitStart o k × (k < s.at + s.words) → Has units k
-    back x =
-        elim (cases_order k s.at) [
-          | inl same ↦ absurd (x.0.1 (subst (λ (n : ℕ). Interior o n) (sym same) interior))
-          | inr other ↦ elim other [
-            | inl less ↦ (was k).1 (x.0, omega arith)
-            | inr more ↦ absurd (omega (arith, starts_apart o.code s.at k s.instr s.words here.start here.is.stands x.0.0 more))
-          ]
-        ]
-
--- ---- an instruction that no guard serves
-
-pub clear_here : (o : Object) (at : ℕ) (p : CodeUnit) (end : ℕ) → IsCodeUnit o at p → p.guard ≡ None → end ≡ p.spot.at + p.spot.words → NoGuardAcross o end
-clear_here o at p end unit none e =
-    subst (λ (n : ℕ). NoGuardAcross o n) (sym e) (subst (λ (x : Option GuardKind). IsBehind o at x (p.spot.at + p.spot.words)) none unit.behind)
+    back : UnitStart o k × (k < end) → Has units k
+    back x = elim (cases_lt k at) [ inl less ↦ (was k).1 (x.0, less) | inr more ↦ absurd (x.0.1 (inner k x.0.0 more x.1)) ]
 
 pub passed_of : (o : Object) (p : Pass) → IsGone o p → UnitsBelow o p.units p.cursor.at → NoGuardAcross o p.cursor.at → p.begun ≡ None → IsPassed o p
 passed_of o p gone units clear free = record { gone = gone; units = units; clear = clear; begun = subst (λ (x : Option BegunGuard). BegunAt o p.cursor.at x) (sym free) tt }
 
--- ---- over what a guard serves behind its first instruction
+-- ---- over what a guard serves
 
-module _ (o : Object) (g : GuardKind) (first count at : ℕ) (s : Spot) (reached : IsReached o.code at) (was : HasServed o g first count at) (few : count < most_served g) (served : IsServedSpot g o first at s) where
-  spot_here : IsStartSpot o.code s
-  spot_here = start_spot o at s (record { count = reached.count; reached = reached.reached; below = omega (arith, served.is.within, served.is.least) }) served.is
+pub served_spot : (o : Object) (g : GuardKind) (first count at : ℕ) (s : Spot) → IsReached o.code at → HasServed o g first count at → count < most_served g → IsServedSpot g o first at s
+    → IsNextServed o first count at (record { spot = s; guard = Some g })
+served_spot o g first count at s reached was few served =
+    let start : Start o.code at = record { count = reached.count; reached = reached.reached; below = omega (arith, served.is.within, served.is.least) } in
+    let to : HasServed o g first count s.at = subst (λ (n : ℕ). HasServed o g first count n) (sym served.is.place) was in
+    let serves : Serves g o first s.at s.instr = subst (λ (n : ℕ). Serves g o first n s.instr) (sym served.is.place) served.serves in
+    subst (λ (n : ℕ). IsNextServed o first count n (record { spot = s; guard = Some g })) served.is.place (served_next o g first count s to few (start_spot o at s start served.is) serves)
 
-  served_to : HasServed o g first count s.at
-  served_to = subst (λ (n : ℕ). HasServed o g first count n) (sym served.is.place) was
+-- what is left to go over in a unit: another instruction that its guard serves, or nothing
+abbrev pub IsToServe : Object → (first served at : ℕ) → (units : List ℕ) → Option CodeUnit → Type 0
+IsToServe o first served at units None = NoGuardAcross o at × UnitsBelow o units at
+IsToServe o first served at units (Some p) = IsNextInstr o at p × IsBehind o first p.guard (served + 1) (p.spot.at + p.spot.words) × UnitsBelow o units (p.spot.at + p.spot.words)
 
-  serves_it : Serves g o first s.at s.instr
-  serves_it = subst (λ (n : ℕ). Serves g o first n s.instr) (sym served.is.place) served.serves
+pub to_serve : (o : Object) (first served at : ℕ) (units : List ℕ) (x : Option CodeUnit) (p : CodeUnit) → x ≡ Some p → IsToServe o first served at units x → IsToServe o first served at units (Some p)
+to_serve o first served at units x p e = subst (λ (y : Option CodeUnit). IsToServe o first served at units y) e
 
-  pub next_in_run : IsNextInstr o at (record { spot = s; guard = Some g })
-  next_in_run = subst (λ (n : ℕ). IsNextInstr o n (record { spot = s; guard = Some g })) served.is.place (instr_next o g first count s served_to few spot_here serves_it)
+pub units_at : (o : Object) (old units : List ℕ) (end at : ℕ) → units ≡ old → at ≡ end → UnitsBelow o old end → UnitsBelow o units at
+units_at o old units end at same e below = subst (λ (n : ℕ). UnitsBelow o units n) (sym e) (subst (λ (m : List ℕ). UnitsBelow o m end) (sym same) below)
 
-  pub served_in_run : (end : ℕ) → end ≡ s.at + s.words → HasServed o g first (count + 1) end
-  served_in_run end e = subst (λ (n : ℕ). HasServed o g first (count + 1) n) (sym e) (served_next o g first count s served_to few spot_here serves_it)
-
-  pub units_in_run : (old units : List ℕ) (end : ℕ) → end ≡ s.at + s.words → units ≡ old → UnitsBelow o old at → UnitsBelow o units end
-  units_in_run old units end e same below =
-      let over : UnitsBelow o old (s.at + s.words) = units_over o at s old spot_here served.is.place (interior_next o g first count s served_to few spot_here serves_it) below in
-      subst (λ (n : ℕ). UnitsBelow o units n) (sym e) (subst (λ (m : List ℕ). UnitsBelow o m (s.at + s.words)) (sym same) over)
+pub serves_on : (o : Object) (first served at : ℕ) (units : List ℕ) (x : Option CodeUnit) → UnitsBelow o units at → MatchOption x (NoGuardAcross o at) (λ u. IsNextServed o first served at u) → IsToServe o first served at units x
+serves_on o first served at units None below found = (found, below)
+serves_on o first served at units (Some p) below found =
+    let order : at ≤ p.spot.at + p.spot.words = omega (arith, found.next.order) in
+    (found.next, found.behind, units_over o at (p.spot.at + p.spot.words) units order found.inner below)
 
 -- ---- the end
 

@@ -23,7 +23,7 @@ use Rattle.code_laws.proofs.Runs.{run_rises, first_before, also_guarded}
 use Rattle.static_checker.specs.declared.spot.Spot.{Spot}
 use Rattle.static_checker.specs.Spots.{IsStartSpot}
 use Rattle.static_checker.specs.Firsts.{IsLocal}
-use Rattle.static_checker.specs.CodeUnits.{IsGuardOf, NoGuardAcross, OneGuardAcross, HasServed, IsUnitSpot, IsNextInstr, IsCodeUnit}
+use Rattle.static_checker.specs.CodeUnits.{IsGuardOf, NoGuardAcross, OneGuardAcross, HasServed, IsUnitSpot, IsNextInstr, IsNextServed, IsCodeUnit}
 use Rattle.static_checker.specs.Passed.{IsReached}
 
 -- ---- a place that is clear
@@ -213,35 +213,35 @@ module _ (o : Object) (g : GuardKind) (first count : ℕ) (s : Spot) (was : HasS
     serves = serves;
   }
 
-  pub interior_next : Interior o s.at
-  interior_next = guarded_interior o s.at g guarded_next
-
-  each_next : (k : ℕ) → Start o.code k → s.at ≤ k → k < s.at + s.words → Interior o k ⊎ UnitStart o k
-  each_next k t low high =
+  inner_next : (k : ℕ) → Start o.code k → s.at ≤ k → k < s.at + s.words → Interior o k
+  inner_next k t low high =
       elim (eq-or-lt_of_le low) [
-        | inl same ↦ inl (subst (λ (n : ℕ). Interior o n) same interior_next)
+        | inl same ↦ subst (λ (n : ℕ). Interior o n) same (guarded_interior o s.at g guarded_next)
         | inr less ↦ absurd (omega (arith, starts_apart o.code s.at k s.instr s.words here.start here.is.stands t less))
       ]
 
-  pub instr_next : IsNextInstr o s.at (record { spot = s; guard = Some g })
+  instr_next : IsNextInstr o s.at (record { spot = s; guard = Some g })
   unfolding guarded_next
   instr_next = record {
     here = unit_spot o g first s here guarded_next refl;
     order = omega arith;
-    each = each_next;
+    each = λ k t low high. inl (inner_next k t low high);
     quiet = λ k r low high. absurd (omega arith);
     own = λ k t low high. absurd (omega arith);
   }
 
-  pub served_next : HasServed o g first (count + 1) (s.at + s.words)
+  behind_next : HasServed o g first (count + 1) (s.at + s.words)
   unfolding guarded_next
-  served_next = record {
+  behind_next = record {
     begins = was.begins;
     fit = was.fit;
     known = was.known;
     run = subst (λ (n : ℕ). Run g o first (first + length (guard_words g)) n (s.at + s.words)) (sym (add-one count)) (served_here o g first s here guarded_next refl count was.run serves);
     one = one_on o g first s here guarded_next refl was.one;
   }
+
+  pub served_next : IsNextServed o first count s.at (record { spot = s; guard = Some g })
+  served_next = record { next = instr_next; inner = inner_next; behind = behind_next }
 
 -- ---- where it serves no more
 

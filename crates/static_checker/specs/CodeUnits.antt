@@ -64,10 +64,10 @@ pub record HasServed (o : Object) (g : GuardKind) (first count at : ℕ) : Type 
   pub run : Run g o first (first + length (guard_words g)) count at
   pub one : OneGuardAcross o g first at
 
--- behind the first instruction of a unit that begins at a place
-abbrev pub IsBehind : Object → ℕ → Option GuardKind → (end : ℕ) → Type 0
-IsBehind o at None end = NoGuardAcross o end
-IsBehind o at (Some g) end = HasServed o g at 1 end
+-- the guard at `first`, if there is one, has served so many instructions before a place, and no other goes on over it
+abbrev pub IsBehind : Object → (first : ℕ) → Option GuardKind → (served at : ℕ) → Type 0
+IsBehind o first None served at = NoGuardAcross o at
+IsBehind o first (Some g) served at = HasServed o g first served at
 
 -- an instruction that is none of a guard's own, with what guards it
 pub record IsUnitSpot (o : Object) (p : CodeUnit) : Type 0 where
@@ -88,7 +88,13 @@ pub record IsCodeUnit (o : Object) (at : ℕ) (p : CodeUnit) : Type 0 where
   pub next : IsNextInstr o at p
   pub starts : UnitStart o at
   pub inner : (k : ℕ) → Start o.code k → at < k → k < p.spot.at + p.spot.words → Interior o k
-  pub behind : IsBehind o at p.guard (p.spot.at + p.spot.words)
+  pub behind : IsBehind o at p.guard 1 (p.spot.at + p.spot.words)
+
+-- the next instruction that the guard at `first` serves, where it has served so many before a place
+pub record IsNextServed (o : Object) (first served at : ℕ) (p : CodeUnit) : Type 0 where
+  pub next : IsNextInstr o at p
+  pub inner : (k : ℕ) → Start o.code k → at ≤ k → k < p.spot.at + p.spot.words → Interior o k
+  pub behind : IsBehind o first p.guard (served + 1) (p.spot.at + p.spot.words)
 
 -- an instruction that writes none but the registers from R4 on, and doesn't read the stack, or a jump
 abbrev pub IsPlain : Instr → Type 0

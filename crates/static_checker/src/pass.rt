@@ -3,15 +3,15 @@
 //! Its state has a fixed size: the place, the index of the next relocation, the guard that is begun there with the number of
 //! its words so far, two bitmaps, and the first refusal. All that it has found is of the places gone by.
 
-ghost use Rattle.std.specs.Prelude.{◌≡◌, ℕ, ◌+◌, ◌<◌, ◌≤◌, ◌↔◌, IsTrue, length, MatchResult};
+ghost use Rattle.std.specs.Prelude.{◌≡◌, ℕ, ◌+◌, ◌<◌, ◌≤◌, ◌↔◌, IsTrue, length, MatchResult, MatchOption};
 ghost use Rattle.kernel_model.specs.Bitmap.{Has};
 ghost use Rattle.code_model.specs.declared.object.TheConstants.{CODE_WORDS_MAX};
 ghost use Rattle.code_model.specs.Starts.{Bad};
 ghost use Rattle.static_checker.specs.Cursors.{IsCursor};
 ghost use Rattle.static_checker.specs.Firsts.{IsLocal, FirstIn};
 ghost use Rattle.static_checker.specs.Marked.{Adds};
-ghost use Rattle.static_checker.specs.CodeUnits.{IsUnitSpot, IsNextInstr, HasServed, IsCodeUnit, IsTransfer};
-ghost use Rattle.static_checker.specs.Passed.{IsGone, UnitsBelow, IsPassed, IsWhole};
+ghost use Rattle.static_checker.specs.CodeUnits.{NoGuardAcross, IsUnitSpot, IsNextInstr, IsNextServed, HasServed, IsBehind, IsCodeUnit, IsTransfer};
+ghost use Rattle.static_checker.specs.Passed.{IsReached, IsGone, UnitsBelow, IsPassed, IsWhole};
 
 use crate::code_units::{Advance, BegunGuard, CodeUnit, advance_from};
 use crate::cursor::{Cursor, at_start, go_to};
@@ -58,7 +58,7 @@ pub fn pass_over(o: &Object) -> Result<Pass, usize>
     while pass.cursor.at < o.code.len() {
         match advance_from(o, pass.cursor, pass.begun) {
             Advance::Word(begun) => pass.begun = Some(begun),
-            Advance::Whole(unit) => pass_unit(o, &mut pass, &unit),
+            Advance::Whole(unit) => pass_unit(o, &mut pass, unit),
             Advance::Stop => return Err(pass.cursor.at),
         }
     }
@@ -66,9 +66,9 @@ pub fn pass_over(o: &Object) -> Result<Pass, usize>
 }
 
 /// Goes over one unit: its first place is a unit start, and its instructions meet the rules or not.
-fn pass_unit(o: &Object, pass: &mut Pass, unit: &CodeUnit)
+fn pass_unit(o: &Object, pass: &mut Pass, unit: CodeUnit)
     requires passed { IsPassed o.now pass.old }
-    requires unit { IsCodeUnit o.now pass.old.cursor.at unit.now }
+    requires unit { IsCodeUnit o.now pass.old.cursor.at unit }
     ensures passed { IsPassed o.now pass.new }
     ensures further { pass.old.cursor.at < pass.new.cursor.at }
     ensures free { pass.new.begun ≡ None }
@@ -76,36 +76,69 @@ fn pass_unit(o: &Object, pass: &mut Pass, unit: &CodeUnit)
     let from = pass.cursor;
     mark(&mut pass.units, from.at);
     pass.begun = None;
-    pass_instr(o, pass, unit);
-    match unit.guard {
-        Some(kind) => pass_run(o, pass, from, kind),
-        None => {}
+    pass_run(o, pass, from, unit);
+}
+
+/// Goes over the first instruction of a unit that begins at a cursor, and over what else its guard serves.
+fn pass_run(o: &Object, pass: &mut Pass, from: Cursor, first: CodeUnit)
+    requires cursor { IsCursor o.now.relocs from }
+    requires order { from.at ≤ pass.old.cursor.at }
+    requires gone { IsGone o.now pass.old }
+    requires first { IsNextInstr o.now pass.old.cursor.at first }
+    requires behind { IsBehind o.now from.at first.guard 1 (first.spot.at + first.spot.words) }
+    requires units { UnitsBelow o.now pass.old.units (first.spot.at + first.spot.words) }
+    requires free { pass.old.begun ≡ None }
+    ensures passed { IsPassed o.now pass.new }
+    ensures further { pass.old.cursor.at < pass.new.cursor.at }
+    ensures free { pass.new.begun ≡ None }
+{
+    let mut next = Some(first);
+    let mut served = 0;
+    while let Some(unit) = next {
+        pass_instr(o, pass, &unit);
+        served += 1;
+        next = next_served(o, from, unit.guard, served, pass.cursor.at);
     }
 }
 
-/// Goes over what else a guard at a cursor serves, behind the first instruction.
-fn pass_run(o: &Object, pass: &mut Pass, from: Cursor, kind: GuardKind)
+/// The next instruction that a guard at a cursor serves, where it has served so many up to a place. None exactly where no
+/// guard goes on over the place.
+fn next_served(
+    o: &Object,
+    from: Cursor,
+    guard: Option<GuardKind>,
+    served: usize,
+    at: usize,
+) -> Option<CodeUnit>
     requires cursor { IsCursor o.now.relocs from }
-    requires gone { IsGone o.now pass.old }
-    requires units { UnitsBelow o.now pass.old.units pass.old.cursor.at }
-    requires served { HasServed o.now kind from.at 1 pass.old.cursor.at }
-    requires free { pass.old.begun ≡ None }
-    ensures passed { IsPassed o.now pass.new }
-    ensures further { pass.old.cursor.at ≤ pass.new.cursor.at }
-    ensures free { pass.new.begun ≡ None }
+    requires order { from.at ≤ at }
+    requires reached { IsReached o.now.code at }
+    requires behind { IsBehind o.now from.at guard served at }
+    ensures { MatchOption result (NoGuardAcross o.now at) (λ u. IsNextServed o.now from.at served at u) }
 {
-    for _count in 1..most_served(kind) {
-        match served_at(o, from, kind, pass.cursor.at) {
-            Some(spot) => pass_instr(
-                o,
-                pass,
-                &CodeUnit {
-                    spot,
-                    guard: Some(kind),
-                },
-            ),
-            None => return,
-        }
+    match guard {
+        Some(kind) => next_by(o, from, kind, served, at),
+        None => None,
+    }
+}
+
+/// The next instruction that this guard at a cursor serves.
+fn next_by(o: &Object, from: Cursor, kind: GuardKind, served: usize, at: usize) -> Option<CodeUnit>
+    requires cursor { IsCursor o.now.relocs from }
+    requires order { from.at ≤ at }
+    requires reached { IsReached o.now.code at }
+    requires served { HasServed o.now kind from.at served at }
+    ensures { MatchOption result (NoGuardAcross o.now at) (λ u. IsNextServed o.now from.at served at u) }
+{
+    if most_served(kind) <= served {
+        return None;
+    }
+    match served_at(o, from, kind, at) {
+        Some(spot) => Some(CodeUnit {
+            spot,
+            guard: Some(kind),
+        }),
+        None => None,
     }
 }
 
