@@ -11,7 +11,6 @@ use Rattle.code_laws.proofs.Starting.{one_place, further, starts_apart}
 use Rattle.static_checker.specs.declared.cursor.Cursor.{Cursor}
 use Rattle.static_checker.specs.declared.refusal.Refusal.{Refusal}
 use Rattle.static_checker.specs.declared.spot.Spot.{Spot}
-use Rattle.static_checker.specs.Spots.{IsStartSpot}
 use Rattle.static_checker.specs.declared.code_units.CodeUnit.{CodeUnit}
 use Rattle.static_checker.specs.declared.pass.Pass.{Pass}
 use Rattle.static_checker.specs.Cursors.{IsCursor}
