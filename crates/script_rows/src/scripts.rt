@@ -138,7 +138,8 @@ fn an_empty_text_is_an_empty_script(rt: HostRuntime) -> Result<(), Fail> {
 fn comments_blanks_and_both_ends_of_lines_are_read(rt: HostRuntime) -> Result<(), Fail> {
     let script = read_script(
         rt.alloc(),
-        b"# first\r\n\r\n \t \n\tevery\t3  0 \r\n\t#\x01 second\nat 3 raise 13\n#\nat 3 pick 7\r\nat 3 raise 13\nat 4 pick 7\n mix 0",
+        b"# first\r\n\r\n \t \n\tevery\t3  0 \r\n\t#\x01 second\nat 3 raise 13\n#\nat 3 pick 7\r\n\
+at 3 raise 13\nat 4 pick 7\n mix 0",
     )?;
     let ats = [raise(3, 13), pick(3, 7), raise(3, 13), pick(4, 7)];
     assert!(rt; is_of(&script, &ats, &[Every { period: 3, line: 0 }], Some(0)));
@@ -149,7 +150,8 @@ fn comments_blanks_and_both_ends_of_lines_are_read(rt: HostRuntime) -> Result<()
 fn both_ends_of_each_range_are_read(rt: HostRuntime) -> Result<(), Fail> {
     let script = read_script(
         rt.alloc(),
-        b"every 1 0\nevery 10000000 13\nat 1 raise 0\nat 1 pick 0\nat 10000000 raise 13\nat 10000000 pick 4294967295\nmix 4294967295\n",
+        b"every 1 0\nevery 10000000 13\nat 1 raise 0\nat 1 pick 0\nat 10000000 raise 13\n\
+at 10000000 pick 4294967295\nmix 4294967295\n",
     )?;
     let ats = [
         raise(1, 0),
