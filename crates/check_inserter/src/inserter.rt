@@ -48,7 +48,10 @@ pub fn insert(alloc: Global, o: &Object) -> Result<Object, InsertFault>
     ensures pieces { IfOk result (λ q. PiecesStand o.now q) }
     ensures accepted { IfOk result (λ q. IsAcceptable q) }
     ensures verdicts { IfOk result (λ q. (v : Verdict) → IsVerdict q v → IsAcceptance v) }
+    ensures loads { IfOk result (λ q. HasNoLoads q) }
+    ensures first { o.now.version < 2 → StandsAlone (fields o.now) }
     ensures units { IfOk result (λ q. UnitsEnd o.now q) }
+    ensures groups { IfOk result (λ q. GroupsEnd o.now q) }
     ensures pushes { IfOk result (λ q. CallsPush o.now q) }
     ensures stand { IfOk result (λ q. UnitsStand o.now q) }
     ensures anywhere { IfOk result (λ q. SourcesHide o.now q) }

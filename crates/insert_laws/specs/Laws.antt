@@ -5,8 +5,8 @@ use Rattle.code_model.specs.Fields.{fields}
 use Rattle.code_model.specs.Starts.{Stands, Start}
 use Rattle.code_model.specs.declared.rules.Rule.{Rule}
 use Rattle.code_model.specs.declared.rules.Rule.TheVariants as rule
-use Rattle.code_model.specs.declared.guards.GuardKind.{GuardKind}
-use Rattle.code_model.specs.Guards.{least_version, Guarded, UnitStart}
+use Rattle.code_model.specs.declared.guards.GuardKind.TheVariants as guard
+use Rattle.code_model.specs.Guards.{Guarded, UnitStart}
 use Rattle.code_model.specs.Rules.{Refuses}
 use Rattle.code_model.specs.declared.verdict.Verdict.{Verdict}
 use Rattle.code_model.specs.Verdicts.{AllSpelled, IsAccepted, IsVerdict, IsAcceptance}
@@ -15,7 +15,7 @@ use Rattle.code_model.specs.Relocs.{HasReloc, Unrelocated}
 use Rattle.insert_model.specs.declared.piece.Word.{Word}
 use Rattle.msp_encode.specs.Spelled.{count}
 use Rattle.insert_model.specs.Words.{unit_words}
-use Rattle.insert_model.specs.Inserted.{place_map}
+use Rattle.insert_model.specs.Layout.{place_map}
 use Rattle.insert_model.specs.Faults.{IsInserted}
 use Rattle.insert_laws.specs.Pieces.{pieces, standing, PieceAt}
 
@@ -112,6 +112,10 @@ IsAcceptable q = (units : List ℕ) × IsAccepted q units
 abbrev pub InsertedIsAccepted : Type 0
 InsertedIsAccepted = (o q : Object) → IsInserted o q → IsAcceptable q
 
--- an object with guards has no guard that version 1 doesn't know: no wide and no load guard
-abbrev pub GuardsOfVersionOne : Type 0
-GuardsOfVersionOne = (o q : Object) → IsInserted o q → (at : ℕ) (g : GuardKind) → Guarded q at g → least_version g ≡ 1
+-- no instruction of it stands behind a load guard
+abbrev pub HasNoLoads : Object → Type 0
+HasNoLoads q = (at : ℕ) → Guarded q at guard.Load → ⊥
+
+-- so it is in each object with guards
+abbrev pub NoLoadGuards : Type 0
+NoLoadGuards = (o q : Object) → IsInserted o q → HasNoLoads q

@@ -1,4 +1,4 @@
--- Laws of the source's lines: each is clean, and its unit has its words in the code of the object with guards.
+-- Laws of the source's lines and groups: each line is clean, and each group's unit has its words in the code of the object with guards.
 use Rattle.std.specs.Prelude.{◌≡◌, ℕ, ◌+◌, ◌*◌, ◌%◌, ◌≤◌, ◌⊎◌, List, ◌++◌, length, map}
 use Rattle.std.specs.List.{All, Contains}
 use Rattle.code_model.specs.declared.object.Object.{Object}
@@ -10,10 +10,11 @@ use Rattle.insert_model.specs.declared.piece.Word.{Word}
 use Rattle.msp_encode.specs.Spelled.{count}
 use Rattle.insert_model.specs.Words.{unit_words}
 use Rattle.insert_model.specs.Source.{lines}
-use Rattle.insert_model.specs.Units.{static_bytes, unit}
-use Rattle.insert_model.specs.Inserted.{moved, place_map}
+use Rattle.insert_model.specs.Groups.{Group, behind, groups}
+use Rattle.insert_model.specs.Layout.{place_map}
+use Rattle.insert_model.specs.Inserted.{moved}
 use Rattle.insert_model.specs.Faults.{IsInserted}
-use Rattle.insert_laws.specs.Pieces.{pieces}
+use Rattle.insert_laws.specs.Pieces.{unit_of_group, pieces}
 use Rattle.insert_laws.specs.Shapes.{IsCleanLine}
 
 -- an instruction starts at the line's place, and the words from there on spell the line's
@@ -38,23 +39,23 @@ LinesAreClean = (o q : Object) → IsInserted o q → (l : Line) → Contains (l
 abbrev pub CodeIsPieces : Type 0
 CodeIsPieces = (o q : Object) → IsInserted o q → q.code ≡ map (moved (place_map (fields o))) (unit_words (pieces (fields o)))
 
--- the words of a line's unit
-abbrev pub line_words : Object → Line → List Word
-line_words o l = unit_words (unit (static_bytes (fields o)) l)
+-- the words of a group's unit
+abbrev pub group_words : Object → Group → List Word
+group_words o g = unit_words (unit_of_group (fields o) g)
 
--- the words of a line's unit among those of all pieces
-pub record UnitLies (o : Object) (l : Line) : Type 0 where
+-- the words of a group's unit among those of all pieces
+pub record UnitLies (o : Object) (g : Group) : Type 0 where
   pub front : List Word
   pub back : List Word
-  pub are : unit_words (pieces (fields o)) ≡ front ++ (line_words o l ++ back)
-  -- the place map sends the line's offset to its unit, and the offset behind the line to the words behind the unit
-  pub first : place_map (fields o) (2 * l.at) ≡ 2 * length front
-  pub behind : place_map (fields o) (2 * (l.at + count l.instr)) ≡ 2 * (length front + length (line_words o l))
+  pub are : unit_words (pieces (fields o)) ≡ front ++ (group_words o g ++ back)
+  -- the place map sends the first line's offset to the unit, and the offset behind the last line to the words behind the unit
+  pub first : place_map (fields o) (2 * g.head.at) ≡ 2 * length front
+  pub behind : place_map (fields o) (2 * behind g) ≡ 2 * (length front + length (group_words o g))
   -- and it sends no word's offset within the unit
-  pub apart : (t : ℕ) → (place_map (fields o) (2 * t) ≤ 2 * length front) ⊎ (2 * (length front + length (line_words o l)) ≤ place_map (fields o) (2 * t))
+  pub apart : (t : ℕ) → (place_map (fields o) (2 * t) ≤ 2 * length front) ⊎ (2 * (length front + length (group_words o g)) ≤ place_map (fields o) (2 * t))
 
-abbrev pub LinesHaveUnits : Type 0
-LinesHaveUnits = (o q : Object) → IsInserted o q → (l : Line) → Contains (lines (fields o)) l → UnitLies o l
+abbrev pub GroupsHaveUnits : Type 0
+GroupsHaveUnits = (o q : Object) → IsInserted o q → (g : Group) → Contains (groups (fields o)) g → UnitLies o g
 
 -- the place map sends no offset behind the code, and each to a word
 pub record LiesWithin (o q : Object) (x : ℕ) : Type 0 where

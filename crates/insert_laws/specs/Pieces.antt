@@ -9,19 +9,24 @@ use Rattle.msp_encode.specs.declared.instr.Instr.{Instr}
 use Rattle.msp_encode.specs.declared.instr.Instr.TheVariants as instr
 use Rattle.code_model.specs.declared.parts.RelKind.{RelKind}
 use Rattle.code_model.specs.Fields.{Fields}
-use Rattle.insert_model.specs.declared.line.Line.{Line}
 use Rattle.insert_model.specs.declared.piece.Piece.{Piece}
 use Rattle.msp_encode.specs.Spelled.{spelling}
-use Rattle.insert_model.specs.Source.{lines}
-use Rattle.insert_model.specs.Units.{static_bytes, unit}
-use Rattle.insert_model.specs.Inserted.{moved_value, place_map}
+use Rattle.insert_model.specs.Units.{static_bytes}
+use Rattle.insert_model.specs.Groups.{Group, groups}
+use Rattle.insert_model.specs.Layout.{unit_in, final, place_map}
+use Rattle.insert_model.specs.Inserted.{moved_value}
+
+-- the unit of a group in the object with guards
+unfoldable pub unit_of_group : Fields → Group → List Piece
+unit_of_group f g = unit_in (final f) (static_bytes f) g
+
+-- the pieces of the units of groups
+unfoldable pub pieces_of : Fields → List Group → List Piece
+pieces_of f gs = flat_map (unit_of_group f) gs
 
 -- the pieces of all units
-unfoldable pub pieces_of : ℕ → List Line → List Piece
-pieces_of size ls = flat_map (unit size) ls
-
 unfoldable pub pieces : Fields → List Piece
-pieces f = pieces_of (static_bytes f) (lines f)
+pieces f = pieces_of f (groups f)
 
 -- an operand whose word names the unit of what it named
 abbrev pub moved_src : (ℕ → ℕ) → Option RelKind → Src → Src

@@ -1,5 +1,5 @@
 -- The shape of the pieces of an object with guards: free pieces, and guards with what they guard.
-use Rattle.std.specs.Prelude.{◌≡◌, ℕ, ◌<◌, ◌≤◌, ◌⊎◌, List, [], ◌∷◌, ◌++◌, Option, None, ℤ, pos}
+use Rattle.std.specs.Prelude.{◌≡◌, ℕ, ◌%◌, ◌<◌, ◌≤◌, ◌⊎◌, List, [], ◌∷◌, ◌++◌, Option, None, ℤ, pos}
 use Rattle.msp_encode.specs.declared.instr.Op2.TheVariants.{Mov}
 use Rattle.msp_encode.specs.declared.instr.Width.TheVariants.{Wide}
 use Rattle.msp_encode.specs.declared.instr.Cond.{Cond}
@@ -8,16 +8,17 @@ use Rattle.msp_encode.specs.declared.instr.Dst.TheVariants as dst
 use Rattle.msp_encode.specs.declared.instr.Instr.{Instr}
 use Rattle.msp_encode.specs.declared.instr.Instr.TheVariants as instr
 use Rattle.code_model.specs.declared.parts.RelKind.{RelKind}
+use Rattle.code_model.specs.declared.guards.Reach.{Reach}
 use Rattle.code_model.specs.declared.guards.GuardKind.{GuardKind}
 use Rattle.code_model.specs.declared.guards.GuardKind.TheVariants as guard
-use Rattle.code_model.specs.Guards.{Writes, Changes, IsQuiet, IsAtR4, IsGrowthForm, IsPopForm, IsSpForm}
+use Rattle.code_model.specs.Guards.{reach_bytes, Writes, Changes, IsQuiet, IsAtR4, IsGrowthForm, IsPopForm, IsSpForm}
 use Rattle.msp_encode.specs.Spelling.{InstrFits}
 use Rattle.code_model.specs.declared.object.Object.{Object}
 use Rattle.code_model.specs.Rules.{IsReti, WritesReg, IsBranch, WritesMemory, ReadsStack, IsPushOrCall, IsAlways}
 use Rattle.insert_model.specs.declared.line.Line.{Line}
 use Rattle.insert_model.specs.declared.piece.Piece.{Piece}
 use Rattle.insert_model.specs.Faults.{UsesCheck, ChangesFlags, IsForbidden, GoesWrong}
-use Rattle.insert_model.specs.Guards.{store_guard, growth_guard, pop_guard, sp_guard}
+use Rattle.insert_model.specs.Guards.{store_guard, wide_guard, growth_guard, pop_guard, sp_guard}
 
 -- `MOV SR,R5`, with which each guard begins
 abbrev pub saving : Instr
@@ -32,10 +33,19 @@ pub record IsStoreGuard (gs : List Piece) : Type 0 where
   pub register : (base ≡ 1) ⊎ (3 ≤ base)
   pub are : gs ≡ store_guard base index kind
 
--- no unit has a wide or a load guard
+-- those of a wide guard
+pub record IsWideGuard (r : Reach) (gs : List Piece) : Type 0 where
+  pub base : ℕ
+  pub index : ℕ
+  pub kind : Option RelKind
+  pub below : base < 16
+  pub register : (base ≡ 1) ⊎ (3 ≤ base)
+  pub are : gs ≡ wide_guard r base index kind
+
+-- no unit has a load guard
 abbrev pub IsGuard : GuardKind → List Piece → Type 0
 IsGuard guard.Store gs = IsStoreGuard gs
-IsGuard (guard.Wide r) gs = ⊥
+IsGuard (guard.Wide r) gs = IsWideGuard r gs
 IsGuard guard.Load gs = ⊥
 IsGuard guard.Growth gs = gs ≡ growth_guard
 IsGuard guard.Pop gs = gs ≡ pop_guard
@@ -48,10 +58,15 @@ IsThroughR4 k (instr.One op w s) = Changes op × IsAtR4 s
 IsThroughR4 k instr.Reti = ⊥
 IsThroughR4 k (instr.Jump c n) = ⊥
 
+-- a store through x(R4), where x isn't relocated, even and at most so many bytes
+abbrev pub IsNearR4 : ℕ → Option RelKind → Instr → Type 0
+IsNearR4 most k (instr.Two op w s d) = Writes op × ((x : ℕ) × ((d ≡ dst.Indexed 4 x) × ((x % 2 ≡ 0) × (x ≤ most)))) × (k ≡ None) × IsQuiet s
+IsNearR4 most k _ = ⊥
+
 -- a piece that a guard of this kind may stand before
 abbrev pub IsServed : GuardKind → Piece → Type 0
 IsServed guard.Store p = IsThroughR4 p.destination p.instr
-IsServed (guard.Wide r) p = ⊥
+IsServed (guard.Wide r) p = IsNearR4 (reach_bytes r) p.destination p.instr
 IsServed guard.Load p = ⊥
 IsServed guard.Growth p = IsGrowthForm p.instr
 IsServed guard.Pop p = IsPopForm p.instr

@@ -1,9 +1,9 @@
 //! Laws of objects with guards, for the layers above: each is used by calling it.
 #![tactic(auto)]
 
-ghost use Rattle.insert_laws.specs.Laws.{StartsArePieces, RelocsArePieces, FormRulesPass, StartsAreUnits, EntryRulePasses, TargetRulePasses, EndRulePasses, JumpRulePasses, NothingRefused, VerdictAccepts, InsertedIsAccepted, GuardsOfVersionOne};
+ghost use Rattle.insert_laws.specs.Laws.{StartsArePieces, RelocsArePieces, FormRulesPass, StartsAreUnits, EntryRulePasses, TargetRulePasses, EndRulePasses, JumpRulePasses, NothingRefused, VerdictAccepts, InsertedIsAccepted, NoLoadGuards};
 ghost use Rattle.insert_laws.specs.Source.{StartsDecided};
-ghost use Rattle.insert_laws.specs.Lines.{CodeIsPieces, LinesAreClean, LinesAreSpelled, LinesHaveUnits, PlacesWithin};
+ghost use Rattle.insert_laws.specs.Lines.{CodeIsPieces, LinesAreClean, LinesAreSpelled, GroupsHaveUnits, PlacesWithin};
 
 use code_laws::{guarded_leaves, guards_apart, next_start, one_stands, starts_apart};
 use insert_model::laws::{instruction_size, line_stands};
@@ -127,9 +127,9 @@ pub fn inserted_is_accepted()
     nothing_refused();
 }
 
-/// An object with guards has no wide and no load guard, whatever its version: each guard in it is one that version 1 knows.
-pub fn guards_of_version_one()
-    ensures { GuardsOfVersionOne }
+/// An object with guards has no load guard.
+pub fn no_load_guards()
+    ensures { NoLoadGuards }
 {
     one_stands();
     reading_law();
@@ -170,10 +170,10 @@ pub fn code_is_pieces()
     ensures { CodeIsPieces }
 {}
 
-/// The words of each line's unit lie one behind another in the code: the place map sends the line's offset to the first of them, and
-/// the offset behind the line to what is behind the last. It sends no offset between them.
-pub fn lines_have_units()
-    ensures { LinesHaveUnits }
+/// The words of each group's unit lie one behind another in the code: the place map sends the offset of its first line to the first of
+/// them, and the offset behind its last line to what is behind the last. It sends no offset between them.
+pub fn groups_have_units()
+    ensures { GroupsHaveUnits }
 {
     instruction_size();
     line_stands();

@@ -30,9 +30,11 @@ use Rattle.insert_model.specs.declared.fault.InsertFault.TheVariants.{At, Memory
 use Rattle.insert_model.specs.declared.line.Line.{Line}
 use Rattle.insert_model.specs.declared.piece.Piece.{Piece}
 use Rattle.msp_encode.specs.Spelled.{count}
-use Rattle.insert_model.specs.Source.{lines, own}
+use Rattle.insert_model.specs.Source.{word_in, lines, own}
 use Rattle.insert_model.specs.Units.{static_bytes}
-use Rattle.insert_model.specs.Inserted.{units, word_in, inserted}
+use Rattle.insert_model.specs.Groups.{Group, groups}
+use Rattle.insert_model.specs.Layout.{units, final, final_units}
+use Rattle.insert_model.specs.Inserted.{inserted}
 
 abbrev pub number : InsertKind → ℕ
 number NotDecoded = 1
@@ -276,15 +278,15 @@ pub record IsFirst (o : Object) (k : InsertKind) (x : ℕ) : Type 0 where
 unfoldable pub most_words : ℕ
 most_words = CODE_WORDS_MAX
 
--- the units of the lines before this one fit, and its own passes the most words
+-- the units of the groups before this one fit, and its own passes the most words. The offset is that of the group's first instruction
 pub record Passes (o : Object) (x : ℕ) : Type 0 where
-  pub before : List Line
-  pub line : Line
-  pub after : List Line
-  pub are : lines (fields o) ≡ before ++ line ∷ after
-  pub is : x ≡ 2 * line.at
-  pub fits : length (units (static_bytes (fields o)) before) ≤ most_words
-  pub passes : most_words < length (units (static_bytes (fields o)) (before ++ line ∷ []))
+  pub before : List Group
+  pub group : Group
+  pub after : List Group
+  pub are : groups (fields o) ≡ before ++ group ∷ after
+  pub is : x ≡ 2 * group.head.at
+  pub fits : length (units (final (fields o)) (static_bytes (fields o)) before) ≤ most_words
+  pub passes : most_words < length (units (final (fields o)) (static_bytes (fields o)) (before ++ group ∷ []))
 
 -- ---- the answer
 
@@ -314,7 +316,7 @@ IsFault o TooLarge x = IsTooLarge o x
 pub record IsInserted (o q : Object) : Type 0 where
   pub spelled : AllSpelled o
   pub clean : NoHit o
-  pub fits : length (units (static_bytes (fields o)) (lines (fields o))) ≤ most_words
+  pub fits : length (final_units (fields o)) ≤ most_words
   pub is : fields q ≡ inserted o
 
 abbrev pub IsAnswer : Object → Result Object InsertFault → Type 0

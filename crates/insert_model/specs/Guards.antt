@@ -15,6 +15,8 @@ use Rattle.msp_encode.specs.declared.instr.Instr.{Instr}
 use Rattle.msp_encode.specs.declared.instr.Instr.TheVariants as instr
 use Rattle.code_model.specs.declared.parts.RelKind.{RelKind}
 use Rattle.code_model.specs.declared.parts.RelKind.TheVariants.{Lo, Hi}
+use Rattle.code_model.specs.declared.guards.Reach.{Reach}
+use Rattle.code_model.specs.Guards.{high_word}
 use Rattle.insert_model.specs.declared.piece.Piece.{Piece}
 use Rattle.kernel_model.specs.declared.map.TheConstants.{STACK_LIMIT, STACK_TOP}
 use Rattle.kernel_model.specs.declared.entries.TheConstants.{STACK_FAULT, STORE_FAULT}
@@ -65,10 +67,18 @@ base n = if n == CONSTANTS then src.Const Zero else src.Reg n
 
 -- ---- guards
 
--- 4205, 4n04, 5034 X, 9034 LO, 2803, 9034 HI, 2802, 4030 F000, 4502
+-- 4205, 4n04, 5034 X, 9034 LO, 2803, 9034 HI, 2802, 4030 F000, 4502, where the region's end is added to a word
+abbrev pub region_guard : (n x high : ℕ) → Option RelKind → List Piece
+region_guard n x high k = save ∷ mov (base n) (dst.Reg CHECKED) ∷ on_r4 Add x k ∷ on_r4 Cmp 0 (Some Lo) ∷ jump cond.Nc (pos 3)
+    ∷ on_r4 Cmp high (Some Hi) ∷ jump cond.Nc (pos 2) ∷ branch STORE_FAULT None ∷ restore ∷ []
+
+-- before one store
 abbrev pub store_guard : (n x : ℕ) → Option RelKind → List Piece
-store_guard n x k = save ∷ mov (base n) (dst.Reg CHECKED) ∷ on_r4 Add x k ∷ on_r4 Cmp 0 (Some Lo) ∷ jump cond.Nc (pos 3)
-    ∷ on_r4 Cmp 0 (Some Hi) ∷ jump cond.Nc (pos 2) ∷ branch STORE_FAULT None ∷ restore ∷ []
+store_guard n x k = region_guard n x 0 k
+
+-- before several, of which the last byte is so many bytes behind the first's
+abbrev pub wide_guard : Reach → (n x : ℕ) → Option RelKind → List Piece
+wide_guard r n x k = region_guard n x (high_word r) k
 
 -- 4205, 9211 0200, 2C02, 4030 F002, 4502
 abbrev pub growth_guard : List Piece

@@ -1,35 +1,15 @@
--- The object with its guards, and where each source offset went.
-use Rattle.std.specs.Prelude.{ℕ, ◌+◌, ◌*◌, ◌/◌, ◌%◌, true, not, nat_lt, if◌then◌else◌, List, [], ◌∷◌, ◌++◌, length, map, slice_index, slice_set, Option, None, Some}
-use Rattle.std.specs.List.{flat_map, filter, fold}
+-- The object with its guards.
+use Rattle.std.specs.Prelude.{ℕ, ◌+◌, ◌*◌, ◌/◌, ◌%◌, true, not, if◌then◌else◌, List, [], ◌∷◌, ◌++◌, map, slice_set, Option, None, Some}
+use Rattle.std.specs.List.{filter, fold}
 use Rattle.code_model.specs.declared.object.Object.{Object}
 use Rattle.code_model.specs.declared.parts.Reloc.{Reloc}
 use Rattle.code_model.specs.declared.parts.Export.{Export}
 use Rattle.code_model.specs.declared.parts.RelKind.{RelKind}
 use Rattle.code_model.specs.declared.parts.RelKind.TheVariants.{Code, Data, Lo, Hi}
 use Rattle.code_model.specs.Fields.{Fields, fields, fields_by}
-use Rattle.insert_model.specs.declared.line.Line.{Line}
 use Rattle.insert_model.specs.declared.piece.Word.{Word}
-use Rattle.insert_model.specs.Words.{unit_words}
-use Rattle.insert_model.specs.Source.{lines}
-use Rattle.insert_model.specs.Units.{static_bytes, unit}
-
--- ---- the place map
-
--- the words of the units of these lines, one unit after another
-unfoldable pub units : ℕ → List Line → List Word
-units size ls = flat_map (λ l. unit_words (unit size l)) ls
-
--- the lines that start before a place
-unfoldable pub before : ℕ → List Line → List Line
-before at ls = filter (λ (l : Line). nat_lt l.at at) ls
-
--- where the units of the lines before an offset's word end
-unfoldable pub place_in : ℕ → List Line → ℕ → ℕ
-place_in size ls x = 2 * length (units size (before (x / 2) ls))
-
--- where a source offset went
-unfoldable pub place_map : Fields → ℕ → ℕ
-place_map f x = place_in (static_bytes f) (lines f) x
+use Rattle.insert_model.specs.Source.{word_in}
+use Rattle.insert_model.specs.Layout.{final_units, place_map}
 
 -- ---- code
 
@@ -56,10 +36,6 @@ relocs_from at (w ∷ ws) = with_reloc at w.kind (relocs_from (at + 1) ws)
 
 -- ---- static data
 
--- the word at an offset of bytes
-abbrev pub word_in : List ℕ → ℕ → ℕ
-word_in bs d = slice_index bs d + 256 * slice_index bs (d + 1)
-
 abbrev pub with_word : List ℕ → ℕ → ℕ → List ℕ
 with_word bs d v = slice_set (slice_set bs d (v % 256)) (d + 1) (v / 256)
 
@@ -81,11 +57,11 @@ moved_export map e = record { number = e.number; offset = map e.offset }
 
 -- ---- the object
 
--- The fields with guards: each instruction has its unit, and each jump target, each word to which the code's address is added, the
--- entry and the exports name the units of what they named
+-- The fields with guards: each group of instructions has its unit, and each jump target, each word to which the code's address is added,
+-- the entry and the exports name the units of what they named
 unfoldable pub with_guards : Fields → Fields
 with_guards f =
-    let ws = units (static_bytes f) (lines f) in
+    let ws = final_units f in
     let go = place_map f in
     fields_by f.kind f.version (map (moved go) ws) (fold (moved_data go) f.init f.relocs) f.zeroed f.stack f.threads (go f.entry)
     (relocs_from 0 ws ++ of_data f.relocs) (map (moved_export go) f.exports)

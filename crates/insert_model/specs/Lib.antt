@@ -2,6 +2,8 @@ pub mod Words
 pub mod Source
 pub mod Guards
 pub mod Units
+pub mod Groups
+pub mod Layout
 pub mod Inserted
 pub mod Faults
 pub mod Laws

@@ -26,6 +26,12 @@ kind_at relocs at = fold (on_word at) None relocs
 abbrev pub kind_within : List Reloc → (at n m : ℕ) → Option RelKind
 kind_within relocs at n m = if nat_lt m n then kind_at relocs (at + m) else None
 
+-- ---- static data
+
+-- the word at an offset of bytes
+abbrev pub word_in : List ℕ → ℕ → ℕ
+word_in bs d = slice_index bs d + 256 * slice_index bs (d + 1)
+
 -- ---- lines
 
 unfoldable pub line_at : List Reloc → ℕ → Instr → Line

@@ -1,6 +1,6 @@
 -- Where running the unit of a source instruction ends.
-use Rattle.std.specs.Prelude.{◌≡◌, ℕ, ◌+◌, ◌*◌, ◌%◌, ◌≤◌, ◌⊎◌, List, map, length, Option, None, Some}
-use Rattle.std.specs.List.{Contains}
+use Rattle.std.specs.Prelude.{◌≡◌, ◌≢◌, ℕ, ◌+◌, ◌*◌, ◌%◌, ◌≤◌, ◌⊎◌, List, [], map, length, Option, None, Some}
+use Rattle.std.specs.List.{All, Any, Contains}
 use Rattle.msp_encode.specs.declared.instr.Op1.TheVariants.{Call}
 use Rattle.msp_encode.specs.declared.instr.Width.{Width}
 use Rattle.msp_encode.specs.declared.instr.Width.TheVariants.{Wide}
@@ -23,29 +23,31 @@ use Rattle.load_model.specs.Standing.{HasBytes}
 use Rattle.node_model.specs.Placed.{IsWellPlaced}
 use Rattle.insert_model.specs.declared.line.Line.{Line}
 use Rattle.msp_encode.specs.Spelled.{count}
-use Rattle.insert_model.specs.Words.{unit_words}
 use Rattle.insert_model.specs.Source.{lines, own}
-use Rattle.insert_model.specs.Units.{static_bytes, unit}
+use Rattle.insert_model.specs.Groups.{Group, alone, members, behind, groups}
 use Rattle.insert_model.specs.Faults.{IsInserted, IsSourceJump, IsSourceCall}
+use Rattle.insert_laws.specs.Lines.{group_words}
 use Rattle.insert_laws.specs.Shapes.{IsCleanLine}
 use Rattle.unit_laws.specs.Guards.{WordsAt}
 use Rattle.unit_laws.specs.Running.{IsInside}
+use Rattle.unit_laws.specs.Frame.{spread}
+use Rattle.unit_laws.specs.Groups.{WorksUnit}
 use Rattle.unit_laws.specs.Rows.{Follows, Hands, Halts, SameButPc}
-use Rattle.placed_unit_laws.specs.Placed.{unit_address, unit_at, unit_behind, placed_word, placed_src, placed, source_does}
+use Rattle.placed_unit_laws.specs.Placed.{unit_address, unit_at, unit_behind, placed_word, placed_src, placed, source_does, source_after}
 use Rattle.placed_unit_laws.specs.Checks.{check_of, Fails, entry_of, before_check, handed}
 use Rattle.kernel_model.specs.declared.map.TheConstants.{CODE_POOL_END, STACK_LIMIT, STACK_TOP}
 
 -- A domain's object, made from o, was placed, its code's bytes are in memory with the two limit words of a stack [low, top), and PC is at
--- the unit of a source instruction. Each context that is good for the domain is a context.
-pub record IsAtUnit (o : Object) (d : Domain) (low top : ℕ) (m r : List ℕ) (l : Line) : Type 0 where
-  pub line : Contains (lines (fields o)) l
+-- the unit of a group of source instructions. Each context that is good for the domain is a context.
+pub record IsAtUnit (o : Object) (d : Domain) (low top : ℕ) (m r : List ℕ) (g : Group) : Type 0 where
+  pub group : Contains (groups (fields o)) g
   pub placed : IsWellPlaced d
   pub memory : IsMemory m
   pub code : HasBytes m d.code_lo (code_image d)
   pub limit : word_at m STACK_LIMIT ≡ low + 6
   pub last : word_at m STACK_TOP ≡ top
   pub context : IsContext r
-  pub pc : reg r 0 ≡ unit_at o d l
+  pub pc : reg r 0 ≡ unit_at o d g.head
 
 -- ---- where a unit leads
 
@@ -95,15 +97,35 @@ pub data UnitEnds (o : Object) (d : Domain) (low top : ℕ) (m r : List ℕ) (l 
   Halted : Fails o d low top m r (check_of o l) → Halts m r (unit_at o d l) (unit_behind o d l) (entry_of (check_of o l)) (before_check o d r l (check_of o l) l.instr) → UnitEnds o d low top m r l
   Done : (Fails o d low top m r (check_of o l) → ⊥) → EndsBy o d m r l (handed l.instr) → UnitEnds o d low top m r l
 
--- the words of a unit in memory
-pub record UnitStands (o : Object) (d : Domain) (m : List ℕ) (l : Line) : Type 0 where
-  pub clean : IsCleanLine o l
-  pub words : WordsAt m (unit_at o d l) 0 (map (placed_word o d) (unit_words (unit (static_bytes (fields o)) l)))
-  pub behind : unit_behind o d l ≡ unit_at o d l + 2 * length (unit_words (unit (static_bytes (fields o)) l))
-  pub even : unit_at o d l % 2 ≡ 0
-  pub below : unit_behind o d l ≤ CODE_POOL_END
+-- the address behind a group's unit
+abbrev pub group_behind : Object → Domain → Group → ℕ
+group_behind o d g = unit_address o d (2 * behind g)
+
+-- the address of a store of the group is outside of the region
+abbrev pub AnyFails : Object → Domain → (low top : ℕ) → (m r : List ℕ) → Group → Type 0
+AnyFails o d low top m r g = Any (λ (l : Line). Fails o d low top m r (check_of o l)) (members g)
+
+-- The run does what the source instructions do, one after another, but for R4 and R5, and leads to the next unit
+pub record Works (o : Object) (d : Domain) (m r : List ℕ) (g : Group) : Type 0 where
+  pub x : ℕ
+  pub y : ℕ
+  pub runs : WorksUnit m r (unit_at o d g.head) (group_behind o d g) (source_after o d m r (members g)).0 (spread (source_after o d m r (members g)).1 x y)
+  pub lands : reg (source_after o d m r (members g)).1 0 ≡ group_behind o d g
+
+-- Where an address that its guard tests is outside of the region, the unit of a group of stores ends at the store fault with nothing written; else it does them all
+pub data GroupEnds (o : Object) (d : Domain) (low top : ℕ) (m r : List ℕ) (g : Group) : Type 0 where
+  Stopped : AnyFails o d low top m r g → Halts m r (unit_at o d g.head) (group_behind o d g) STORE_FAULT r → GroupEnds o d low top m r g
+  Worked : (AnyFails o d low top m r g → ⊥) → Works o d m r g → GroupEnds o d low top m r g
+
+-- the words of a group's unit in memory
+pub record UnitStands (o : Object) (d : Domain) (m : List ℕ) (g : Group) : Type 0 where
+  pub clean : All (IsCleanLine o) (members g)
+  pub words : WordsAt m (unit_at o d g.head) 0 (map (placed_word o d) (group_words o g))
+  pub behind : group_behind o d g ≡ unit_at o d g.head + 2 * length (group_words o g)
+  pub even : unit_at o d g.head % 2 ≡ 0
+  pub below : group_behind o d g ≤ CODE_POOL_END
   -- no start's unit begins within this one
-  pub apart : (t : ℕ) → Start o.code t → IsInside (unit_at o d l) (unit_behind o d l) (unit_address o d (2 * t)) → ⊥
+  pub apart : (t : ℕ) → Start o.code t → IsInside (unit_at o d g.head) (group_behind o d g) (unit_address o d (2 * t)) → ⊥
 
 -- ---- where a source instruction stands
 
@@ -114,30 +136,37 @@ StaysInLine (instr.One op w s) = IsCall op → ⊥
 StaysInLine instr.Reti = ⊥
 StaysInLine (instr.Jump c k) = ⊥
 
--- ---- what holds of an object, wherever it is placed, at the unit of each instruction of the source o
+-- ---- what holds of an object, wherever it is placed, at the unit of each group of instructions of the source o
 
--- its run ends in one of these ways
+-- the run of an instruction's own unit ends in one of these ways
 abbrev pub UnitsEnd : (o q : Object) → Type 0
-UnitsEnd o q = (d : Domain) (low top : ℕ) (m r : List ℕ) (l : Line) → d.object ≡ q → IsAtUnit o d low top m r l → UnitEnds o d low top m r l
+UnitsEnd o q = (d : Domain) (low top : ℕ) (m r : List ℕ) (l : Line) → d.object ≡ q → IsAtUnit o d low top m r (alone l) → UnitEnds o d low top m r l
+
+-- and that of a group of several in one of these
+abbrev pub GroupsEnd : (o q : Object) → Type 0
+GroupsEnd o q = (d : Domain) (low top : ℕ) (m r : List ℕ) (g : Group) → d.object ≡ q → IsAtUnit o d low top m r g → g.rest ≢ [] → GroupEnds o d low top m r g
 
 -- what a call pushes is the address of the next unit
 abbrev pub CallsPush : (o q : Object) → Type 0
-CallsPush o q = (d : Domain) (low top : ℕ) (m r : List ℕ) (l : Line) (w : Width) (s : Src) → d.object ≡ q → IsAtUnit o d low top m r l
+CallsPush o q = (d : Domain) (low top : ℕ) (m r : List ℕ) (l : Line) (w : Width) (s : Src) → d.object ≡ q → IsAtUnit o d low top m r (alone l)
     → l.instr ≡ instr.One Call w s → (source_does o d m r l).written ≡ stored Wide (reg (source_does o d m r l).context 1) (unit_behind o d l)
 
 -- its words stand where the place map says
 abbrev pub UnitsStand : (o q : Object) → Type 0
-UnitsStand o q = (d : Domain) (low top : ℕ) (m r : List ℕ) (l : Line) → d.object ≡ q → IsAtUnit o d low top m r l → UnitStands o d m l
+UnitsStand o q = (d : Domain) (low top : ℕ) (m r : List ℕ) (g : Group) → d.object ≡ q → IsAtUnit o d low top m r g → UnitStands o d m g
 
--- and the source instruction, if it leads to the next one and pushes no address, does the same wherever it stands, but for PC
+-- and a source instruction, if it leads to the next one and pushes no address, does the same wherever it stands, but for PC
 abbrev pub SourcesHide : (o q : Object) → Type 0
-SourcesHide o q = (d : Domain) (low top : ℕ) (m r : List ℕ) (l : Line) (p : ℕ) → d.object ≡ q → IsAtUnit o d low top m r l → StaysInLine l.instr
+SourcesHide o q = (d : Domain) (m r : List ℕ) (l : Line) (p : ℕ) → d.object ≡ q → IsWellPlaced d → Contains (lines (fields o)) l → IsContext r → StaysInLine l.instr
     → SameButPc (source_does o d m r l) (does m (set_reg r 0 p) (placed o d (own l)) (count l.instr))
 
 -- ---- the laws: all of it holds of the object that o has with guards
 
 abbrev pub UnitEndsLaw : Type 0
 UnitEndsLaw = (o q : Object) → IsInserted o q → UnitsEnd o q
+
+abbrev pub GroupEndsLaw : Type 0
+GroupEndsLaw = (o q : Object) → IsInserted o q → GroupsEnd o q
 
 abbrev pub PushedLaw : Type 0
 PushedLaw = (o q : Object) → IsInserted o q → CallsPush o q

@@ -1,5 +1,5 @@
 -- Units where an object with guards was placed, and what a source instruction does there.
-use Rattle.std.specs.Prelude.{ℕ, ◌+◌, ◌*◌, ◌%◌, if◌then◌else◌, List, Option, None, Some}
+use Rattle.std.specs.Prelude.{ℕ, ◌+◌, ◌*◌, ◌%◌, if◌then◌else◌, List, [], ◌∷◌, Option, None, Some}
 use Rattle.msp_encode.specs.declared.instr.Src.{Src}
 use Rattle.msp_encode.specs.declared.instr.Src.TheVariants as src
 use Rattle.msp_encode.specs.declared.instr.Dst.{Dst}
@@ -7,7 +7,7 @@ use Rattle.msp_encode.specs.declared.instr.Dst.TheVariants as dst
 use Rattle.msp_encode.specs.declared.instr.Instr.{Instr}
 use Rattle.msp_encode.specs.declared.instr.Instr.TheVariants as instr
 use Rattle.machine_model.specs.Context.{reg, set_reg}
-use Rattle.machine_model.specs.Does.{Effect, holds, target}
+use Rattle.machine_model.specs.Does.{Effect, memory_after, holds, target}
 use Rattle.code_model.specs.declared.object.Object.{Object}
 use Rattle.code_model.specs.declared.parts.RelKind.{RelKind}
 use Rattle.code_model.specs.Fields.{fields}
@@ -17,7 +17,8 @@ use Rattle.insert_model.specs.declared.piece.Piece.{Piece}
 use Rattle.insert_model.specs.declared.piece.Word.{Word}
 use Rattle.msp_encode.specs.Spelled.{count}
 use Rattle.insert_model.specs.Source.{own}
-use Rattle.insert_model.specs.Inserted.{moved_value, place_map}
+use Rattle.insert_model.specs.Layout.{place_map}
+use Rattle.insert_model.specs.Inserted.{moved_value}
 use Rattle.unit_laws.specs.Running.{silent}
 use Rattle.unit_laws.specs.Rows.{ended}
 
@@ -82,3 +83,8 @@ instr_does o d m r l (instr.Jump c k) = silent (set_reg r 0 (if holds c (reg r 2
 
 unfoldable pub source_does : Object → Domain → (m r : List ℕ) → Line → Effect
 source_does o d m r l = instr_does o d m r l l.instr
+
+-- memory and context after source instructions, one after another
+unfoldable pub source_after : Object → Domain → (m r : List ℕ) → List Line → List ℕ × List ℕ
+source_after o d m r [] = (m, r)
+source_after o d m r (l ∷ ls) = source_after o d (memory_after m (source_does o d m r l)) (source_does o d m r l).context ls

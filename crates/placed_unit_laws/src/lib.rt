@@ -6,11 +6,11 @@
 //! and laws (`insert_laws`), and on the images of placed objects (`load_model`).
 #![tactic(auto)]
 
-ghost use Rattle.placed_unit_laws.specs.Ends.{PushedLaw, SourcePlaceLaw, UnitEndsLaw, UnitStandsLaw};
+ghost use Rattle.placed_unit_laws.specs.Ends.{GroupEndsLaw, PushedLaw, SourcePlaceLaw, UnitEndsLaw, UnitStandsLaw};
 ghost use Rattle.placed_unit_laws.specs.Given.{RowLaws};
 
 use insert_laws::{
-    code_is_pieces, lines_are_clean, lines_have_units, places_within, relocs_are_pieces,
+    code_is_pieces, groups_have_units, lines_are_clean, places_within, relocs_are_pieces,
     starts_decided,
 };
 use load_model::code_image_stands;
@@ -45,13 +45,13 @@ fn row_laws()
     places_within();
 }
 
-/// Where the bytes of an object with guards are its image, the words of each source instruction's unit stand at the unit's
-/// address, just before those of the next, and no other unit begins among them.
+/// Where the bytes of an object with guards are its image, the words of each group's unit stand at the unit's address, just
+/// before those of the next, and no other unit begins among them.
 pub fn unit_stands()
     ensures { UnitStandsLaw }
 {
     lines_are_clean();
-    lines_have_units();
+    groups_have_units();
     code_is_pieces();
     relocs_are_pieces();
     code_image_stands();
@@ -62,6 +62,16 @@ pub fn unit_stands()
 /// computed jump or a computed call ends at the entry that takes it over, with the target in R4.
 pub fn unit_ends()
     ensures { UnitEndsLaw }
+{
+    row_laws();
+    unit_stands();
+}
+
+/// Running the unit of a group of stores ends at the store fault, with nothing written, exactly where an address that its guard tests is
+/// outside of the region. Elsewhere it does what the source instructions do, one after another, but for R4 and R5, and leads to the next
+/// unit.
+pub fn group_ends()
+    ensures { GroupEndsLaw }
 {
     row_laws();
     unit_stands();

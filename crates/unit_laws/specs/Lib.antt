@@ -4,3 +4,4 @@ pub mod Guards
 pub mod Frame
 pub mod Guarded
 pub mod Rows
+pub mod Groups
