@@ -1,2 +1,5 @@
 pub mod Worked
 pub mod Lines
+pub mod Cutting
+pub mod Layouts
+pub mod FirstVersion
