@@ -57,6 +57,11 @@ last_group cuts f front g e =
     let s : GroupsStand f = cuts f in
     sym s.are ∙ ap (flat_map members) e ∙ flat_map-append members front (g ∷ []) ∙ ap (λ (ls : List Line). flat_map members front ++ ls) (append-nil (members g))
 
+-- the place behind a line that stands alone
+pub behind_alone : (g : Group) → g.rest ≡ [] → behind g ≡ g.head.at + count g.head.instr
+unfolding last_of
+behind_alone g e = ap (λ (ls : List Line). (last_of g.head ls).at + count (last_of g.head ls).instr) e
+
 -- ---- the groups before a place
 
 not_before : (t : ℕ) (front : List Group) (g : Group) (back : List Group) (end : ℕ) → InRow t (front ++ g ∷ back) end → t ≤ g.head.at

@@ -20,6 +20,7 @@ pub mod Aimed
 pub mod FormRules
 pub mod SourceLines
 pub mod GroupOrder
+pub mod LastGroups
 pub mod Targets
 pub mod Landing
 pub mod Ending

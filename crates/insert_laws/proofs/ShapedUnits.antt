@@ -17,6 +17,7 @@ use Rattle.msp_encode.specs.Spelling.{InstrFits}
 use Rattle.code_model.specs.declared.object.Object.{Object}
 use Rattle.code_model.specs.declared.parts.RelKind.{RelKind}
 use Rattle.code_model.specs.declared.guards.Reach.{Reach}
+use Rattle.code_model.specs.declared.guards.GuardKind.{GuardKind}
 use Rattle.code_model.specs.declared.guards.GuardKind.TheVariants as guard
 use Rattle.code_model.specs.Fields.{fields}
 use Rattle.code_model.specs.Guards.{reach_bytes, Changes, Stacks, Pops, IsQuiet, IsGrowthForm}
@@ -31,7 +32,7 @@ use Rattle.insert_model.specs.Groups.{Cell, cell, Group, members}
 use Rattle.insert_model.specs.Layout.{difference_of, beside, final_offset}
 use Rattle.insert_model.specs.Faults.{UsesCheck, SrcUsesCheck, HasSymbolic, HasBadOperand, IsSpecial, IsAutoInc, PopsAmiss}
 use Rattle.insert_laws.specs.Pieces.{unit_of_group, pieces_of}
-use Rattle.insert_laws.specs.Shapes.{IsServed, Shaped, Ends, Free, Guards, IsFreeForm, IsCleanLine}
+use Rattle.insert_laws.specs.Shapes.{IsGuard, IsServed, Shaped, Ends, Free, Guards, IsFreeForm, IsCleanLine}
 use Rattle.insert_laws.proofs.UnitsFit.{own_instr}
 use Rattle.insert_laws.proofs.CleanGroups.{IsCleanGroup, AllGroups}
 use Rattle.insert_laws.proofs.GroupUnits.{IsBeside, beside_is, AllBeside, IsWideUnit, UnitIs, Lone, Short, Several, unit_is, pieces_by}
@@ -225,14 +226,17 @@ unit_shaped o g c = group_shaped o g (unit_is o g c)
 pub groups_shaped : (o : Object) (gs : List Group) → AllGroups o gs → Shaped IsFreeForm o.version (pieces_of (fields o) gs)
 groups_shaped o gs c = pieces_by o (Shaped IsFreeForm o.version) (Ends [] refl) (shaped_append IsFreeForm o.version) (unit_shaped o) gs c
 
--- the first of shaped pieces doesn't write memory
+-- the first of a guard's pieces doesn't write memory
+pub guard_quiet : (g : GuardKind) (r : Piece) (y : List Piece) → IsGuard g (r ∷ y) → WritesMemory r.instr → ⊥
+guard_quiet g r y is h =
+    let t : HasTail (λ x. x) (r ∷ y) = guard_tail (λ x. x) g (r ∷ y) is in
+    let m : WritesMemory save.instr = subst (λ (x : Piece). WritesMemory x.instr) (heads r save y t.behind t.are) h in
+    m.1
+
+-- nor does the first of shaped pieces
 pub first_quiet : (v : ℕ) (p : Piece) (ps : List Piece) → Shaped IsFreeForm v (p ∷ ps) → WritesMemory p.instr → ⊥
 first_quiet v p ps (Ends _ e) h = no_cut [] p ps (sym e)
 first_quiet v p ps (Free _ r rs e f rest) h = f.no_memory (subst (λ (x : Piece). WritesMemory x.instr) (heads p r ps rs e) h)
-first_quiet v p ps (Guards _ g gs r more rs e is rest) h =
-    let t : HasTail (λ x. x) gs = guard_tail (λ x. x) g gs is.is in
-    let first : p ∷ ps ≡ save ∷ (t.behind ++ (r ∷ (more ++ rs))) = e ∙ ap (λ (ys : List Piece). ys ++ (r ∷ (more ++ rs))) t.are in
-    save_quiet (subst (λ (x : Piece). WritesMemory x.instr) (heads p save ps (t.behind ++ (r ∷ (more ++ rs))) first) h)
-  where
-    save_quiet : WritesMemory save.instr → ⊥
-    save_quiet m = m.1
+first_quiet v p ps (Guards _ g [] r more rs e is rest) h = let t : HasTail (λ x. x) [] = guard_tail (λ x. x) g [] is.is in no_cut [] save t.behind t.are
+first_quiet v p ps (Guards _ g (m ∷ gs) r more rs e is rest) h =
+    guard_quiet g m gs is.is (subst (λ (x : Piece). WritesMemory x.instr) (heads p m ps (gs ++ (r ∷ (more ++ rs))) e) h)

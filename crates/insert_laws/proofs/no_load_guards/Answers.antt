@@ -1,6 +1,7 @@
--- guards_of_version_one
-use Rattle.insert_laws.proofs.KnownGuards.{guards_known}
-use Rattle.insert_laws.proofs.guards_of_version_one.Goals as goal
+use Rattle.insert_laws.proofs.LoadGuards.{no_loads}
+use Rattle.insert_laws.proofs.no_load_guards.Goals as goal
 
 pub returns : goal.returns
-returns c = guards_known c.one_stands.ensures c.reading_law.ensures c.legal_by_cases.ensures c.one_instruction.ensures c.first_word_decides.ensures c.guards_apart.ensures
+returns c =
+    no_loads (record { one = c.one_stands.ensures; reads = c.reading_law.ensures; legal = c.legal_by_cases.ensures; groups = c.groups_stand.ensures; short = c.short_jumps_fit.ensures })
+    c.one_instruction.ensures c.first_word_decides.ensures c.guards_apart.ensures
