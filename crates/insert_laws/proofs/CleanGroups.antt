@@ -1,5 +1,5 @@
 -- The groups of a source that has no fault: each is a line or a run, and nothing is wrong with its lines.
-use Rattle.std.proofs.Common.{◌≡◌, List, [], ◌∷◌, ◌++◌, sym, subst}
+use Rattle.std.proofs.Common.{List, [], ◌∷◌, ◌++◌, sym, subst}
 use Rattle.std.specs.List.{AllByRecursion, flat_map}
 use Rattle.std.proofs.lemmas.List.Elements.{recursion_from_All}
 use Rattle.msp_encode.specs.Laws.{LegalByCases}

@@ -43,7 +43,7 @@ use Rattle.insert_laws.proofs.Standing.{count_piece}
 use Rattle.insert_laws.proofs.UnitsFit.{own_instr}
 use Rattle.insert_laws.proofs.GuardWords.{IsWordsOf}
 use Rattle.insert_laws.proofs.Guarding.{heads, tails, no_cut, span, span_append, span_cons, span_none, piece_least, size_span}
-use Rattle.insert_laws.proofs.Roles.{Lies, InFirst, InSecond, lies, branch_on}
+use Rattle.insert_laws.proofs.Roles.{InFirst, InSecond, lies, branch_on}
 use Rattle.insert_laws.proofs.FormRules.{words_are}
 use Rattle.insert_laws.proofs.Targets.{Filled, of_group_filled}
 use Rattle.insert_laws.proofs.LastGroups.{alone_end, never_stores}

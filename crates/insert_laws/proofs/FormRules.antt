@@ -1,5 +1,5 @@
 -- The rules on forms refuse no object with guards.
-use Rattle.std.proofs.Common.{◌≡◌, ℕ, ◌+◌, List, [], ◌∷◌, ◌++◌, map, length, Option, Some, refl, sym, subst, ap, ◌∙◌, arith}
+use Rattle.std.proofs.Common.{◌≡◌, ℕ, ◌+◌, List, [], ◌∷◌, ◌++◌, length, Option, Some, refl, sym, subst, ap, ◌∙◌, arith}
 use Rattle.std.proofs.lemmas.List.{append-nil}
 use Rattle.msp_encode.specs.declared.instr.Op2.{Op2}
 use Rattle.msp_encode.specs.declared.instr.Op2.TheVariants.{Mov}
@@ -125,7 +125,7 @@ free_standing go p f e = f.no_save (saving_back go p.source p.destination p.inst
 pub words_are : (o q : Object) → IsInserted o q → IsWordsOf o q (unit_words (pieces (fields o)))
 words_are o q i = record { code = code_words o q i; are = refl; relocs = relocs_stand o q i }
 
-version_stays : (o q : Object) → IsInserted o q → q.version ≡ o.version
+pub version_stays : (o q : Object) → IsInserted o q → q.version ≡ o.version
 unfolding inserted with_guards
 version_stays o q i = ap (λ (f : Fields). f.version) i.is
 

@@ -2,20 +2,21 @@
 use Rattle.std.proofs.Common.{◌≡◌, ℕ, ◌+◌, ◌*◌, ◌/◌, ◌≤◌, ◌<◌, nat_lt, true, false, List, [], ◌∷◌, ◌++◌, inl, inr, length, refl, sym, subst, ap, ◌∙◌, arith, rules}
 use Rattle.std.specs.List.{flat_map}
 use Rattle.std.proofs.lemmas.Bool.{cases_lt}
-use Rattle.std.proofs.lemmas.List.{append_assoc, append-nil}
+use Rattle.std.proofs.lemmas.List.{append-nil}
 use Rattle.std.proofs.lemmas.List.Concat.{flat_map-append}
 use Rattle.code_model.specs.declared.object.Object.{Object}
 use Rattle.code_model.specs.Fields.{Fields, fields}
 use Rattle.code_model.specs.Verdicts.{AllSpelled}
 use Rattle.insert_model.specs.declared.line.Line.{Line}
+use Rattle.insert_model.specs.declared.piece.Piece.{Piece}
 use Rattle.insert_model.specs.declared.piece.Word.{Word}
 use Rattle.msp_encode.specs.Spelled.{count}
 use Rattle.insert_model.specs.Source.{lines}
 use Rattle.insert_model.specs.Units.{static_bytes}
 use Rattle.insert_model.specs.Groups.{Group, last_of, members, behind, groups}
-use Rattle.insert_model.specs.Layout.{units, before, words_before, sized, final, place_map}
+use Rattle.insert_model.specs.Layout.{units, before, words_before, sized, place_map}
 use Rattle.insert_model.specs.Laws.{SizeLaw, LineLaw, GroupsStand, GroupsLaw, SizedLaw}
-use Rattle.insert_laws.specs.Pieces.{pieces_of}
+use Rattle.insert_laws.specs.Pieces.{unit_of_group, pieces_of}
 use Rattle.insert_laws.proofs.Standing.{units_words}
 use Rattle.insert_laws.proofs.Guarding.{span}
 use Rattle.insert_laws.proofs.SourceLines.{Consecutive, source_consecutive}
@@ -124,3 +125,8 @@ place_is sizes f t gs e =
     ∙ ap (λ (hs : List Group). 2 * length (units (sized f) (static_bytes f) hs)) e
     ∙ ap (λ (n : ℕ). 2 * n) (sym (sizes f gs))
     ∙ ap (λ (ws : List Word). 2 * length ws) (units_words f gs)
+
+-- the pieces of groups, and of one more
+pub pieces_more : (f : Fields) (front : List Group) (g : Group) → pieces_of f (front ++ g ∷ []) ≡ pieces_of f front ++ unit_of_group f g
+unfolding pieces_of
+pieces_more f front g = flat_map-append (unit_of_group f) front (g ∷ []) ∙ ap (λ (ps : List Piece). flat_map (unit_of_group f) front ++ ps) (append-nil (unit_of_group f g))

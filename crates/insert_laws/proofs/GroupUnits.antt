@@ -1,5 +1,5 @@
 -- What the unit of a group is: that of a line, a jump of one word, or a wide guard with the stores that it serves.
-use Rattle.std.proofs.Common.{◌≡◌, ◌≢◌, ℕ, ◌+◌, ◌-◌, ◌*◌, ◌%◌, ◌<◌, ◌≤◌, nat_eq, if◌then◌else◌, Bool, true, false, max, List, [], ◌∷◌, ◌++◌, inl, inr, length, map, ℤ, Option, None, Some, refl, sym, subst, ap, ◌∙◌, arith, rules}
+use Rattle.std.proofs.Common.{◌≡◌, ◌≢◌, ℕ, ◌*◌, ◌%◌, ◌<◌, ◌≤◌, nat_eq, if◌then◌else◌, Bool, true, false, List, [], ◌∷◌, ◌++◌, inl, inr, length, map, ℤ, Option, None, Some, refl, sym, subst, ap, ◌∙◌, arith}
 use Rattle.std.specs.List.{AllByRecursion, flat_map}
 use Rattle.std.proofs.lemmas.Bool.{and_parts, leb-true, eqb-true, eqb-false}
 use Rattle.std.proofs.lemmas.List.Elements.{recursion_from_All}
@@ -23,12 +23,12 @@ use Rattle.insert_model.specs.declared.piece.Piece.{Piece}
 use Rattle.insert_model.specs.Source.{own}
 use Rattle.insert_model.specs.Guards.{jump, wide_guard}
 use Rattle.insert_model.specs.Units.{static_bytes, unit, writes}
-use Rattle.insert_model.specs.Groups.{Cell, cell_by, cell_of, cell, difference, is_alike, is_reached, is_near_cell, is_target, if_near, joins, greatest, Group, members}
+use Rattle.insert_model.specs.Groups.{Cell, cell_by, cell_of, cell, difference, is_reached, is_near_cell, is_target, if_near, greatest, Group, members}
 use Rattle.insert_model.specs.Layout.{jump_by, line_unit_of, line_unit, difference_of, beside_by, beside, reach_of, reach_from, wide_unit, wide_unit_of, unit_of_lines, unit_in, is_short, final_offset, final}
 use Rattle.insert_model.specs.Laws.{Joins, IsRun, IsGroup}
 use Rattle.insert_laws.specs.Pieces.{unit_of_group, pieces_of}
 use Rattle.insert_laws.specs.Shapes.{IsCleanLine}
-use Rattle.insert_laws.proofs.UnitsFit.{HasSmallIndex, LinesFit}
+use Rattle.insert_laws.proofs.UnitsFit.{HasSmallIndex}
 use Rattle.insert_laws.proofs.CleanLines.{AllClean}
 use Rattle.insert_laws.proofs.CleanGroups.{IsCleanGroup, AllGroups}
 

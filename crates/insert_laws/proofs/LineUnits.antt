@@ -1,14 +1,13 @@
 -- Each line of the source is clean, and the words of its group's unit lie where the place map sends it.
-use Rattle.std.proofs.Common.{◌≡◌, ℕ, zero, suc, ◌+◌, ◌*◌, ◌/◌, ◌≤◌, ◌<◌, nat_lt, true, false, List, [], ◌∷◌, ◌++◌, inl, inr, length, slice_index_or, refl, subst, ap, ◌∙◌, arith, rules}
+use Rattle.std.proofs.Common.{◌≡◌, ℕ, zero, suc, ◌+◌, ◌*◌, ◌/◌, ◌≤◌, ◌<◌, nat_lt, true, false, List, [], ◌∷◌, ◌++◌, inl, inr, length, slice_index_or, subst, ap, ◌∙◌, arith, rules}
 use Rattle.std.proofs.lemmas.Bool.{cases_lt}
-use Rattle.std.proofs.lemmas.List.{append-nil, length-append}
+use Rattle.std.proofs.lemmas.List.{length-append}
 use Rattle.std.proofs.lemmas.List.Concat.{flat_map-append}
 use Rattle.msp_encode.specs.Laws.{LegalByCases}
 use Rattle.msp_decode.specs.Function.{ReadingLaw}
 use Rattle.code_model.specs.declared.object.Object.{Object}
 use Rattle.code_model.specs.Fields.{Fields, fields}
 use Rattle.insert_model.specs.declared.line.Line.{Line}
-use Rattle.insert_model.specs.declared.piece.Piece.{Piece}
 use Rattle.insert_model.specs.declared.piece.Word.{Word}
 use Rattle.insert_model.specs.Words.{unit_words}
 use Rattle.insert_model.specs.Source.{lines}
@@ -23,7 +22,7 @@ use Rattle.insert_laws.proofs.UnitsFit.{source_fits}
 use Rattle.insert_laws.proofs.CleanLines.{AllClean, all_clean}
 use Rattle.insert_laws.proofs.Placed.{code_words}
 use Rattle.insert_laws.proofs.Guarding.{span, span_append, unit_words_append}
-use Rattle.insert_laws.proofs.GroupOrder.{InRow, source_row, first_less, before_group, before_next, place_is}
+use Rattle.insert_laws.proofs.GroupOrder.{InRow, source_row, first_less, before_group, before_next, place_is, pieces_more}
 
 -- ---- each line is clean
 
@@ -82,10 +81,8 @@ place_more f a b h = omega (arith, more_words (sized f) (static_bytes f) (2 * a 
 
 module _ (sizes : SizedLaw) (o : Object) where
   one_more : (front : List Group) (g : Group) → span (pieces_of (fields o) (front ++ g ∷ [])) ≡ span (pieces_of (fields o) front) + length (group_words o g)
-  unfolding pieces_of span
-  one_more front g =
-      ap span (flat_map-append (unit_of_group (fields o)) front (g ∷ [])) ∙ span_append (pieces_of (fields o) front) (unit_of_group (fields o) g ++ [])
-      ∙ ap (λ (ps : List Piece). span (pieces_of (fields o) front) + span ps) (append-nil (unit_of_group (fields o) g))
+  unfolding span
+  one_more front g = ap span (pieces_more (fields o) front g) ∙ span_append (pieces_of (fields o) front) (unit_of_group (fields o) g)
 
   all_words : (front : List Group) (g : Group) (back : List Group) → groups (fields o) ≡ front ++ g ∷ back
       → unit_words (pieces (fields o)) ≡ unit_words (pieces_of (fields o) front) ++ (group_words o g ++ unit_words (pieces_of (fields o) back))

@@ -1,5 +1,5 @@
 -- The guards of an object with guards are those of its units, so none is a load guard.
-use Rattle.std.proofs.Common.{◌≡◌, ℕ, ◌++◌, [], ◌∷◌, sym, subst, ◌∙◌, arith}
+use Rattle.std.proofs.Common.{◌≡◌, ℕ, ◌++◌, [], sym, subst, ◌∙◌, arith}
 use Rattle.msp_decode.specs.Laws.{OneInstruction, FirstWordDecides}
 use Rattle.code_model.specs.declared.guards.GuardKind.{GuardKind}
 use Rattle.code_model.specs.declared.guards.GuardKind.TheVariants as guard

@@ -1,5 +1,5 @@
 -- Units of clean source instructions are shaped.
-use Rattle.std.proofs.Common.{◌≡◌, ◌≢◌, ℕ, ◌≤◌, ◌<◌, nat_eq, if◌then◌else◌, Bool, true, false, ◌&&◌, List, [], ◌∷◌, ◌++◌, ◌⊎◌, inl, inr, ℤ, pos, Option, None, refl, sym, subst, ap, ◌∙◌, arith, rules, eq-eqb}
+use Rattle.std.proofs.Common.{◌≡◌, ◌≢◌, ℕ, ◌≤◌, ◌<◌, nat_eq, if◌then◌else◌, Bool, true, false, ◌&&◌, List, [], ◌∷◌, ◌++◌, ◌⊎◌, inl, inr, ℤ, Option, None, refl, sym, subst, ap, ◌∙◌, arith, rules, eq-eqb}
 use Rattle.std.proofs.lemmas.Bool.{cases_order, cases_lt}
 use Rattle.msp_encode.specs.declared.instr.Op2.{Op2}
 use Rattle.msp_encode.specs.declared.instr.Op2.TheVariants.{Mov, Add, Addc, Subc, Sub, Cmp, Dadd, Bit, Bic, Bis, Xor, And}

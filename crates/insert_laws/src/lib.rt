@@ -6,7 +6,9 @@ ghost use Rattle.insert_laws.specs.Source.{StartsDecided};
 ghost use Rattle.insert_laws.specs.Lines.{CodeIsPieces, LinesAreClean, LinesAreSpelled, GroupsHaveUnits, PlacesWithin};
 
 use code_laws::{guards_apart, next_start, one_stands, starts_apart};
-use insert_model::laws::{groups_stand, instruction_size, line_stands, short_jumps_fit, sizes_alike};
+use insert_model::laws::{
+    groups_stand, instruction_size, line_stands, short_jumps_fit, sizes_alike,
+};
 use msp_decode::laws::{first_word_decides, one_instruction, reading_law};
 use msp_encode::laws::legal_by_cases;
 
