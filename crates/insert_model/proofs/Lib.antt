@@ -1,4 +1,5 @@
 pub mod Worked
+pub mod WorkedGroups
 pub mod Lines
 pub mod Cutting
 pub mod Layouts
