@@ -117,9 +117,6 @@ module _ (o q : Object) (ws : List Word) (is : IsWordsOf o q ws) where
   pub a_reloc : (at : ℕ) (k : RelKind) → kind_in ws at ≡ Some k → HasReloc q.relocs at k
   a_reloc at k e = is.relocs.some at k (kind_is at (Some k) e)
 
-  pub reloc_kind : (at : ℕ) (k : RelKind) → HasReloc q.relocs at k → kind_in ws at ≡ Some k
-  reloc_kind at k h = ap (λ (vs : List Word). kind_in vs at) is.are ∙ is.relocs.has at k h
-
   pub code_word : (us : List Word) (w : Word) (bs : List Word) → ws ≡ us ++ w ∷ bs → slice_index q.code (length us) ≡ moved (place_map (fields o)) w
   code_word us w bs e =
       let go : ℕ → ℕ = place_map (fields o) in

@@ -113,7 +113,7 @@ by_instr_filled size at p (instr.One op w s) = one_filled size op w s p
 by_instr_filled size at p instr.Reti = tt
 by_instr_filled size at p (instr.Jump c k) = jump_filled (target_offset at k) c
 
-pub unit_filled : (size : ℕ) (l : Line) → Filled (unit size l)
+unit_filled : (size : ℕ) (l : Line) → Filled (unit size l)
 unfolding unit
 unit_filled size l = by_instr_filled size l.at (own l) l.instr
 

@@ -21,7 +21,7 @@ use Rattle.code_model.specs.declared.guards.GuardKind.TheVariants as guard
 use Rattle.code_model.specs.Starts.{Begins, Stands, Start}
 use Rattle.code_model.specs.Relocs.{Unrelocated}
 use Rattle.code_model.specs.Rules.{IsMemoryDst, WritesMemory}
-use Rattle.code_model.specs.Guards.{reach_bytes, guard_words, FitAll, IsQuiet, Pops, IsAtR4, IsPlainStore, IsNearStore, IsStoreForm, IsWideForm, IsGrowthForm, IsPopForm, IsSpForm, Serves, ServesAt, Run, Guarded, CoversBy, Covers, Covered, OwnBy, Own, UnitStart}
+use Rattle.code_model.specs.Guards.{reach_bytes, guard_words, FitAll, IsQuiet, IsAtR4, IsPlainStore, IsNearStore, IsStoreForm, IsWideForm, IsGrowthForm, IsPopForm, IsSpForm, Serves, ServesAt, Run, Guarded, CoversBy, Covers, Covered, OwnBy, Own, UnitStart}
 use Rattle.code_laws.specs.Laws.{IsSame, OneStands, IsOneGuard, GuardsApart}
 use Rattle.code_laws.proofs.Begins.{guard_begins}
 use Rattle.code_laws.proofs.Runs.{first_before, served_alone, AlsoGuarded, also_guarded}
@@ -103,16 +103,6 @@ src_count go k (src.Indirect n) = refl
 src_count go k (src.AutoInc n) = refl
 src_count go k (src.Immediate x) = refl
 src_count go k (src.Const c) = refl
-
-src_at : (go : ℕ → ℕ) (k : Option RelKind) (s : Src) (n : ℕ) → (let P : Src → Type 0 = λ x. Pops x n in P s → P (moved_src go k s))
-src_at go k (src.Reg m) n h = h
-src_at go k (src.Indexed m x) n h = h
-src_at go k (src.Symbolic x) n h = h
-src_at go k (src.Absolute x) n h = h
-src_at go k (src.Indirect m) n h = h
-src_at go k (src.AutoInc m) n h = h
-src_at go k (src.Immediate x) n h = h
-src_at go k (src.Const c) n h = h
 
 growth_serves : (o : Object) (at : ℕ) (go : ℕ → ℕ) (j k : Option RelKind) (i : Instr) → IsGrowthForm i → IsGrowthForm (moved_instr go j k i)
 growth_serves o at go j k (instr.Two op w s d) h = h
@@ -379,7 +369,7 @@ module _ (one : OneInstruction) (decides : FirstWordDecides) (F : Piece → Type
         serves = serves_at q (span a) (span x) (place_map (fields o)) g p h.serves (last_plain x p.instr p.source p.destination b e);
       }
 
-  pub served_first : (x a : List Piece) (g : GuardKind) (gs done : List Piece) (p : Piece) (b : List Piece) (h : IsServedBy q.version g gs done p) (e : pieces (fields o) ≡ x ++ p ∷ b) (ex : x ≡ a ++ (gs ++ done))
+  served_first : (x a : List Piece) (g : GuardKind) (gs done : List Piece) (p : Piece) (b : List Piece) (h : IsServedBy q.version g gs done p) (e : pieces (fields o) ≡ x ++ p ∷ b) (ex : x ≡ a ++ (gs ++ done))
       → (served_guarded x a g gs done p b h e ex).first ≡ span a
   unfolding served_guarded
   served_first x a g gs done p b h e ex = refl

@@ -255,7 +255,7 @@ legal_read : (w : ℕ) (ws : List ℕ) (r : Option (Instr × ℕ)) → LegalByCa
 legal_read w ws None legal small h = tt
 legal_read w ws (Some x) legal small h = ((legal x.0).0 (take x.1 ws, h.1), index_read x.0 (take x.1 ws) (words_taken x.1 ws small) h.1)
 
-pub lines_fit : ReadingLaw → LegalByCases → (relocs : List Reloc) (ws : List ℕ) (at left : ℕ) → ((k : ℕ) → slice_index ws k < 65536) → LinesFit (lines_from relocs at left ws)
+lines_fit : ReadingLaw → LegalByCases → (relocs : List Reloc) (ws : List ℕ) (at left : ℕ) → ((k : ℕ) → slice_index ws k < 65536) → LinesFit (lines_from relocs at left ws)
 unfolding lines_from
 lines_fit reads legal relocs [] at left small = tt
 lines_fit reads legal relocs (w ∷ ws) at (suc left) small = lines_fit reads legal relocs ws (at + 1) left (λ k. small (suc k))
