@@ -40,7 +40,7 @@ use Rattle.insert_laws.specs.Laws.{kind_in}
 use Rattle.insert_laws.specs.Shapes.{IsCleanLine}
 use Rattle.insert_laws.proofs.UnitsFit.{own_instr}
 use Rattle.insert_laws.proofs.Guarding.{span, span_cons, span_none}
-use Rattle.insert_laws.proofs.UnitStarts.{src_count}
+use Rattle.insert_laws.proofs.ServedForms.{src_count}
 use Rattle.insert_laws.proofs.CleanGroups.{AllGroups}
 use Rattle.insert_laws.proofs.GroupUnits.{IsBeside, near_piece, beside_is, all_pieces}
 use Rattle.kernel_model.specs.declared.map.TheConstants.{STACK_LIMIT, STACK_TOP}

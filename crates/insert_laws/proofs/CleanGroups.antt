@@ -1,5 +1,5 @@
 -- The groups of a source that has no fault: each is a line or a run, and nothing is wrong with its lines.
-use Rattle.std.proofs.Common.{List, [], ◌∷◌, ◌++◌, sym, subst}
+use Rattle.std.proofs.Common.{◌≡◌, List, [], ◌∷◌, ◌++◌, sym, subst}
 use Rattle.std.specs.List.{AllByRecursion, flat_map}
 use Rattle.std.proofs.lemmas.List.Elements.{recursion_from_All}
 use Rattle.msp_encode.specs.Laws.{LegalByCases}
@@ -55,6 +55,9 @@ pub front_groups : (o : Object) (xs ys : List Group) → AllGroups o (xs ++ ys) 
 front_groups o [] ys c = tt
 front_groups o (x ∷ xs) ys c = (c.0, front_groups o xs ys c.1)
 
-pub group_at : (o : Object) (front : List Group) (g : Group) (back : List Group) → AllGroups o (front ++ g ∷ back) → IsCleanGroup o g
+group_at : (o : Object) (front : List Group) (g : Group) (back : List Group) → AllGroups o (front ++ g ∷ back) → IsCleanGroup o g
 group_at o [] g back c = c.0
 group_at o (x ∷ front) g back c = group_at o front g back c.1
+
+pub clean_of : Premises → (o q : Object) → IsInserted o q → (front : List Group) (g : Group) (back : List Group) → groups (fields o) ≡ front ++ g ∷ back → IsCleanGroup o g
+clean_of h o q i front g back e = group_at o front g back (subst (AllGroups o) e (all_groups h o q i))

@@ -36,7 +36,7 @@ use Rattle.insert_model.specs.Faults.{SetsPc, IsInserted}
 use Rattle.insert_model.specs.Laws.{SizeLaw, LineLaw}
 use Rattle.insert_laws.specs.Pieces.{unit_of_group, pieces_of, pieces, moved_instr, standing, PieceAt}
 use Rattle.insert_laws.specs.Laws.{PiecesStand, EndRulePasses}
-use Rattle.insert_laws.proofs.CleanGroups.{Premises, IsCleanGroup, AllGroups, all_groups, group_at}
+use Rattle.insert_laws.proofs.CleanGroups.{Premises, IsCleanGroup, clean_of}
 use Rattle.insert_laws.proofs.GroupUnits.{UnitIs, Lone, Short, Several, unit_is}
 use Rattle.insert_laws.proofs.Placed.{pieces_stand}
 use Rattle.insert_laws.proofs.Standing.{count_piece}
@@ -189,9 +189,6 @@ module _ (given : Premises) (size : SizeLaw) (line : LineLaw) (o q : Object) (i 
   unfolding pieces
   at_group x p z e = group_of (fields o) (groups (fields o)) x p z e
 
-  clean_of : (front : List Group) (g : Group) (back : List Group) → groups (fields o) ≡ front ++ g ∷ back → IsCleanGroup o g
-  clean_of front g back e = group_at o front g back (subst (AllGroups o) e (all_groups given o q i))
-
   line_ends : (bytes : ℕ) (l : Line) → EndsBranch (unit_of bytes l.at (own l) l.instr) → (less : List Piece) (p : Piece) → unit bytes l ≡ less ++ p ∷ [] → IsBranch p.instr
   unfolding unit
   line_ends bytes l b less p e = subst (λ (r : Piece). IsBranch r.instr) (same_last b.front b.last less p (sym b.are ∙ e)) b.is
@@ -211,13 +208,13 @@ module _ (given : Premises) (size : SizeLaw) (line : LineLaw) (o q : Object) (i 
   none_behind : (front : List Group) (g k : Group) (back : List Group) → groups (fields o) ≡ front ++ g ∷ k ∷ back → pieces_of (fields o) (k ∷ back) ≡ [] → ⊥
   unfolding pieces_of Filled
   none_behind front g k back e none =
-      let c : IsCleanGroup o k = clean_of (front ++ g ∷ []) k back (e ∙ sym (append_assoc front (g ∷ []) (k ∷ back))) in
+      let c : IsCleanGroup o k = clean_of given o q i (front ++ g ∷ []) k back (e ∙ sym (append_assoc front (g ∷ []) (k ∷ back))) in
       let b = both_none (unit_of_group (fields o) k) (flat_map (unit_of_group (fields o)) back) (sym none) in
       subst Filled b.0 (of_group_filled o k c)
 
   -- the last piece is a branch, or JMP
   unit_ends : (front : List Group) (g : Group) → groups (fields o) ≡ front ++ g ∷ [] → (less : List Piece) (p : Piece) → unit_of_group (fields o) g ≡ less ++ p ∷ [] → (IsBranch p.instr → ⊥) → (IsJmp p.instr → ⊥) → ⊥
-  unit_ends front g e less p u branch' jmp = by (unit_is o g (clean_of front g [] e))
+  unit_ends front g e less p u branch' jmp = by (unit_is o g (clean_of given o q i front g [] e))
     where
       by : UnitIs o g → ⊥
       by (Lone none c v) =

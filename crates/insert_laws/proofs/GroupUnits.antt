@@ -282,8 +282,10 @@ module _ (o : Object) (P : List Piece → Type 0) (none : P []) (join : (xs ys :
   pieces_by unit' [] c = none
   pieces_by unit' (g ∷ gs) c = join (unit_of_group (fields o) g) (flat_map (unit_of_group (fields o)) gs) (unit' g c.0) (pieces_by unit' gs c.1)
 
-  module _ (line : (l : Line) → IsCleanLine o l → P (unit (static_bytes (fields o)) l)) (short : (l : Line) (c : Cond) (k : ℤ) → l.instr ≡ instr.Jump c k → is_short (fields o) l ≡ true → P (jump c (final_offset (fields o) l l.instr) ∷ []))
-      (guard : (r : Reach) (c : Cell) → DstFits (dst.Indexed c.base c.index) → P (wide_guard r c.base c.index c.kind)) (store : (most : ℕ) (c : Cell) (l : Line) → IsBeside o most c l → P (beside c l ∷ [])) where
+  module _ (line : (l : Line) → IsCleanLine o l → P (unit (static_bytes (fields o)) l))
+      (short : (l : Line) (c : Cond) (k : ℤ) → l.instr ≡ instr.Jump c k → is_short (fields o) l ≡ true → P (jump c (final_offset (fields o) l l.instr) ∷ []))
+      (guard : (r : Reach) (c : Cell) → DstFits (dst.Indexed c.base c.index) → P (wide_guard r c.base c.index c.kind))
+      (store : (most : ℕ) (c : Cell) (l : Line) → IsBeside o most c l → P (beside c l ∷ [])) where
     stores : (most : ℕ) (c : Cell) (ls : List Line) → AllBeside o most c ls → P (map (beside c) ls)
     stores most c [] h = none
     stores most c (l ∷ ls) h = join (beside c l ∷ []) (map (beside c) ls) (store most c l h.0) (stores most c ls h.1)

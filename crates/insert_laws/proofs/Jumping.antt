@@ -33,7 +33,7 @@ use Rattle.insert_model.specs.Laws.{SizeLaw, LineLaw, SizedLaw}
 use Rattle.insert_laws.specs.Pieces.{unit_of_group, pieces_of, pieces, moved_instr, standing, PieceAt}
 use Rattle.insert_laws.specs.Laws.{PiecesStand, UnitAt, StartsAreUnits, JumpRulePasses}
 use Rattle.insert_laws.specs.Shapes.{IsServed, IsThroughR4, IsNearR4, Shaped, Ends, IsFreeForm, IsCleanLine}
-use Rattle.insert_laws.proofs.CleanGroups.{Premises}
+use Rattle.insert_laws.proofs.CleanGroups.{Premises, clean_of}
 use Rattle.insert_laws.proofs.GroupUnits.{UnitIs, Lone, Short, Several, unit_is}
 use Rattle.insert_laws.proofs.Placed.{pieces_stand}
 use Rattle.insert_laws.proofs.Guarding.{heads, tails, no_cut, span, span_append, span_cons, span_none, size_span}
@@ -44,7 +44,7 @@ use Rattle.insert_laws.proofs.Aimed.{target_is}
 use Rattle.insert_laws.proofs.FormRules.{version_stays, front_shaped, own_at}
 use Rattle.insert_laws.proofs.GroupOrder.{InRow, source_row, before_group, place_is, pieces_more}
 use Rattle.insert_laws.proofs.LastGroups.{alone_end}
-use Rattle.insert_laws.proofs.Targets.{pieces_cut, clean_of, start_at, group_start}
+use Rattle.insert_laws.proofs.Targets.{pieces_cut, start_at, group_start}
 use Rattle.insert_laws.proofs.Ending.{GroupOf, group_of}
 
 -- ---- a conditional jump's unit
@@ -244,7 +244,7 @@ module _ (given : Premises) (unique : OneInstruction) (decides : FirstWordDecide
   -- by the group's unit
   on_group : (at : ℕ) (c : Cond) (k : ℤ) (front : List Group) (g : Group) (back : List Group) (less more : List Piece) (p : Piece) → groups (fields o) ≡ front ++ g ∷ back
       → unit_of_group (fields o) g ≡ less ++ p ∷ more → at ≡ span (front_pieces front ++ less) → p.instr ≡ instr.Jump c k → (Own q at → ⊥) → (IsJumpTarget q at k → ⊥) → ⊥
-  on_group at c k front g back less more p e v place same own' never = by (unit_is o g (clean_of given unique decides apart o q i front g back e))
+  on_group at c k front g back less more p e v place same own' never = by (unit_is o g (clean_of given o q i front g back e))
     where
       plain : IsCleanLine o g.head → IsNoJump g.head.instr → unit_of_group (fields o) g ≡ unit (static_bytes (fields o)) g.head → ⊥
       plain clean n u =

@@ -9,6 +9,7 @@ pub mod Relocated
 pub mod GuardWords
 pub mod Guarding
 pub mod Roles
+pub mod ServedForms
 pub mod UnitStarts
 pub mod Shaping
 pub mod ShapedUnits

@@ -28,7 +28,7 @@ use Rattle.insert_model.specs.Faults.{IsInserted}
 use Rattle.insert_laws.specs.Pieces.{moved_src, moved_instr}
 use Rattle.insert_laws.specs.Laws.{kind_in}
 use Rattle.insert_laws.proofs.Guarding.{span}
-use Rattle.insert_laws.proofs.UnitStarts.{src_count}
+use Rattle.insert_laws.proofs.ServedForms.{src_count}
 use Rattle.insert_laws.proofs.WordKinds.{piece_kind}
 use Rattle.insert_laws.proofs.Tame.{TameInstr}
 

@@ -42,7 +42,7 @@ use Rattle.insert_laws.specs.Pieces.{unit_of_group, pieces_of, pieces}
 use Rattle.insert_laws.specs.Laws.{UnitAt, StartsAreUnits, EntryRulePasses}
 use Rattle.insert_laws.specs.Lines.{IsInstruction}
 use Rattle.insert_laws.specs.Shapes.{Shaped, IsFreeForm}
-use Rattle.insert_laws.proofs.CleanGroups.{Premises, IsCleanGroup, AllGroups, all_groups, group_at}
+use Rattle.insert_laws.proofs.CleanGroups.{Premises, IsCleanGroup, clean_of}
 use Rattle.insert_laws.proofs.GroupUnits.{UnitIs, Lone, Short, Several, unit_is}
 use Rattle.insert_laws.proofs.Placed.{pieces_stand}
 use Rattle.insert_laws.proofs.Guarding.{span}
@@ -137,9 +137,6 @@ head_instruction code [] l h = h.0
 head_instruction code (x ∷ xs) l h = head_instruction code xs l h.1
 
 module _ (given : Premises) (unique : OneInstruction) (decides : FirstWordDecides) (apart : GuardsApart) (o q : Object) (i : IsInserted o q) where
-  pub clean_of : (front : List Group) (g : Group) (back : List Group) → groups (fields o) ≡ front ++ g ∷ back → IsCleanGroup o g
-  clean_of front g back e = group_at o front g back (subst (AllGroups o) e (all_groups given o q i))
-
   pub start_at : (a : List Piece) (p : Piece) (b : List Piece) → pieces (fields o) ≡ a ++ p ∷ b → Shaped IsFreeForm q.version a → (WritesMemory p.instr → ⊥) → UnitStart q (span a)
   start_at a p b e shape quiet =
       unit_start unique decides IsFreeForm o q (pieces_stand given o q i) (words_are o q i) (free_standing (place_map (fields o))) given.one apart a p b e shape quiet
@@ -152,7 +149,7 @@ module _ (given : Premises) (unique : OneInstruction) (decides : FirstWordDecide
   -- a unit starts where those of the groups in front end
   pub group_start : (front : List Group) (g : Group) (back : List Group) → groups (fields o) ≡ front ++ g ∷ back → UnitStart q (span (pieces_of (fields o) front))
   group_start front g back e =
-      let c : IsCleanGroup o g = clean_of front g back e in
+      let c : IsCleanGroup o g = clean_of given o q i front g back e in
       first_start (pieces_of (fields o) front) (unit_of_group (fields o) g) (pieces_of (fields o) back) (of_group_filled o g c) (group_unit_shaped o q i g c) (pieces_cut (fields o) front g back e)
       (front_shaped given o q i front (g ∷ back) e)
 
@@ -162,7 +159,7 @@ module _ (given : Premises) (unique : OneInstruction) (decides : FirstWordDecide
 
     -- no start lies within the last group, which is one line
     none_within : (t : ℕ) → Start o.code t → (front : List Group) (g : Group) → groups (fields o) ≡ front ++ g ∷ [] → g.head.at < t → t < behind g → ⊥
-    none_within t s front g e less most = by (unit_is o g (clean_of front g [] e))
+    none_within t s front g e less most = by (unit_is o g (clean_of given o q i front g [] e))
       where
         alone : g.rest ≡ [] → ⊥
         alone none =
