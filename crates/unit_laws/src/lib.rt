@@ -73,7 +73,7 @@ pub fn guarded_ends()
     ensures { GuardedLaw }
 {}
 
-/// An operation on 0(R4) does what it does on x(Rn) or on an absolute address, where R4 has that address, but for R4 and R5.
+/// An operation on z(R4) does what it does on x(Rn) or on an absolute address, where both are one address, but for R4 and R5.
 pub fn through_same()
     ensures { ThroughLaw }
 {}
