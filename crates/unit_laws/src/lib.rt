@@ -11,7 +11,7 @@ ghost use Rattle.unit_laws.specs.Guarded.{AtR4Law, GuardedLaw, ThroughLaw};
 ghost use Rattle.unit_laws.specs.Guards.{GrowthGuardLaw, PopGuardLaw, SpGuardLaw, StoreGuardLaw};
 ghost use Rattle.unit_laws.specs.Lines.{ComparedLaw, LineLaw};
 ghost use Rattle.unit_laws.specs.Running.{FollowLaw, JoinLaw, OnceLaw};
-ghost use Rattle.unit_laws.specs.Rows.{BranchUnitLaw, CalleeUnitLaw, ChangeUnitLaw, ComputedUnitLaw, GoesOnLaw, GoesToLaw, GrowthUnitLaw, JumpUnitLaw, OwnUnitLaw, PcMovesLaw, PlaceLaw, PopIntoUnitLaw, PopUnitLaw, ReturnUnitLaw, SetSpUnitLaw, StoreUnitLaw};
+ghost use Rattle.unit_laws.specs.Rows.{BranchUnitLaw, CalleeUnitLaw, ChangeUnitLaw, ComputedUnitLaw, GoesOnLaw, GoesToLaw, GrowthUnitLaw, JumpUnitLaw, OwnUnitLaw, PcMovesLaw, PlaceLaw, PopIntoUnitLaw, PopUnitLaw, ReturnUnitLaw, SetSpUnitLaw, ShortJumpUnitLaw, StoreUnitLaw};
 
 use msp_decode::laws::{first_word_decides, one_instruction};
 
@@ -111,6 +111,11 @@ pub fn branch_unit_ends()
 /// A jump over a branch changes PC alone: it leads to the branch's target where the condition holds, and behind the unit elsewhere.
 pub fn jump_unit_ends()
     ensures { JumpUnitLaw }
+{}
+
+/// A jump that is a unit changes PC alone: it leads to its target where the condition holds, and behind the unit elsewhere.
+pub fn short_jump_unit_ends()
+    ensures { ShortJumpUnitLaw }
 {}
 
 /// A computed jump ends at F004 with its target in R4.
