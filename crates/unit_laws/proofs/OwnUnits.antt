@@ -21,7 +21,7 @@ use Rattle.unit_laws.proofs.Contexts.{as_held, held-context, line-runs, jump-tak
 
 -- ---- an instruction of its own
 
-pc-again : (r : List ℕ) (p : ℕ) → IsContext r → reg r 0 ≡ p → set_reg r 0 p ≡ r
+pub pc-again : (r : List ℕ) (p : ℕ) → IsContext r → reg r 0 ≡ p → set_reg r 0 p ≡ r
 unfolding set_reg
 pc-again r p h e = ap (set r 0) (omega (arith, h.pc_even, e)) ∙ set-get_or r 0 0
 

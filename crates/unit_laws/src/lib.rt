@@ -7,6 +7,7 @@
 #![tactic(auto)]
 
 ghost use Rattle.unit_laws.specs.Frame.{FrameLaw};
+ghost use Rattle.unit_laws.specs.Groups.{GroupUnitLaw};
 ghost use Rattle.unit_laws.specs.Guarded.{AtR4Law, GuardedLaw, ThroughLaw};
 ghost use Rattle.unit_laws.specs.Guards.{GrowthGuardLaw, PopGuardLaw, SpGuardLaw, StoreGuardLaw};
 ghost use Rattle.unit_laws.specs.Lines.{ComparedLaw, LineLaw};
@@ -131,6 +132,12 @@ pub fn store_unit_ends()
 /// So does a guarded RRC, RRA, SWPB or SXT.
 pub fn change_unit_ends()
     ensures { ChangeUnitLaw }
+{}
+
+/// The stores of a group behind one guard do what the source's do, one after another, where the address of the first is where the guard
+/// lets it be, and the unit ends at F000 elsewhere.
+pub fn group_unit_ends()
+    ensures { GroupUnitLaw }
 {}
 
 /// A guarded PUSH or CALL of a place does what the source's does where SP is at least the current limit, and ends at F002 elsewhere.
