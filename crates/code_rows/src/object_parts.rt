@@ -5,23 +5,23 @@ use object_form::reading::read_object;
 use std::alloc::{AllocError, Global};
 
 /// The kinds of relocations, as an object's text has them.
-pub(crate) const CODE: u8 = 1;
+pub const CODE: u8 = 1;
 
-pub(crate) const DATA: u8 = 2;
+pub const DATA: u8 = 2;
 
-pub(crate) const LO: u8 = 3;
+pub const LO: u8 = 3;
 
-pub(crate) const HI: u8 = 4;
+pub const HI: u8 = 4;
 
 /// An object's parts: of an application the entry and no exports, of a module exports.
 #[derive(Clone, Copy, Drop)]
-pub(crate) struct Parts<'a> {
-    pub(crate) entry: u16,
-    pub(crate) code: &'a [u16],
+pub struct Parts<'a> {
+    pub entry: u16,
+    pub code: &'a [u16],
     /// The section, the kind and the offset of each relocation.
-    pub(crate) relocs: &'a [(u8, u8, u16)],
-    pub(crate) init: &'a [u8],
-    pub(crate) exports: &'a [(u8, u16)],
+    pub relocs: &'a [(u8, u8, u16)],
+    pub init: &'a [u8],
+    pub exports: &'a [(u8, u16)],
 }
 
 fn push_word(text: &mut Vec<u8>, word: u16) -> Result<(), AllocError> {
@@ -86,13 +86,8 @@ fn push_exports(text: &mut Vec<u8>, exports: &[(u8, u16)]) -> Result<(), AllocEr
     Ok(())
 }
 
-/// The object of version 1 of these parts. None where they are no object's, or there is no memory.
-pub(crate) fn object(alloc: Global, parts: &Parts) -> Option<Object> {
-    object_of(alloc, 1, parts)
-}
-
 /// The object of a version of these parts. None where they are no object's, or there is no memory.
-pub(crate) fn object_of(alloc: Global, version: u8, parts: &Parts) -> Option<Object> {
+pub fn object_of(alloc: Global, version: u8, parts: &Parts) -> Option<Object> {
     match text(alloc, version, parts) {
         Ok(text) => read_object(alloc, &text).ok(),
         Err(_) => None,
@@ -100,7 +95,7 @@ pub(crate) fn object_of(alloc: Global, version: u8, parts: &Parts) -> Option<Obj
 }
 
 /// An application of code words and relocations of them alone, whose entry is its first word.
-pub(crate) fn code<'a>(code: &'a [u16], relocs: &'a [(u8, u8, u16)]) -> Parts<'a> {
+pub fn code<'a>(code: &'a [u16], relocs: &'a [(u8, u8, u16)]) -> Parts<'a> {
     Parts {
         entry: 0,
         code,

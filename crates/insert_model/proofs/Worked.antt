@@ -9,7 +9,9 @@ use Rattle.msp_encode.specs.Spelled.{two_word, one_word, jump_word}
 use Rattle.insert_model.specs.Words.{piece_words, unit_words}
 use Rattle.insert_model.specs.Source.{kind_at, line_at, lines_from, lines}
 use Rattle.insert_model.specs.Units.{static_bytes, unit}
-use Rattle.insert_model.specs.Inserted.{units, before, place_in, place_map, with_guards}
+use Rattle.insert_model.specs.Groups.{later, groups_from, groups, is_target, run, greatest}
+use Rattle.insert_model.specs.Layout.{line_unit, unit_in, units, before, words_before, place_map, final, sized, is_short, final_units}
+use Rattle.insert_model.specs.Inserted.{with_guards}
 
 abbrev pub store_and_jump : Fields
 store_and_jump = fields_by App 1 (0x4786 ∷ 0x0000 ∷ 0x3FFD ∷ []) [] 2 16 1 0 [] []
@@ -23,6 +25,6 @@ guarded_relocs = record { in_code = true; kind = Lo; offset = 0x000A } ∷ recor
     ∷ record { in_code = true; kind = Code; offset = 0x0020 } ∷ []
 
 pub store_and_jump-guarded : with_guards store_and_jump ≡ fields_by App 1 guarded_words [] 2 16 1 0 guarded_relocs []
-unfolding with_guards units before place_in place_map lines lines_from line_at kind_at piece_words unit_words unit
+unfolding with_guards units before words_before place_map final sized is_short final_units line_unit unit_in later groups_from groups lines lines_from line_at kind_at piece_words unit_words unit
     static_bytes two_word one_word jump_word reading read_instr read_two read_one read_jump
 store_and_jump-guarded = refl

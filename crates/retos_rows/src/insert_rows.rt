@@ -1,7 +1,7 @@
 //! Worked rows of `insert`: what it writes and prints, what it refuses, and calls that fail.
 
 use crate::test_support::{
-    Case, CodeReloc, Failing, SELF_JUMP, UNGUARDED, application, compare_held, no_command,
+    Case, CodeReloc, Failing, SELF_JUMP, UNGUARDED, application, application_of, compare_held, no_command,
     try_case, try_stored, with_files, writable,
 };
 use edge_io::lists::Bytes;
@@ -66,6 +66,44 @@ fn insert_writes_the_guards_and_prints_its_line(rt: HostRuntime) -> Result<(), F
         &INSERTED,
         Some(guarded.as_slice()),
     )
+}
+
+/// Two stores and a jump back, in version 2: one guard for both, and the jump stays one word.
+const TWO_STORES: [u16; 5] = [0x4786, 0, 0x4886, 2, 0x3FFB];
+
+const WITH_ONE_GUARD: [u16; 18] = [
+    0x4205, 0x4604, 0x5034, 0, 0x9034, 0, 0x2803, 0x9034, 0xFFFE, 0x2802, 0x4030, 0xF000, 0x4502,
+    0x4784, 0, 0x4884, 2, 0x3FEE,
+];
+
+/// What is said of them.
+const OF_TWO_STORES: [Case; 2] = [
+    Case {
+        line: "insert s.o g.o",
+        out: "g.o: inserted 18 words\n",
+        err: "",
+        status: 0,
+    },
+    Case {
+        line: "check g.o",
+        out: "g.o: accepted 18 words 2 units\n",
+        err: "",
+        status: 0,
+    },
+];
+
+#[test]
+fn two_stores_of_version_2_have_one_guard(rt: HostRuntime) -> Result<(), Fail> {
+    let alloc = rt.alloc();
+    let plain = application_of(alloc, 2, &TWO_STORES, &[])?;
+    let guarded = application_of(alloc, 2, &WITH_ONE_GUARD, &[RELOCS[0], RELOCS[1]])?;
+    let files = writable(alloc, 66, &NONE)?;
+    let mut files = with_files(files, &[(b"s.o", plain.as_slice())])?;
+    for case in &OF_TWO_STORES {
+        try_case(&rt, alloc, &mut files, NONE.out, case)?;
+        compare_held(&rt, &files, b"g.o", Some(guarded.as_slice()), case.line)?;
+    }
+    Ok(())
 }
 
 /// Tells where an object, or its absence, isn't refused with this line, or `g.o` is then held.

@@ -1,22 +1,22 @@
 //! Source instructions and their units.
 
-use super::table::Row;
-use crate::object_parts::{CODE, DATA, HI, LO};
+use crate::table::Row;
+use code_rows::object_parts::{CODE, DATA, HI, LO};
 
-pub(super) const STORE: [u16; 3] = [0x4786, 0x0000, 0x3FFD];
+pub(crate) const STORE: [u16; 3] = [0x4786, 0x0000, 0x3FFD];
 
-pub(super) const GUARDED_STORE: [u16; 17] = [
+pub(crate) const GUARDED_STORE: [u16; 17] = [
     0x4205, 0x4604, 0x5034, 0x0000, 0x9034, 0x0000, 0x2803, 0x9034, 0x0000, 0x2802, 0x4030, 0xF000,
     0x4502, 0x4784, 0x0000, 0x4030, 0x0000,
 ];
 
-pub(super) const GUARDED_STORE_RELOCS: [(u8, u8, u16); 3] = [
+pub(crate) const GUARDED_STORE_RELOCS: [(u8, u8, u16); 3] = [
     (0, LO, 0x000A),
     (0, HI, 0x0010),
     (0, CODE, 0x0020),
 ];
 
-pub(super) const STORES: [Row; 9] = [
+pub(crate) const STORES: [Row; 9] = [
     // MOV.B #5,2(R6), the index relocated
     (
         &[0x40F6, 0x0005, 0x0002, 0x3FFC],
@@ -96,7 +96,7 @@ pub(super) const STORES: [Row; 9] = [
     ),
 ];
 
-pub(super) const STACKS: [Row; 13] = [
+pub(crate) const STACKS: [Row; 13] = [
     // PUSH R6, and PUSH of a place of code
     (
         &[0x1206, 0x3FFE],
@@ -209,7 +209,7 @@ pub(super) const STACKS: [Row; 13] = [
     ),
 ];
 
-pub(super) const TARGETS: [Row; 12] = [
+pub(crate) const TARGETS: [Row; 12] = [
     // JNE to itself
     (
         &[0x23FF, 0x3FFE],

@@ -1,32 +1,32 @@
-//! Units and faults of small objects, each worked out by hand from the table of units. `rows` has the objects that `table`
-//! looks at, and `faulty` those of `faults`.
+//! What becomes of a source object, beside what was expected.
 
-use crate::object_parts::{CODE, DATA, HI, LO, Parts, object};
 use check_inserter::{InsertFault, InsertKind, insert};
 use code_model::object::Object;
 use code_model::parts::RelKind;
+use code_rows::object_parts::{CODE, DATA, HI, LO, Parts, object_of};
 use std::alloc::Global;
-
-mod faults;
-mod faulty;
-mod rows;
-mod table;
 
 /// What became of a source object: it was none, it was given its guards as expected or otherwise, or it has a fault.
 #[derive(Clone, Copy, PartialEq, Eq, Debug, Drop)]
-enum Answer {
+pub(crate) enum Answer {
     NoObject,
     AsExpected,
     OtherCode,
     OtherRelocs,
     OtherData,
     OtherPlace,
+    OtherVersion,
     Fault(InsertKind, u32),
 }
 
-/// What becomes of an object, beside what was expected.
-fn inserted(alloc: Global, source: &Parts, wanted: &Parts) -> Answer {
-    match object(alloc, source) {
+/// What becomes of an object of version 1.
+pub(crate) fn inserted(alloc: Global, source: &Parts, wanted: &Parts) -> Answer {
+    inserted_in(alloc, 1, source, wanted)
+}
+
+/// What becomes of an object of a version.
+pub(crate) fn inserted_in(alloc: Global, version: u8, source: &Parts, wanted: &Parts) -> Answer {
+    match object_of(alloc, version, source) {
         Some(o) => inserted_of(alloc, &o, wanted),
         None => Answer::NoObject,
     }
@@ -34,7 +34,13 @@ fn inserted(alloc: Global, source: &Parts, wanted: &Parts) -> Answer {
 
 fn inserted_of(alloc: Global, o: &Object, wanted: &Parts) -> Answer {
     match insert(alloc, o) {
-        Ok(q) => compared(&q, wanted),
+        Ok(q) => {
+            if q.version == o.version {
+                compared(&q, wanted)
+            } else {
+                Answer::OtherVersion
+            }
+        }
         Err(InsertFault::At { kind, offset }) => Answer::Fault(kind, offset),
         Err(InsertFault::Memory) => Answer::NoObject,
     }

@@ -1,8 +1,8 @@
 //! Units of small objects: each row of the table, and what moves with a unit.
 
-use super::rows::{GUARDED_STORE, GUARDED_STORE_RELOCS, STACKS, STORE, STORES, TARGETS};
-use super::{Answer, inserted};
-use crate::object_parts::{CODE, DATA, HI, LO, Parts, code};
+use crate::rows::{GUARDED_STORE, GUARDED_STORE_RELOCS, STACKS, STORE, STORES, TARGETS};
+use crate::answers::{Answer, inserted, inserted_in};
+use code_rows::object_parts::{CODE, DATA, HI, LO, Parts, code};
 use check_inserter::InsertKind;
 use std::alloc::Global;
 use std::test::*;
@@ -22,17 +22,18 @@ fn a_store_gets_its_guard_and_a_guarded_one_is_no_source(rt: HostRuntime) {
 }
 
 /// A source instruction and its unit, each behind which a jump to the code's begin stands, with their relocations.
-pub(super) type Row = (
+pub(crate) type Row = (
     &'static [u16],
     &'static [(u8, u8, u16)],
     &'static [u16],
     &'static [(u8, u8, u16)],
 );
 
-/// Tells what becomes of each row, and the place of the first that isn't as expected.
-fn first_other(alloc: Global, rows: &[Row]) -> (usize, Answer) {
+/// Tells what becomes of each row in a version, and the place of the first that isn't as expected.
+pub(crate) fn first_other(alloc: Global, version: u8, rows: &[Row]) -> (usize, Answer) {
     for (at, (from, from_relocs, to, to_relocs)) in rows.iter().enumerate() {
-        let answer = inserted(alloc, &code(from, from_relocs), &code(to, to_relocs));
+        let source = code(from, from_relocs);
+        let answer = inserted_in(alloc, version, &source, &code(to, to_relocs));
         if answer != Answer::AsExpected {
             return (at, answer);
         }
@@ -43,9 +44,9 @@ fn first_other(alloc: Global, rows: &[Row]) -> (usize, Answer) {
 #[test]
 fn each_row_of_the_table_has_its_unit(rt: HostRuntime) {
     let alloc = rt.alloc();
-    assert_eq!(rt; first_other(alloc, &STORES), (9, Answer::AsExpected));
-    assert_eq!(rt; first_other(alloc, &STACKS), (13, Answer::AsExpected));
-    assert_eq!(rt; first_other(alloc, &TARGETS), (12, Answer::AsExpected));
+    assert_eq!(rt; first_other(alloc, 1, &STORES), (9, Answer::AsExpected));
+    assert_eq!(rt; first_other(alloc, 1, &STACKS), (13, Answer::AsExpected));
+    assert_eq!(rt; first_other(alloc, 1, &TARGETS), (12, Answer::AsExpected));
 }
 
 #[test]

@@ -1,14 +1,14 @@
 //! Faults of small objects, and the unit that passes the most words.
 
-use super::faulty::{BAD_TARGETS, CHECK_REGISTERS, FIRST_FAULTS, FORBIDDEN, UNDECODED};
-use super::{Answer, inserted};
-use crate::object_parts::{CODE, Parts, code};
+use crate::faulty::{BAD_TARGETS, CHECK_REGISTERS, FIRST_FAULTS, FORBIDDEN, UNDECODED};
+use crate::answers::{Answer, inserted};
+use code_rows::object_parts::{CODE, Parts, code};
 use check_inserter::InsertKind;
 use std::alloc::{AllocError, Global};
 use std::test::*;
 
 /// Code words, relocations of them, the kind of their fault and its offset.
-pub(super) type Faulty = (&'static [u16], &'static [(u8, u8, u16)], InsertKind, u32);
+pub(crate) type Faulty = (&'static [u16], &'static [(u8, u8, u16)], InsertKind, u32);
 
 /// Tells the place of the first case whose fault isn't as expected, and what its answer is.
 fn first_other_fault(alloc: Global, cases: &[Faulty]) -> (usize, Answer) {

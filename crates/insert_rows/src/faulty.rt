@@ -1,17 +1,17 @@
 //! Source objects with a fault.
 
-use super::faults::Faulty;
-use crate::object_parts::{CODE, DATA, HI, LO};
+use crate::faults::Faulty;
+use code_rows::object_parts::{CODE, DATA, HI, LO};
 use check_inserter::InsertKind;
 
-pub(super) const UNDECODED: [Faulty; 3] = [
+pub(crate) const UNDECODED: [Faulty; 3] = [
     (&[0x4303, 0x0000], &[], InsertKind::NotDecoded, 2),
     (&[0x4303, 0x4036], &[], InsertKind::NotDecoded, 2),
     // RETI before it doesn't count
     (&[0x1300, 0x0000], &[], InsertKind::NotDecoded, 2),
 ];
 
-pub(super) const CHECK_REGISTERS: [Faulty; 7] = [
+pub(crate) const CHECK_REGISTERS: [Faulty; 7] = [
     (&[0x4604, 0x3FFE], &[], InsertKind::UsesCheckRegister, 0),
     (&[0x4506, 0x3FFE], &[], InsertKind::UsesCheckRegister, 0),
     (
@@ -32,7 +32,7 @@ pub(super) const CHECK_REGISTERS: [Faulty; 7] = [
     (&[0x1284, 0x3FF0], &[], InsertKind::UsesCheckRegister, 0),
 ];
 
-pub(super) const FORBIDDEN: [Faulty; 27] = [
+pub(crate) const FORBIDDEN: [Faulty; 27] = [
     (&[0x1300, 0x3FFE], &[], InsertKind::Forbidden, 0),
     // SR: BIC #8, MOV R6, BIS.B #1, BIS #0107 relocated
     (&[0xC232, 0x3FFE], &[], InsertKind::Forbidden, 0),
@@ -94,7 +94,7 @@ pub(super) const FORBIDDEN: [Faulty; 27] = [
     ),
 ];
 
-pub(super) const BAD_TARGETS: [Faulty; 20] = [
+pub(crate) const BAD_TARGETS: [Faulty; 20] = [
     // JMP into an operand, before the code and behind it
     (&[0x4036, 0x0000, 0x3FFE], &[], InsertKind::BadTarget, 4),
     (&[0x4303, 0x3FFD], &[], InsertKind::BadTarget, 2),
@@ -149,7 +149,7 @@ pub(super) const BAD_TARGETS: [Faulty; 20] = [
     (&[0x4303, 0x12B0, 0xF008], &[], InsertKind::BadTarget, 2),
 ];
 
-pub(super) const FIRST_FAULTS: [Faulty; 4] = [
+pub(crate) const FIRST_FAULTS: [Faulty; 4] = [
     // a jump before the code, and then RETI
     (&[0x3FF0, 0x1300, 0x3FFD], &[], InsertKind::BadTarget, 0),
     // RETI, and then MOV R6,R4
