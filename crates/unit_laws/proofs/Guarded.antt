@@ -88,9 +88,9 @@ after-other w (src.Const k) r n a = refl
 pub spread-four : (r : List ℕ) (x y : ℕ) → length r ≡ 16 → reg (spread r x y) 4 ≡ x
 spread-four r x y h = get_or-set_other (set r 4 x) 5 4 y 0 (omega arith) ∙ get_or-set_same r 4 x 0 (omega (arith, h))
 
-through-place : (r : List ℕ) (at x y : ℕ) → length r ≡ 16 → x < 65536 → place_to (dst.Indexed 4 0) at (spread r x y) ≡ At x
+through-place : (r : List ℕ) (at z x y : ℕ) → length r ≡ 16 → place_to (dst.Indexed 4 z) at (spread r x y) ≡ At (sum_of z x)
 unfolding place_to
-through-place r at x y h b = ap (λ (v : ℕ). At (sum_of 0 v)) (spread-four r x y h) ∙ ap At (omega (arith, b))
+through-place r at z x y h = ap (λ (v : ℕ). At (sum_of z v)) (spread-four r x y h)
 
 cell-place : (d : Dst) (n x at : ℕ) (r q : List ℕ) → IsCell d n x → reg q n ≡ reg r n → reg r 3 ≡ 0 → x < 65536 → At (sum_of x (reg r n)) ≡ place_to d at q
 unfolding place_to
@@ -105,20 +105,21 @@ cell-value w a m r x y = refl
 
 pub through : ThroughLaw
 unfolding does two
-through m r op w s d k n x y h a cell nz b steps =
-    let c = sum_of x (reg r n) in
+through m r op w s d k n x z c y h a cell nz b steps same =
     let pc = reg r 0 in
     let r1 = passed r k in
     let v = source_value w s (sum_of pc 2) m r1 in
     let r2 = after_source w s r1 in
     let at = sum_of pc (2 * k - 2) in
+    let p = At (sum_of x (reg r n)) in
     let long : length r2 ≡ 16 = after-length w s r1 ∙ (set-length r 0 _ ∙ h.words) in
     let kept : reg r2 n ≡ reg r n = after-other w s r1 n steps ∙ reg-other r 0 _ n nz in
-    ap (λ (z : ℕ). let q1 = passed (spread r c y) k in let q2 = after_source w s q1 in let p = place_to (dst.Indexed 4 0) (sum_of z (2 * k - 2)) q2 in two_from op w p (source_value w s (sum_of z 2) m q1) (value_in w p m q2) q2) (spread-reg r c y 0 none)
-    ∙ (ap (λ (q1 : List ℕ). let q2 = after_source w s q1 in let p = place_to (dst.Indexed 4 0) at q2 in two_from op w p (source_value w s (sum_of pc 2) m q1) (value_in w p m q2) q2) (passed-spread r c y k)
-    ∙ (ap (λ (z : ℕ). let q2 = after_source w s (spread r1 c y) in let p = place_to (dst.Indexed 4 0) at q2 in two_from op w p z (value_in w p m q2) q2) (source-spread w s (sum_of pc 2) m r1 c y a)
-    ∙ (ap (λ (q2 : List ℕ). let p = place_to (dst.Indexed 4 0) at q2 in two_from op w p v (value_in w p m q2) q2) (after-spread w s r1 c y a)
-    ∙ (ap (λ (p : Place). two_from op w p v (value_in w p m (spread r2 c y)) (spread r2 c y)) (through-place r2 at c y long (omega arith))
-    ∙ (ap (λ (z : ℕ). two_from op w (At c) v z (spread r2 c y)) (cell-value w c m r2 c y)
-    ∙ (from-spread op w (At c) v (value_in w (At c) m r2) r2 c y tt
+    let there : place_to (dst.Indexed 4 z) at (spread r2 c y) ≡ p = through-place r2 at z c y long ∙ ap At same in
+    ap (λ (u : ℕ). let q1 = passed (spread r c y) k in let q2 = after_source w s q1 in let p = place_to (dst.Indexed 4 z) (sum_of u (2 * k - 2)) q2 in two_from op w p (source_value w s (sum_of u 2) m q1) (value_in w p m q2) q2) (spread-reg r c y 0 none)
+    ∙ (ap (λ (q1 : List ℕ). let q2 = after_source w s q1 in let p = place_to (dst.Indexed 4 z) at q2 in two_from op w p (source_value w s (sum_of pc 2) m q1) (value_in w p m q2) q2) (passed-spread r c y k)
+    ∙ (ap (λ (u : ℕ). let q2 = after_source w s (spread r1 c y) in let p = place_to (dst.Indexed 4 z) at q2 in two_from op w p u (value_in w p m q2) q2) (source-spread w s (sum_of pc 2) m r1 c y a)
+    ∙ (ap (λ (q2 : List ℕ). let p = place_to (dst.Indexed 4 z) at q2 in two_from op w p v (value_in w p m q2) q2) (after-spread w s r1 c y a)
+    ∙ (ap (λ (p : Place). two_from op w p v (value_in w p m (spread r2 c y)) (spread r2 c y)) there
+    ∙ (ap (λ (u : ℕ). two_from op w p v u (spread r2 c y)) (cell-value w (sum_of x (reg r n)) m r2 c y)
+    ∙ (from-spread op w p v (value_in w p m r2) r2 c y tt
     ∙ ap (λ (p : Place). spread_effect (two_from op w p v (value_in w p m r2) r2) c y) (cell-place d n x at r r2 cell kept h.zero b)))))))

@@ -33,7 +33,7 @@ pub stopped : (m r : List ℕ) (first past entry x : ℕ) → Stops m r first pa
 stopped m r first past entry x s = record { x = x; y = reg r 2; flags = s.flags; runs = s.ends }
 
 -- the guard at a unit's first word
-at-guard : (m r : List ℕ) (first past : ℕ) (ws : List ℕ) → IsAtFirst m r first past → WordsAt m first 0 ws → first + 2 * length ws < past → IsAtGuard m r first past first ws
+pub at-guard : (m r : List ℕ) (first past : ℕ) (ws : List ℕ) → IsAtFirst m r first past → WordsAt m first 0 ws → first + 2 * length ws < past → IsAtGuard m r first past first ws
 at-guard m r first past ws g w b = record { memory = g.memory; context = g.context; pc = g.pc; words = w; begins = omega arith; within = b; below = g.below }
 
 -- ---- a growth guard and a pop guard
@@ -68,12 +68,12 @@ pop-unit m r first past i n g w f e b a out =
 
 -- ---- a store guard
 
-indexed-free : (n : ℕ) → IsIndexed n → IsFree n
+pub indexed-free : (n : ℕ) → IsIndexed n → IsFree n
 indexed-free n (inl e) = (omega (arith, e), (omega (arith, e), omega (arith, e)))
 indexed-free n (inr (inl e)) = (omega (arith, e), (omega (arith, e), omega (arith, e)))
 indexed-free n (inr (inr e)) = (omega (arith, e.0), (omega (arith, e.0), omega (arith, e.0)))
 
-source-avoids : (s : Src) → SrcFree s → SrcAvoids s
+pub source-avoids : (s : Src) → SrcFree s → SrcAvoids s
 source-avoids (src.Reg n) f = f.1
 source-avoids (src.Indexed n x) f = f.1
 source-avoids (src.Symbolic x) f = tt
@@ -107,7 +107,7 @@ change-goes-on Sxt w s c f = f
 change-goes-on Push w s c f = absurd (false≢true c)
 change-goes-on Call w s c f = absurd (false≢true c)
 
-fetched-some : (m : List ℕ) (pc : ℕ) (i : Instr) (n : ℕ) → IsFetched m pc i n → 1 ≤ n
+pub fetched-some : (m : List ℕ) (pc : ℕ) (i : Instr) (n : ℕ) → IsFetched m pc i n → 1 ≤ n
 fetched-some m pc i zero f = absurd f.1
 fetched-some m pc i (suc n) f = omega arith
 
@@ -126,7 +126,7 @@ context-at r pc h b = record {
     small-on (suc k) = omega (arith, reg-other r 0 pc (suc k) (omega arith), h.small (suc k))
 
 -- an instruction that ends at the unit's end, and goes on, leads there
-ended-past : (m r : List ℕ) (past : ℕ) (i : Instr) (n : ℕ) → IsContext r → GoesOn i → past % 2 ≡ 0 → past < 65536 → 2 * n ≤ past → reg (ended past m r i n).context 0 ≡ past
+pub ended-past : (m r : List ℕ) (past : ℕ) (i : Instr) (n : ℕ) → IsContext r → GoesOn i → past % 2 ≡ 0 → past < 65536 → 2 * n ≤ past → reg (ended past m r i n).context 0 ≡ past
 ended-past m r past i n h g e b l =
     goes-on m (set_reg r 0 (past - 2 * n)) i n (context-at r (past - 2 * n) h (omega (arith, b))) g ∙ omega (arith, pc-set r (past - 2 * n) h.words, e, b, l)
 
@@ -160,8 +160,8 @@ store-unit m r first past n x lo hi op w s d k g f e free cell steps =
     let some : 1 ≤ k = fetched-some m (first + 26) (instr.Two op w s (dst.Indexed 4 0)) k f in
     let apart : n ≢ 0 = (indexed-free n g.register).0 in
     let q = set_reg r 0 (first + 26) in
-    let same = through m q op w s d k n x (reg r 2) (context-at r (first + 26) h (omega (arith, g.at.below, e))) (source-avoids s free) cell apart g.index steps in
-    let kept = subst (λ (v : ℕ). does m (spread q (sum_of x v) (reg r 2)) (instr.Two op w s (dst.Indexed 4 0)) k ≡ spread_effect (does m q (instr.Two op w s d) k) (sum_of x v) (reg r 2)) (reg-other r 0 (first + 26) n apart) same in
+    let same : sum_of 0 a ≡ sum_of x (reg q n) = omega (arith, reg-other r 0 (first + 26) n apart) in
+    let kept = through m q op w s d k n x 0 a (reg r 2) (context-at r (first + 26) h (omega (arith, g.at.below, e))) (source-avoids s free) cell apart g.index steps same in
     let there : first + 26 ≡ past - 2 * k = omega (arith, e) in
     let last = subst (λ (z : ℕ). does m (spread q a (reg r 2)) (instr.Two op w s (dst.Indexed 4 0)) k ≡ spread_effect (does m (set_reg r 0 z) (instr.Two op w s d) k) a (reg r 2)) there kept in
     let ends = store-ends m r first past first n x lo hi (at-guard m r first past (store_words n x lo hi) g.at g.words (omega (arith, e, some))) g.register g.index g.lo_word g.hi_word in

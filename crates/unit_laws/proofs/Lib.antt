@@ -16,3 +16,4 @@ pub mod CalleeUnits
 pub mod PopUnits
 pub mod SpUnits
 pub mod Placing
+pub mod GroupUnits

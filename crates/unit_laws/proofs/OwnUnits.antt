@@ -1,10 +1,11 @@
 -- Units without a check: an instruction of its own, a branch, and a jump over a branch.
-use Rattle.std.proofs.Common.{◌≡◌, ℕ, ◌+◌, ◌-◌, ◌*◌, ◌%◌, ◌<◌, Bool, true, false, List, set, refl, sym, ap, ◌∙◌, subst, arith}
+use Rattle.std.proofs.Common.{◌≡◌, ℕ, ◌+◌, ◌-◌, ◌*◌, ◌%◌, ◌<◌, Bool, true, false, List, set, ℤ, refl, sym, ap, ◌∙◌, subst, arith}
 use Rattle.std.specs.Prelude.{if◌then◌else◌, pos}
 use Rattle.std.proofs.lemmas.List.{set-get_or}
 use Rattle.machine_model.specs.Memory.{even}
 use Rattle.machine_model.specs.Context.{reg, set_reg, IsContext}
-use Rattle.machine_model.specs.Does.{does, holds, Effect}
+use Rattle.machine_model.specs.Operands.{sum_of}
+use Rattle.machine_model.specs.Does.{does, jump, holds, target, Effect}
 use Rattle.machine_model.specs.Fetching.{IsFetched}
 use Rattle.msp_encode.specs.declared.instr.Cond.{Cond}
 use Rattle.msp_encode.specs.declared.instr.Cond.TheVariants.{Always}
@@ -13,13 +14,14 @@ use Rattle.msp_encode.specs.declared.instr.Instr.TheVariants as instr
 use Rattle.unit_laws.specs.Running.{held, silent, IsInside, Runs, Stays, RunsUnit}
 use Rattle.unit_laws.specs.Lines.{Jumps, Branches, pc_after}
 use Rattle.unit_laws.specs.Frame.{spread, spread_effect}
-use Rattle.unit_laws.specs.Rows.{ended, branch, IsAtFirst, OwnUnitLaw, BranchUnitLaw, JumpUnitLaw}
+use Rattle.unit_laws.specs.Rows.{ended, branch, IsAtFirst, OwnUnitLaw, BranchUnitLaw, JumpUnitLaw, ShortJumpUnitLaw}
 use Rattle.unit_laws.proofs.Lines.{line-does}
+use Rattle.unit_laws.proofs.GoingOn.{pc-set}
 use Rattle.unit_laws.proofs.Contexts.{as_held, held-context, line-runs, jump-taken, jump-passed}
 
 -- ---- an instruction of its own
 
-pc-again : (r : List ℕ) (p : ℕ) → IsContext r → reg r 0 ≡ p → set_reg r 0 p ≡ r
+pub pc-again : (r : List ℕ) (p : ℕ) → IsContext r → reg r 0 ≡ p → set_reg r 0 p ≡ r
 unfolding set_reg
 pc-again r p h e = ap (set r 0) (omega (arith, h.pc_even, e)) ∙ set-get_or r 0 0
 
@@ -114,3 +116,24 @@ jump-alone m r first past x c g f over go e t l out = by (holds c (reg r 2)) ref
         (line-does (Jumps Always 2) m r (first + 2) (reg r 2) (reg r 4) (reg r 5) g.context (standing-context r (first + 2) g.context (omega (arith, even_first)) (omega (arith, g.below, e))) tt (omega (arith, g.below, e))
         ∙ ap (λ (p : ℕ). silent (standing r p)) (omega (arith, e)))
         (jump-leads m r first past (first + 2) c g f e (jump-passed c 1 first (reg r 2) is) (omega arith) (omega (arith, e))) (λ i. omega (arith, i.1))
+
+-- ---- a jump of its own
+
+jump-goes : (m r : List ℕ) (first past : ℕ) (c : Cond) (k : ℤ) → IsAtFirst m r first past → past ≡ first + 2 → does m r (instr.Jump c k) 1 ≡ silent (set_reg r 0 (if holds c (reg r 2) then target first k else past))
+unfolding does jump
+jump-goes m r first past c k g e =
+    ap (λ (p : ℕ). silent (set_reg r 0 (if holds c (reg r 2) then target p k else sum_of p 2))) g.pc
+    ∙ ap (λ (p : ℕ). silent (set_reg r 0 (if holds c (reg r 2) then target first k else p))) (omega (arith, e, g.below))
+
+-- there is no even address inside a unit of one word
+pub short-jump : ShortJumpUnitLaw
+short-jump m r first past c k g f e = record {
+  steps = 0;
+  before = r;
+  runs = Stays r;
+  instr = instr.Jump c k;
+  words = 1;
+  fetched = subst (λ (p : ℕ). IsFetched m p (instr.Jump c k) 1) (sym g.pc) f;
+  last = jump-goes m r first past c k g e;
+  leaves = λ i. omega (arith, i.0, i.1, e, g.pc, g.context.pc_even, pc-set r (if holds c (reg r 2) then target first k else past) g.context.words);
+}

@@ -31,7 +31,7 @@ record Alike (r q : List ℕ) : Type 0 where
   pub same : set_reg r 0 0 ≡ set_reg q 0 0
 
 -- PC set again forgets the first
-forgets : (r : List ℕ) (p v : ℕ) → set_reg (set_reg r 0 p) 0 v ≡ set_reg r 0 v
+pub forgets : (r : List ℕ) (p v : ℕ) → set_reg (set_reg r 0 p) 0 v ≡ set_reg r 0 v
 unfolding set_reg
 forgets [] p v = refl
 forgets (a ∷ r) p v = refl

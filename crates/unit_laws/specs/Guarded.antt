@@ -41,10 +41,10 @@ Steps (src.AutoInc j) n = j ≡ n
 Steps (src.Immediate z) n = ⊥
 Steps (src.Const k) n = ⊥
 
--- `op src,0(R4)` does what `op src,x(Rn)` does, where R4 has the address, but for R4 and R5
+-- `op src,z(R4)` does what `op src,x(Rn)` does, where both name one address, but for R4 and R5
 abbrev pub ThroughLaw : Type 0
-ThroughLaw = (m r : List ℕ) (op : Op2) (w : Width) (s : Src) (d : Dst) (k n x y : ℕ) → IsContext r → SrcAvoids s → IsCell d n x → n ≢ 0 → x < 65536 → (Steps s n → ⊥)
-    → does m (spread r (sum_of x (reg r n)) y) (instr.Two op w s (dst.Indexed 4 0)) k ≡ spread_effect (does m r (instr.Two op w s d) k) (sum_of x (reg r n)) y
+ThroughLaw = (m r : List ℕ) (op : Op2) (w : Width) (s : Src) (d : Dst) (k n x z v y : ℕ) → IsContext r → SrcAvoids s → IsCell d n x → n ≢ 0 → x < 65536 → (Steps s n → ⊥)
+    → sum_of z v ≡ sum_of x (reg r n) → does m (spread r v y) (instr.Two op w s (dst.Indexed 4 z)) k ≡ spread_effect (does m r (instr.Two op w s d) k) v y
 
 -- an operand of one-operand operations at x behind a register, or at the address x, with n 3
 abbrev pub IsCellOperand : Src → (n x : ℕ) → Type 0

@@ -1,11 +1,11 @@
 -- Where a run of each unit ends, over numbers: the rows of the unit table.
-use Rattle.std.specs.Prelude.{◌≡◌, ◌≢◌, ℕ, ◌+◌, ◌-◌, ◌*◌, ◌%◌, ◌<◌, ◌≤◌, ◌⊎◌, true, List, pos, if◌then◌else◌}
+use Rattle.std.specs.Prelude.{◌≡◌, ◌≢◌, ℕ, ◌+◌, ◌-◌, ◌*◌, ◌%◌, ◌<◌, ◌≤◌, ◌⊎◌, true, List, ℤ, pos, if◌then◌else◌}
 use Rattle.machine_model.specs.Memory.{word_at, even, IsMemory}
 use Rattle.machine_model.specs.Context.{reg, set_reg, IsContext}
 use Rattle.machine_model.specs.Operands.{sum_of, low, source_value, after_source}
 use Rattle.machine_model.specs.Status.{Flags, with_flags}
 use Rattle.machine_model.specs.Alu.{alu, writes, changes}
-use Rattle.machine_model.specs.Does.{does, Effect, holds}
+use Rattle.machine_model.specs.Does.{does, Effect, holds, target}
 use Rattle.machine_model.specs.Fetching.{IsFetched}
 use Rattle.msp_encode.specs.declared.instr.Width.{Width}
 use Rattle.msp_encode.specs.declared.instr.Width.TheVariants.{Wide}
@@ -149,6 +149,11 @@ abbrev pub JumpUnitLaw : Type 0
 JumpUnitLaw = (m r : List ℕ) (first past x : ℕ) (c : Cond) → IsAtFirst m r first past → IsFetched m first (instr.Jump c (pos 1)) 1 → IsFetched m (first + 2) (instr.Jump Always (pos 2)) 1
     → IsFetched m (first + 4) (branch x) 2 → past ≡ first + 8 → x % 2 ≡ 0 → x < 65536 → (IsInside first past x → ⊥)
     → RunsUnit m first past r (silent (set_reg r 0 (if holds c (reg r 2) then x else past)))
+
+-- a jump of its own
+abbrev pub ShortJumpUnitLaw : Type 0
+ShortJumpUnitLaw = (m r : List ℕ) (first past : ℕ) (c : Cond) (k : ℤ) → IsAtFirst m r first past → IsFetched m first (instr.Jump c k) 1 → past ≡ first + 2
+    → RunsUnit m first past r (silent (set_reg r 0 (if holds c (reg r 2) then target first k else past)))
 
 -- a computed jump
 abbrev pub ComputedUnitLaw : Type 0

@@ -7,11 +7,12 @@
 #![tactic(auto)]
 
 ghost use Rattle.unit_laws.specs.Frame.{FrameLaw};
+ghost use Rattle.unit_laws.specs.Groups.{GroupUnitLaw};
 ghost use Rattle.unit_laws.specs.Guarded.{AtR4Law, GuardedLaw, ThroughLaw};
 ghost use Rattle.unit_laws.specs.Guards.{GrowthGuardLaw, PopGuardLaw, SpGuardLaw, StoreGuardLaw};
 ghost use Rattle.unit_laws.specs.Lines.{ComparedLaw, LineLaw};
 ghost use Rattle.unit_laws.specs.Running.{FollowLaw, JoinLaw, OnceLaw};
-ghost use Rattle.unit_laws.specs.Rows.{BranchUnitLaw, CalleeUnitLaw, ChangeUnitLaw, ComputedUnitLaw, GoesOnLaw, GoesToLaw, GrowthUnitLaw, JumpUnitLaw, OwnUnitLaw, PcMovesLaw, PlaceLaw, PopIntoUnitLaw, PopUnitLaw, ReturnUnitLaw, SetSpUnitLaw, StoreUnitLaw};
+ghost use Rattle.unit_laws.specs.Rows.{BranchUnitLaw, CalleeUnitLaw, ChangeUnitLaw, ComputedUnitLaw, GoesOnLaw, GoesToLaw, GrowthUnitLaw, JumpUnitLaw, OwnUnitLaw, PcMovesLaw, PlaceLaw, PopIntoUnitLaw, PopUnitLaw, ReturnUnitLaw, SetSpUnitLaw, ShortJumpUnitLaw, StoreUnitLaw};
 
 use msp_decode::laws::{first_word_decides, one_instruction};
 
@@ -73,7 +74,7 @@ pub fn guarded_ends()
     ensures { GuardedLaw }
 {}
 
-/// An operation on 0(R4) does what it does on x(Rn) or on an absolute address, where R4 has that address, but for R4 and R5.
+/// An operation on z(R4) does what it does on x(Rn) or on an absolute address, where both are one address, but for R4 and R5.
 pub fn through_same()
     ensures { ThroughLaw }
 {}
@@ -113,6 +114,11 @@ pub fn jump_unit_ends()
     ensures { JumpUnitLaw }
 {}
 
+/// A jump that is a unit changes PC alone: it leads to its target where the condition holds, and behind the unit elsewhere.
+pub fn short_jump_unit_ends()
+    ensures { ShortJumpUnitLaw }
+{}
+
 /// A computed jump ends at F004 with its target in R4.
 pub fn computed_unit_ends()
     ensures { ComputedUnitLaw }
@@ -126,6 +132,12 @@ pub fn store_unit_ends()
 /// So does a guarded RRC, RRA, SWPB or SXT.
 pub fn change_unit_ends()
     ensures { ChangeUnitLaw }
+{}
+
+/// The stores of a group behind one guard do what the source's do, one after another, where the address of the first is where the guard
+/// lets it be, and the unit ends at F000 elsewhere.
+pub fn group_unit_ends()
+    ensures { GroupUnitLaw }
 {}
 
 /// A guarded PUSH or CALL of a place does what the source's does where SP is at least the current limit, and ends at F002 elsewhere.
