@@ -1,6 +1,7 @@
 -- Units of jumps.
-use Rattle.std.proofs.Common.{◌≡◌, ℕ, ◌+◌, ◌*◌, ◌<◌, Bool, true, false, List, [], ◌∷◌, set, ℤ, pos, None, Some, refl, sym, ap, ◌∙◌, subst, inl, inr, arith}
+use Rattle.std.proofs.Common.{◌≡◌, ℕ, ◌+◌, ◌-◌, ◌*◌, ◌<◌, nat_lt, Bool, true, false, List, [], ◌∷◌, set, ℤ, pos, negsuc, None, Some, refl, sym, ap, ◌∙◌, subst, inl, inr, arith}
 use Rattle.std.specs.Prelude.{if◌then◌else◌}
+use Rattle.std.proofs.lemmas.Bool.{ltb-true, ltb-false}
 use Rattle.std.proofs.lemmas.Int.{ints}
 use Rattle.std.proofs.lemmas.List.{set-get_or}
 use Rattle.msp_encode.specs.declared.instr.Cond.{Cond}
@@ -12,11 +13,13 @@ use Rattle.machine_model.specs.Does.{Effect, holds, target}
 use Rattle.msp_encode.specs.Spelling.{InstrFits}
 use Rattle.code_model.specs.declared.object.Object.{Object}
 use Rattle.code_model.specs.declared.parts.RelKind.TheVariants.{Code}
+use Rattle.code_model.specs.Fields.{fields}
 use Rattle.load_model.specs.Domains.{Domain}
 use Rattle.insert_model.specs.declared.line.Line.{Line}
 use Rattle.insert_model.specs.Words.{piece_words}
 use Rattle.insert_model.specs.Guards as guard_piece
 use Rattle.insert_model.specs.Units.{target_offset, jump_unit}
+use Rattle.insert_model.specs.Layout.{words_before, span_between, is_short, sized, final_offset, place_map}
 use Rattle.insert_model.specs.Faults.{IsStartOffset, IsJumpStart, JumpsAmiss}
 use Rattle.insert_laws.specs.Shapes.{IsCleanLine}
 use Rattle.unit_laws.specs.Running.{silent, RunsUnit}
@@ -25,9 +28,9 @@ use Rattle.machine_model.specs.Fetching.{IsFetched}
 use Rattle.unit_laws.specs.Rows.{branch, Follows}
 use Rattle.placed_unit_laws.specs.Placed.{unit_address, unit_at, unit_behind, word_in_place, source_does, instr_does}
 use Rattle.placed_unit_laws.specs.Checks.{Unchecked}
-use Rattle.placed_unit_laws.specs.Ends.{Names, Lands, EndsWell, UnitStands}
+use Rattle.placed_unit_laws.specs.Ends.{Names, Lands, EndsWell}
 use Rattle.placed_unit_laws.specs.Given.{RowLaws}
-use Rattle.placed_unit_laws.proofs.Here.{IsHere}
+use Rattle.placed_unit_laws.proofs.Here.{IsHere, LineStands}
 use Rattle.placed_unit_laws.proofs.Pieces.{Stands, head, end}
 use Rattle.placed_unit_laws.proofs.Targets.{jump-start, jump-offset, jump-goes}
 use Rattle.placed_unit_laws.proofs.Results.{Result, at-first, behind-even, code-word}
@@ -40,7 +43,7 @@ same-effect e = ap (λ (c : List ℕ). record { context = c; written = e.written
 own-effect : (m r : List ℕ) (first past : ℕ) (e : Effect) → RunsUnit m first past r e → Follows m r first past e
 own-effect m r first past e h = record { x = reg e.context 4; y = reg e.context 5; runs = subst (RunsUnit m first past r) (sym (same-effect e)) h }
 
-module _ (g : RowLaws) (o : Object) (d : Domain) (low top : ℕ) (m r : List ℕ) (l : Line) (a : IsHere o d low top m r l) (st : UnitStands o d m l) (c : Cond) (k : ℤ) (clean : IsCleanLine o l) (line : l.instr ≡ instr.Jump c k) where
+module _ (g : RowLaws) (o : Object) (d : Domain) (low top : ℕ) (m r : List ℕ) (l : Line) (a : IsHere o d low top m r l) (st : LineStands o d m l) (c : Cond) (k : ℤ) (clean : IsCleanLine o l) (line : l.instr ≡ instr.Jump c k) where
   abbrev first : ℕ
   first = unit_at o d l
 
@@ -114,6 +117,32 @@ module _ (g : RowLaws) (o : Object) (d : Domain) (low top : ℕ) (m r : List ℕ
       let z = end o d m (first + 4) past (subst (λ (n : ℕ). Stands o d m n past []) (omega arith) f.1) in
       let run = g.branch m r first past there (at-first g o d low top m r l a st) (subst (λ (v : ℕ). IsFetched m first (branch v) 2) word f.0) z goal.even goal.small goal.outside in
       ends (subst (λ (q : Cond). RunsUnit m first past r (silent (set_reg r 0 (if holds q (reg r 2) then there else past)))) (sym e) run)
+
+  -- a jump of one word
+  spanned : (at p q b : ℕ) → at ≡ b + 2 * p → b + 2 * q < 65536 → at < 65536 → target at (span_between p q) ≡ b + 2 * q
+  unfolding span_between
+  spanned at p q b e small low' = by (nat_lt p q) refl
+    where
+      by : (c : Bool) → nat_lt p q ≡ c → target at (if c then pos (q - p - 1) else negsuc (p - q)) ≡ b + 2 * q
+      by true t = omega (arith, ltb-true p q t, e, small)
+      by false t = omega (arith, ltb-false p q t, e, small, low')
+
+  goes-over : target first (final_offset (fields o) l l.instr) ≡ there
+  unfolding unit_address place_map
+  goes-over =
+      let wb = words_before (sized (fields o)) (fields o) in
+      let small = goal.small in
+      ap (λ (i : Instr). target first (final_offset (fields o) l i)) line
+      ∙ spanned first (wb (2 * l.at)) (wb y) d.code_lo refl (subst (λ (z : ℕ). d.code_lo + 2 * wb z < 65536) goes-there small) (omega (arith, st.behind, st.below))
+      ∙ ap (λ (z : ℕ). d.code_lo + 2 * wb z) (sym goes-there)
+
+  pub short-row : is_short (fields o) l ≡ true → Stands o d m first past (guard_piece.jump c (final_offset (fields o) l l.instr) ∷ []) → EndsWell o d m r l
+  unfolding piece_words
+  short-row s h =
+      let f = head g.spelling o d m first past (guard_piece.jump c (final_offset (fields o) l l.instr)) [] h (g.short_fits (fields o) l c k line s) below in
+      let z = end o d m (first + 2) past (subst (λ (n : ℕ). Stands o d m n past []) (omega arith) f.1) in
+      let run = g.short_jump m r first past c (final_offset (fields o) l l.instr) (at-first g o d low top m r l a st) f.0 z in
+      ends (subst (λ (v : ℕ). RunsUnit m first past r (silent (set_reg r 0 (if holds c (reg r 2) then v else past)))) goes-over run)
 
   pub jump-row : Stands o d m first past (jump_unit y c) → Result o d low top m r l Unchecked r None
   jump-row h = inr ((λ q. q), by c refl h)
