@@ -19,7 +19,6 @@ use Rattle.insert_laws.specs.Shapes.{IsCleanLine}
 use Rattle.unit_laws.specs.Rows.{SrcFree, GoesOn, SameButPc, PlaceLaw, ended}
 use Rattle.placed_unit_laws.specs.Placed.{unit_behind, placed_instr, placed, instr_does, source_does}
 use Rattle.placed_unit_laws.specs.Ends.{StaysInLine, SourcePlaceLaw}
-use Rattle.placed_unit_laws.proofs.Here.{IsHere, here_of}
 use Rattle.placed_unit_laws.proofs.Fetching.{own-instr}
 use Rattle.placed_unit_laws.proofs.Clean.{IsTwoLine, src-placed, dst-placed, two-source, two-target, one-source}
 
@@ -56,5 +55,4 @@ module _ (place : PlaceLaw) (o : Object) (d : Domain) (m r : List ℕ) (l : Line
   by-instr (instr.Jump c k) e stays = absurd stays
 
 pub source-place : LinesAreClean → PlaceLaw → SourcePlaceLaw
-source-place clean place o q i d low top m r l p e at stays =
-    let here : IsHere o d low top m r l = here_of o q i d low top m r l e at in by-instr place o d m r l p (clean o d.object here.inserted l at.line) l.instr refl stays
+source-place clean place o q i d m r l p e placed line context stays = by-instr place o d m r l p (clean o q i l line) l.instr refl stays

@@ -25,9 +25,9 @@ use Rattle.insert_model.specs.Faults.{UsesCheck, IsSourceCallee, GoesAmiss}
 use Rattle.unit_laws.specs.Rows.{GoesOn, ended, Follows}
 use Rattle.placed_unit_laws.specs.Placed.{unit_at, unit_behind, word_in_place}
 use Rattle.placed_unit_laws.specs.Checks.{OfGrowth, handed, check_of_operand, check_of_one}
-use Rattle.placed_unit_laws.specs.Ends.{Names, Lands, UnitStands}
+use Rattle.placed_unit_laws.specs.Ends.{Names, Lands}
 use Rattle.placed_unit_laws.specs.Given.{RowLaws}
-use Rattle.placed_unit_laws.proofs.Here.{IsHere}
+use Rattle.placed_unit_laws.proofs.Here.{IsAlone, LineStands}
 use Rattle.placed_unit_laws.proofs.Pieces.{Stands}
 use Rattle.placed_unit_laws.proofs.Clean.{IsOneLine, one-fits}
 use Rattle.placed_unit_laws.proofs.Targets.{call-target}
@@ -36,7 +36,7 @@ use Rattle.placed_unit_laws.proofs.Landing.{IsGoal, start-word, entry-word, call
 use Rattle.placed_unit_laws.proofs.WritingRows.{indexed}
 use Rattle.placed_unit_laws.proofs.OneUnits.{here, size, source-is, free-source, few, row-own, change-row, growth-row, callee-row}
 
-module _ (g : RowLaws) (o : Object) (d : Domain) (low top : ℕ) (m r : List ℕ) (l : Line) (a : IsHere o d low top m r l) (st : UnitStands o d m l) (w : Width) where
+module _ (g : RowLaws) (o : Object) (d : Domain) (low top : ℕ) (m r : List ℕ) (l : Line) (a : IsAlone o d low top m r l) (st : LineStands o d m l) (w : Width) where
   abbrev first : ℕ
   first = unit_at o d l
 

@@ -1,5 +1,7 @@
 -- Where running the unit of each source instruction ends.
-use Rattle.std.proofs.Common.{◌≡◌, ℕ, List, refl, sym, ap, subst, inl, inr}
+use Rattle.std.proofs.Common.{◌≡◌, ℕ, Bool, true, false, List, ℤ, None, Some, refl, sym, ap, subst, inl, inr}
+use Rattle.std.specs.Prelude.{if◌then◌else◌}
+use Rattle.msp_encode.specs.declared.instr.Cond.{Cond}
 use Rattle.msp_encode.specs.declared.instr.Instr.{Instr}
 use Rattle.msp_encode.specs.declared.instr.Instr.TheVariants as instr
 use Rattle.code_model.specs.declared.object.Object.{Object}
@@ -9,26 +11,33 @@ use Rattle.load_model.specs.Domains.{Domain}
 use Rattle.insert_model.specs.declared.line.Line.{Line}
 use Rattle.insert_model.specs.Source.{own}
 use Rattle.insert_model.specs.Units.{static_bytes, unit_of, unit}
+use Rattle.insert_model.specs.Groups.{alone}
+use Rattle.insert_model.specs.Layout.{jump_by, line_unit_of, line_unit, is_short, final_offset, final}
 use Rattle.unit_laws.specs.Rows.{Halts}
 use Rattle.placed_unit_laws.specs.Placed.{unit_at, unit_behind}
 use Rattle.placed_unit_laws.specs.Checks.{Check, Unchecked, check_of, check_of_two, check_of_one, check_of_instr, Fails, entry_of, before_check, handed}
-use Rattle.placed_unit_laws.specs.Ends.{EndsBy, UnitEnds, Halted, Done, UnitStands, UnitEndsLaw, UnitStandsLaw}
+use Rattle.placed_unit_laws.specs.Ends.{EndsBy, UnitEnds, Halted, Done, UnitEndsLaw, UnitStandsLaw}
 use Rattle.placed_unit_laws.specs.Given.{RowLaws}
-use Rattle.placed_unit_laws.proofs.Here.{IsHere, here_of, stands_here}
+use Rattle.placed_unit_laws.proofs.Here.{IsAlone, LineStands, here_of, alone_here}
 use Rattle.placed_unit_laws.proofs.Pieces.{Stands}
-use Rattle.placed_unit_laws.proofs.Results.{Row}
+use Rattle.placed_unit_laws.proofs.Results.{Result, Row}
 use Rattle.placed_unit_laws.proofs.TwoUnits.{two-row}
 use Rattle.placed_unit_laws.proofs.Calls.{one-row}
-use Rattle.placed_unit_laws.proofs.Jumps.{jump-row}
+use Rattle.placed_unit_laws.proofs.Jumps.{jump-row, short-row}
 
-module _ (g : RowLaws) (o : Object) (d : Domain) (low top : ℕ) (m r : List ℕ) (l : Line) (a : IsHere o d low top m r l) (st : UnitStands o d m l) where
+module _ (g : RowLaws) (o : Object) (d : Domain) (low top : ℕ) (m r : List ℕ) (l : Line) (a : IsAlone o d low top m r l) (st : LineStands o d m l) where
   abbrev bytes : ℕ
   bytes = static_bytes (fields o)
 
-  -- the words of the line's unit, where its instruction is given
-  stands : (i : Instr) → l.instr ≡ i → Stands o d m (unit_at o d l) (unit_behind o d l) (unit_of bytes l.at (own l) i)
+  -- the pieces of the line's unit, where its instruction is given
+  stands : (i : Instr) → l.instr ≡ i → Stands o d m (unit_at o d l) (unit_behind o d l) (line_unit_of (final (fields o)) bytes l i)
+  unfolding line_unit
+  stands i e = subst (λ (j : Instr). Stands o d m (unit_at o d l) (unit_behind o d l) (line_unit_of (final (fields o)) bytes l j)) e (st.words, st.behind)
+
+  -- a unit of the table
+  table : (i : Instr) → l.instr ≡ i → Stands o d m (unit_at o d l) (unit_behind o d l) (unit bytes l) → Stands o d m (unit_at o d l) (unit_behind o d l) (unit_of bytes l.at (own l) i)
   unfolding unit
-  stands i e = subst (λ (j : Instr). Stands o d m (unit_at o d l) (unit_behind o d l) (unit_of bytes l.at (own l) j)) e (st.words, st.behind)
+  table i e h = subst (λ (j : Instr). Stands o d m (unit_at o d l) (unit_behind o d l) (unit_of bytes l.at (own l) j)) e h
 
   ends : (c : Check) (i : Instr) → check_of o l ≡ c → l.instr ≡ i → Row o d low top m r l c i (handed i) → UnitEnds o d low top m r l
   ends c i e f (inl s) =
@@ -40,17 +49,25 @@ module _ (g : RowLaws) (o : Object) (d : Domain) (low top : ℕ) (m r : List ℕ
   unfolding check_of
   check-is i e = ap (check_of_instr bytes (own l)) e
 
+  -- a jump of one word or of more
+  jumps : (c : Cond) (k : ℤ) → l.instr ≡ instr.Jump c k → (b : Bool) → is_short (fields o) l ≡ b → Stands o d m (unit_at o d l) (unit_behind o d l) (jump_by (final (fields o) l) c (unit bytes l)) → Result o d low top m r l Unchecked r None
+  unfolding final
+  jumps c k e b s h = by b s (subst (λ (x : Bool). Stands o d m (unit_at o d l) (unit_behind o d l) (jump_by (if x then Some (final_offset (fields o) l l.instr) else None) c (unit bytes l))) s h)
+    where
+      by : (b : Bool) → is_short (fields o) l ≡ b → Stands o d m (unit_at o d l) (unit_behind o d l) (jump_by (if b then Some (final_offset (fields o) l l.instr) else None) c (unit bytes l)) → Result o d low top m r l Unchecked r None
+      by true s h = short-row g o d low top m r l a st c k st.clean e s h
+      by false s h = jump-row g o d low top m r l a st c k st.clean e (table (instr.Jump c k) e h)
+
   by-instr : (i : Instr) → l.instr ≡ i → UnitEnds o d low top m r l
   by-instr (instr.Two op w s t) e =
       ends (check_of_two bytes op w s t (own l)) (instr.Two op w s t) (check-is (instr.Two op w s t) e) e
-      (two-row g o d low top m r l a st op w bytes s t (record { clean = st.clean; line = e }) (stands (instr.Two op w s t) e))
+      (two-row g o d low top m r l a st op w bytes s t (record { clean = st.clean; line = e }) (table (instr.Two op w s t) e (stands (instr.Two op w s t) e)))
   by-instr (instr.One op w s) e =
       ends (check_of_one bytes op s (own l)) (instr.One op w s) (check-is (instr.One op w s) e) e
-      (one-row g o d low top m r l a st w bytes op s (record { clean = st.clean; line = e }) (stands (instr.One op w s) e))
+      (one-row g o d low top m r l a st w bytes op s (record { clean = st.clean; line = e }) (table (instr.One op w s) e (stands (instr.One op w s) e)))
   by-instr instr.Reti e = absurd (st.clean.allowed (inl (inl (subst IsReti (sym e) tt))))
-  by-instr (instr.Jump c k) e =
-      ends Unchecked (instr.Jump c k) (check-is (instr.Jump c k) e) e (jump-row g o d low top m r l a st c k st.clean e (stands (instr.Jump c k) e))
+  by-instr (instr.Jump c k) e = ends Unchecked (instr.Jump c k) (check-is (instr.Jump c k) e) e (jumps c k e (is_short (fields o) l) refl (stands (instr.Jump c k) e))
 
 pub unit-ends : RowLaws → UnitStandsLaw → UnitEndsLaw
 unit-ends g stand o q i d low top m r l e at =
-    let here : IsHere o d low top m r l = here_of o q i d low top m r l e at in by-instr g o d low top m r l here (stands_here stand o d low top m r l here) l.instr refl
+    let here : IsAlone o d low top m r l = here_of o q i d low top m r (alone l) e at in by-instr g o d low top m r l here (alone_here stand o d low top m r l here) l.instr refl

@@ -1,6 +1,7 @@
 -- Units of jumps.
-use Rattle.std.proofs.Common.{◌≡◌, ℕ, ◌+◌, ◌*◌, ◌<◌, Bool, true, false, List, [], ◌∷◌, set, ℤ, pos, None, Some, refl, sym, ap, ◌∙◌, subst, inl, inr, arith}
+use Rattle.std.proofs.Common.{◌≡◌, ℕ, ◌+◌, ◌-◌, ◌*◌, ◌<◌, ◌≤◌, nat_lt, Bool, true, false, List, [], ◌∷◌, set, ℤ, pos, negsuc, None, Some, refl, sym, ap, ◌∙◌, subst, inl, inr, arith}
 use Rattle.std.specs.Prelude.{if◌then◌else◌}
+use Rattle.std.proofs.lemmas.Bool.{ltb-true, ltb-false}
 use Rattle.std.proofs.lemmas.Int.{ints}
 use Rattle.std.proofs.lemmas.List.{set-get_or}
 use Rattle.msp_encode.specs.declared.instr.Cond.{Cond}
@@ -12,11 +13,13 @@ use Rattle.machine_model.specs.Does.{Effect, holds, target}
 use Rattle.msp_encode.specs.Spelling.{InstrFits}
 use Rattle.code_model.specs.declared.object.Object.{Object}
 use Rattle.code_model.specs.declared.parts.RelKind.TheVariants.{Code}
+use Rattle.code_model.specs.Fields.{fields}
 use Rattle.load_model.specs.Domains.{Domain}
 use Rattle.insert_model.specs.declared.line.Line.{Line}
 use Rattle.insert_model.specs.Words.{piece_words}
 use Rattle.insert_model.specs.Guards as guard_piece
 use Rattle.insert_model.specs.Units.{target_offset, jump_unit}
+use Rattle.insert_model.specs.Layout.{words_before, span_between, is_short, sized, place_map, final_offset}
 use Rattle.insert_model.specs.Faults.{IsStartOffset, IsJumpStart, JumpsAmiss}
 use Rattle.insert_laws.specs.Shapes.{IsCleanLine}
 use Rattle.unit_laws.specs.Running.{silent, RunsUnit}
@@ -25,12 +28,12 @@ use Rattle.machine_model.specs.Fetching.{IsFetched}
 use Rattle.unit_laws.specs.Rows.{branch, Follows}
 use Rattle.placed_unit_laws.specs.Placed.{unit_address, unit_at, unit_behind, word_in_place, source_does, instr_does}
 use Rattle.placed_unit_laws.specs.Checks.{Unchecked}
-use Rattle.placed_unit_laws.specs.Ends.{Names, Lands, EndsWell, UnitStands}
+use Rattle.placed_unit_laws.specs.Ends.{Names, Lands, EndsWell}
 use Rattle.placed_unit_laws.specs.Given.{RowLaws}
-use Rattle.placed_unit_laws.proofs.Here.{IsHere}
+use Rattle.placed_unit_laws.proofs.Here.{IsAlone, LineStands}
 use Rattle.placed_unit_laws.proofs.Pieces.{Stands, head, end}
 use Rattle.placed_unit_laws.proofs.Targets.{jump-start, jump-offset, jump-goes}
-use Rattle.placed_unit_laws.proofs.Results.{Result, at-first, behind-even, code-word}
+use Rattle.placed_unit_laws.proofs.Results.{Result, at-first, behind-even, address-low, code-word}
 use Rattle.placed_unit_laws.proofs.Landing.{IsGoal, start-goal}
 
 -- an effect is itself with its own R4 and R5
@@ -40,7 +43,16 @@ same-effect e = ap (λ (c : List ℕ). record { context = c; written = e.written
 own-effect : (m r : List ℕ) (first past : ℕ) (e : Effect) → RunsUnit m first past r e → Follows m r first past e
 own-effect m r first past e h = record { x = reg e.context 4; y = reg e.context 5; runs = subst (RunsUnit m first past r) (sym (same-effect e)) h }
 
-module _ (g : RowLaws) (o : Object) (d : Domain) (low top : ℕ) (m r : List ℕ) (l : Line) (a : IsHere o d low top m r l) (st : UnitStands o d m l) (c : Cond) (k : ℤ) (clean : IsCleanLine o l) (line : l.instr ≡ instr.Jump c k) where
+-- the offset from a jump at the word p to the word t leads there
+span-goes : (lo p t : ℕ) → lo + 2 * p < 65536 → lo + 2 * t < 65536 → target (lo + 2 * p) (span_between p t) ≡ lo + 2 * t
+unfolding span_between
+span-goes lo p t a b = by (nat_lt p t) refl
+  where
+    by : (c : Bool) → nat_lt p t ≡ c → target (lo + 2 * p) (if c then pos (t - p - 1) else negsuc (p - t)) ≡ lo + 2 * t
+    by true e = let l : p < t = ltb-true p t e in omega (arith, l, b)
+    by false e = let l : t ≤ p = ltb-false p t e in omega (arith, l, a)
+
+module _ (g : RowLaws) (o : Object) (d : Domain) (low top : ℕ) (m r : List ℕ) (l : Line) (a : IsAlone o d low top m r l) (st : LineStands o d m l) (c : Cond) (k : ℤ) (clean : IsCleanLine o l) (line : l.instr ≡ instr.Jump c k) where
   abbrev first : ℕ
   first = unit_at o d l
 
@@ -127,3 +139,24 @@ module _ (g : RowLaws) (o : Object) (d : Domain) (low top : ℕ) (m r : List ℕ
       by cond.Ge e k = over (subst (λ (z : Cond). Stands o d m first past (guard_piece.jump z (pos 1) ∷ guard_piece.jump cond.Always (pos 2) ∷ guard_piece.branch y (Some Code) ∷ [])) (sym e) k)
       by cond.L e k = over (subst (λ (z : Cond). Stands o d m first past (guard_piece.jump z (pos 1) ∷ guard_piece.jump cond.Always (pos 2) ∷ guard_piece.branch y (Some Code) ∷ [])) (sym e) k)
       by cond.Always e k = alone e k
+
+  -- ---- a jump of one word
+
+  short-goes : target first (final_offset (fields o) l l.instr) ≡ there
+  unfolding unit_address place_map
+  short-goes =
+      let f = fields o in
+      let p = words_before (sized f) f (2 * l.at) in
+      let t = words_before (sized f) f y in
+      ap (λ (i : Instr). target (d.code_lo + 2 * p) (final_offset f l i)) line
+      ∙ (span-goes d.code_lo p t (omega (arith, address-low g o d low top m r l a st (2 * l.at))) (omega (arith, address-low g o d low top m r l a st y))
+      ∙ ap (unit_address o d) (sym goes-there))
+
+  pub short-row : is_short (fields o) l ≡ true → Stands o d m first past (guard_piece.jump c (final_offset (fields o) l l.instr) ∷ []) → Result o d low top m r l Unchecked r None
+  unfolding piece_words
+  short-row s h =
+      let k' = final_offset (fields o) l l.instr in
+      let f = head g.spelling o d m first past (guard_piece.jump c k') [] h (g.short_fits (fields o) l c k line s) below in
+      let z = end o d m (first + 2) past (subst (λ (n : ℕ). Stands o d m n past []) (omega arith) f.1) in
+      let run = g.short_jump m r first past c k' (at-first g o d low top m r l a st) f.0 z in
+      inr ((λ q. q), ends (subst (λ (v : ℕ). RunsUnit m first past r (silent (set_reg r 0 (if holds c (reg r 2) then v else past)))) short-goes run))

@@ -14,9 +14,9 @@ use Rattle.insert_model.specs.Faults.{IsStartOffset, IsSourceJump, IsSourceCall}
 use Rattle.unit_laws.specs.Running.{IsInside}
 use Rattle.unit_laws.specs.Rows.{ended, branch}
 use Rattle.placed_unit_laws.specs.Placed.{word_in_place, unit_address, unit_at, unit_behind}
-use Rattle.placed_unit_laws.specs.Ends.{Names, IsTargetUnit, Lands, UnitStands}
+use Rattle.placed_unit_laws.specs.Ends.{Names, IsTargetUnit, Lands}
 use Rattle.placed_unit_laws.specs.Given.{RowLaws}
-use Rattle.placed_unit_laws.proofs.Here.{IsHere}
+use Rattle.placed_unit_laws.proofs.Here.{IsAlone, LineStands}
 use Rattle.placed_unit_laws.proofs.Targets.{jump-entry, call-entry}
 use Rattle.placed_unit_laws.proofs.Results.{address-even, address-low, code-word}
 use Rattle.kernel_model.specs.declared.entries.TheConstants.{FIRST_ENTRY}
@@ -28,7 +28,7 @@ pub record IsGoal (o : Object) (d : Domain) (l : Line) (v : ℕ) : Type 0 where
   pub lands : Lands o d l v
   pub outside : IsInside (unit_at o d l) (unit_behind o d l) v → ⊥
 
-module _ (g : RowLaws) (o : Object) (d : Domain) (low top : ℕ) (m r : List ℕ) (l : Line) (a : IsHere o d low top m r l) (st : UnitStands o d m l) where
+module _ (g : RowLaws) (o : Object) (d : Domain) (low top : ℕ) (m r : List ℕ) (l : Line) (a : IsAlone o d low top m r l) (st : LineStands o d m l) where
   -- the unit of a start
   pub start-goal : (x : ℕ) → Names l.at l.instr x → IsStartOffset o.code x → IsGoal o d l (unit_address o d x)
   unfolding IsStartOffset IsTargetUnit

@@ -35,9 +35,9 @@ use Rattle.unit_laws.specs.Guarded.{IsCellOperand}
 use Rattle.unit_laws.specs.Rows.{GoesOn, SrcFree, ended, Follows, Hands, IsAtStore, IsIn, IsOut}
 use Rattle.placed_unit_laws.specs.Placed.{unit_at, unit_behind, word_in_place, placed_src, placed_instr, placed, source_does, instr_does}
 use Rattle.placed_unit_laws.specs.Checks.{OfStore, OfGrowth}
-use Rattle.placed_unit_laws.specs.Ends.{EndsWell, UnitStands}
+use Rattle.placed_unit_laws.specs.Ends.{EndsWell}
 use Rattle.placed_unit_laws.specs.Given.{RowLaws}
-use Rattle.placed_unit_laws.proofs.Here.{IsHere}
+use Rattle.placed_unit_laws.proofs.Here.{IsAlone, LineStands}
 use Rattle.placed_unit_laws.proofs.Fetching.{count-place, src-count, few-src, src-fits, own-instr}
 use Rattle.placed_unit_laws.proofs.Pieces.{Stands, cut, head, end, growth-stands, growth-size, store-stands, store-size}
 use Rattle.placed_unit_laws.proofs.Clean.{IsOneLine, src-placed, src-avoids, steps-placed, steps-pops, one-fits, one-source, one-pops-not}
@@ -58,7 +58,7 @@ changes-goes-on Call w s e f = let q : false ≡ true = e in absurd (cc)
 at-r4-fits : (op : Op1) (w : Width) (s : Src) → InstrFits (instr.One op w s) → InstrFits (instr.One op w (src.Indirect 4))
 at-r4-fits op w s f = ((omega arith, ((λ e. omega (arith, e)), (λ e. omega (arith, e)), (λ e. omega (arith, e)))), f.1, tt)
 
-module _ (g : RowLaws) (o : Object) (d : Domain) (low top : ℕ) (m r : List ℕ) (l : Line) (a : IsHere o d low top m r l) (st : UnitStands o d m l) (op : Op1) (w : Width) (s : Src) (is : IsOneLine o l op w s) where
+module _ (g : RowLaws) (o : Object) (d : Domain) (low top : ℕ) (m r : List ℕ) (l : Line) (a : IsAlone o d low top m r l) (st : LineStands o d m l) (op : Op1) (w : Width) (s : Src) (is : IsOneLine o l op w s) where
   abbrev first : ℕ
   first = unit_at o d l
 

@@ -31,9 +31,8 @@ use Rattle.unit_laws.specs.Guards.{WordsAt, pop_words}
 use Rattle.unit_laws.specs.Rows.{GoesOn, DstFree, ended, pop_r4, Follows, Hands}
 use Rattle.placed_unit_laws.specs.Placed.{unit_at, unit_behind, placed_dst, source_does}
 use Rattle.placed_unit_laws.specs.Checks.{OfPop, handed}
-use Rattle.placed_unit_laws.specs.Ends.{UnitStands}
 use Rattle.placed_unit_laws.specs.Given.{RowLaws}
-use Rattle.placed_unit_laws.proofs.Here.{IsHere}
+use Rattle.placed_unit_laws.proofs.Here.{IsAlone, LineStands}
 use Rattle.placed_unit_laws.proofs.Fetching.{count-place, dst-count}
 use Rattle.placed_unit_laws.proofs.Pieces.{Stands, cut, head, end, pop-stands, pop-size}
 use Rattle.placed_unit_laws.proofs.Clean.{IsTwoLine, dst-placed, src-avoids, dst-avoids, two-fits, two-target, reads-no-pc, moves-to-pc}
@@ -104,7 +103,7 @@ pc-moves o l op w s t is h = by op refl
 
 -- ---- rows
 
-module _ (g : RowLaws) (o : Object) (d : Domain) (low top : ℕ) (m r : List ℕ) (l : Line) (a : IsHere o d low top m r l) (st : UnitStands o d m l) (op : Op2) (w : Width) (t : Dst) (is : IsTwoLine o l op w (src.AutoInc 1) t) where
+module _ (g : RowLaws) (o : Object) (d : Domain) (low top : ℕ) (m r : List ℕ) (l : Line) (a : IsAlone o d low top m r l) (st : LineStands o d m l) (op : Op2) (w : Width) (t : Dst) (is : IsTwoLine o l op w (src.AutoInc 1) t) where
   abbrev first : ℕ
   first = unit_at o d l
 

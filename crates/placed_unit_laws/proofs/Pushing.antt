@@ -18,9 +18,10 @@ use Rattle.code_model.specs.declared.parts.RelKind.{RelKind}
 use Rattle.load_model.specs.Domains.{Domain}
 use Rattle.insert_model.specs.declared.line.Line.{Line}
 use Rattle.msp_encode.specs.Spelled.{count}
+use Rattle.insert_model.specs.Groups.{alone}
 use Rattle.placed_unit_laws.specs.Placed.{unit_address, unit_behind, placed_src, source_does}
-use Rattle.placed_unit_laws.specs.Ends.{UnitStands, UnitStandsLaw, PushedLaw}
-use Rattle.placed_unit_laws.proofs.Here.{IsHere, here_of, stands_here}
+use Rattle.placed_unit_laws.specs.Ends.{UnitStandsLaw, PushedLaw}
+use Rattle.placed_unit_laws.proofs.Here.{IsAlone, LineStands, here_of, alone_here}
 
 -- ---- registers
 
@@ -120,10 +121,10 @@ call_size w (src.Immediate x) = omega arith
 call_size w (src.Const c) = omega arith
 
 module _ (stand : UnitStandsLaw) where
-  next_of : (o : Object) (d : Domain) (low top : ℕ) (m r : List ℕ) (l : Line) (w : Width) (s : Src) → l.instr ≡ instr.One Call w s → IsHere o d low top m r l → IsNext o d l
+  next_of : (o : Object) (d : Domain) (low top : ℕ) (m r : List ℕ) (l : Line) (w : Width) (s : Src) → l.instr ≡ instr.One Call w s → IsAlone o d low top m r l → IsNext o d l
   unfolding unit_address
   next_of o d low top m r l w s e here =
-      let u : UnitStands o d m l = stands_here stand o d low top m r l here in
+      let u : LineStands o d m l = alone_here stand o d low top m r l here in
       let few : count l.instr ≤ 2 = subst (λ (i : Instr). count i ≤ 2) (sym e) (call_size w s) in
       record {
         fits = u.clean.fits;
@@ -133,6 +134,6 @@ module _ (stand : UnitStandsLaw) where
   pub pushed_law : PushedLaw
   unfolding Pushes
   pushed_law o q i d low top m r l w s of at e =
-      let here : IsHere o d low top m r l = here_of o q i d low top m r l of at in
+      let here : IsAlone o d low top m r l = here_of o q i d low top m r (alone l) of at in
       let next : IsNext o d (with_instr l (instr.One Call w s)) = subst (λ (i : Instr). IsNext o d (with_instr l i)) e (next_of o d low top m r l w s e here) in
       subst (λ (i : Instr). Pushes (unit_behind o d (with_instr l i)) (source_does o d m r (with_instr l i))) (sym e) (on_call o d m r l w s (omega (arith, at.context.words)) next)

@@ -14,9 +14,9 @@ use Rattle.msp_encode.specs.Spelled.{count}
 use Rattle.unit_laws.specs.Rows.{GoesOn, ended, Follows, Halts, Checked, IsAtFirst, IsIn, IsOut}
 use Rattle.placed_unit_laws.specs.Placed.{word_in_place, unit_address, unit_at, unit_behind, source_does}
 use Rattle.placed_unit_laws.specs.Checks.{Check, Fails, entry_of, before_check}
-use Rattle.placed_unit_laws.specs.Ends.{EndsWell, EndsBy, UnitStands}
+use Rattle.placed_unit_laws.specs.Ends.{EndsWell, EndsBy}
 use Rattle.placed_unit_laws.specs.Given.{RowLaws}
-use Rattle.placed_unit_laws.proofs.Here.{IsHere}
+use Rattle.placed_unit_laws.proofs.Here.{IsAlone, LineStands}
 use Rattle.kernel_model.specs.declared.map.TheConstants.{CODE_POOL, CODE_POOL_END}
 
 -- what the law says of a check, of the registers before it and of an entry that takes over
@@ -55,7 +55,7 @@ of-sp limit top v = elim (cases_lt v limit) [
 
 -- ---- in a unit
 
-module _ (g : RowLaws) (o : Object) (d : Domain) (low top : ℕ) (m r : List ℕ) (l : Line) (a : IsHere o d low top m r l) (st : UnitStands o d m l) where
+module _ (g : RowLaws) (o : Object) (d : Domain) (low top : ℕ) (m r : List ℕ) (l : Line) (a : IsAlone o d low top m r l) (st : LineStands o d m l) where
   pub at-first : IsAtFirst m r (unit_at o d l) (unit_behind o d l)
   at-first = record { memory = a.at.memory; context = a.at.context; pc = a.at.pc; below = omega (arith, st.below) }
 

@@ -19,9 +19,9 @@ use Rattle.insert_model.specs.Words.{piece_words}
 use Rattle.insert_model.specs.Source.{own}
 use Rattle.unit_laws.specs.Rows.{GoesOn, DstFree, SrcFree, ended}
 use Rattle.placed_unit_laws.specs.Placed.{unit_at, unit_behind, placed_src, placed_dst, placed_instr, placed, source_does, instr_does}
-use Rattle.placed_unit_laws.specs.Ends.{EndsWell, UnitStands}
+use Rattle.placed_unit_laws.specs.Ends.{EndsWell}
 use Rattle.placed_unit_laws.specs.Given.{RowLaws}
-use Rattle.placed_unit_laws.proofs.Here.{IsHere}
+use Rattle.placed_unit_laws.proofs.Here.{IsAlone, LineStands}
 use Rattle.placed_unit_laws.proofs.Fetching.{count-place, src-count, dst-count, few-words, own-instr}
 use Rattle.placed_unit_laws.proofs.Pieces.{Stands, head, end}
 use Rattle.placed_unit_laws.proofs.Clean.{IsTwoLine, src-placed, dst-placed, two-fits, two-source}
@@ -30,7 +30,7 @@ use Rattle.placed_unit_laws.proofs.Results.{at-first, leads-behind, goes-behind}
 two-count : (o : Object) (d : Domain) (j k : Option RelKind) (op : Op2) (w : Width) (s : Src) (t : Dst) → count (instr.Two op w (placed_src o d j s) (placed_dst o d k t)) ≡ count (instr.Two op w s t)
 two-count o d j k op w s t = ap (λ (n : ℕ). 1 + n) (length-append (src_words (placed_src o d j s)) (dst_words (placed_dst o d k t)) ∙ (omega (arith, src-count o d j s, dst-count o d k t, length-append (src_words s) (dst_words t))))
 
-module _ (g : RowLaws) (o : Object) (d : Domain) (low top : ℕ) (m r : List ℕ) (l : Line) (a : IsHere o d low top m r l) (st : UnitStands o d m l) (op : Op2) (w : Width) (s : Src) (t : Dst) (is : IsTwoLine o l op w s t) where
+module _ (g : RowLaws) (o : Object) (d : Domain) (low top : ℕ) (m r : List ℕ) (l : Line) (a : IsAlone o d low top m r l) (st : LineStands o d m l) (op : Op2) (w : Width) (s : Src) (t : Dst) (is : IsTwoLine o l op w s t) where
   -- the source's instruction in place
   abbrev pub here : Instr
   here = instr.Two op w (placed_src o d (own l).source s) (placed_dst o d (own l).destination t)

@@ -25,9 +25,9 @@ use Rattle.insert_model.specs.Faults.{IsSourceTarget, GoesAmiss, UsesCheck}
 use Rattle.unit_laws.specs.Rows.{ended, branch, Follows}
 use Rattle.placed_unit_laws.specs.Placed.{unit_at, unit_behind, word_in_place, placed_dst, source_does}
 use Rattle.placed_unit_laws.specs.Checks.{Unchecked, OfPop, handed, check_of_aim, check_of_two}
-use Rattle.placed_unit_laws.specs.Ends.{Names, Lands, EndsWell, UnitStands}
+use Rattle.placed_unit_laws.specs.Ends.{Names, Lands, EndsWell}
 use Rattle.placed_unit_laws.specs.Given.{RowLaws}
-use Rattle.placed_unit_laws.proofs.Here.{IsHere}
+use Rattle.placed_unit_laws.proofs.Here.{IsAlone, LineStands}
 use Rattle.placed_unit_laws.proofs.Pieces.{Stands, end}
 use Rattle.placed_unit_laws.proofs.Clean.{IsTwoLine, two-fits, two-target, reads-no-pc, stores-aright}
 use Rattle.placed_unit_laws.proofs.Targets.{branch-target}
@@ -40,7 +40,7 @@ use Rattle.kernel_model.specs.declared.entries.TheConstants.{GOES}
 
 -- ---- a branch
 
-module _ (g : RowLaws) (o : Object) (d : Domain) (low top : ℕ) (m r : List ℕ) (l : Line) (a : IsHere o d low top m r l) (st : UnitStands o d m l) (op : Op2) (w : Width) (x : ℕ) (t : Dst) (is : IsTwoLine o l op w (src.Immediate x) t) (pc : t ≡ dst.Reg 0) where
+module _ (g : RowLaws) (o : Object) (d : Domain) (low top : ℕ) (m r : List ℕ) (l : Line) (a : IsAlone o d low top m r l) (st : LineStands o d m l) (op : Op2) (w : Width) (x : ℕ) (t : Dst) (is : IsTwoLine o l op w (src.Immediate x) t) (pc : t ≡ dst.Reg 0) where
   to-pc : DstIs t 0
   to-pc = subst (λ (y : Dst). DstIs y 0) (sym pc) refl
 
@@ -98,7 +98,7 @@ same-writes And = refl
 
 -- ---- by the destination
 
-module _ (g : RowLaws) (o : Object) (d : Domain) (low top : ℕ) (m r : List ℕ) (l : Line) (a : IsHere o d low top m r l) (st : UnitStands o d m l) (op : Op2) (w : Width) where
+module _ (g : RowLaws) (o : Object) (d : Domain) (low top : ℕ) (m r : List ℕ) (l : Line) (a : IsAlone o d low top m r l) (st : LineStands o d m l) (op : Op2) (w : Width) where
   -- PC
   pc-row : (s : Src) (t : Dst) → IsTwoLine o l op w s t → t ≡ dst.Reg 0 → Stands o d m (unit_at o d l) (unit_behind o d l) (writing op w s (own l) ToPc) → Result o d low top m r l Unchecked r (if not (is_immediate s) then Some (GOES, s) else None)
   pc-row (src.Immediate x) t is e h = inr ((λ q. q), branch-row g o d low top m r l a st op w x t is e h)

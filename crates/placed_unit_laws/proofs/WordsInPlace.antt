@@ -1,22 +1,29 @@
 -- The words of each unit stand in memory, one behind another.
-use Rattle.std.proofs.Common.{◌≡◌, ℕ, ◌+◌, ◌*◌, ◌%◌, ◌<◌, List, [], ◌∷◌, ◌++◌, inl, inr, length, map, slice_index, Option, None, Some, refl, sym, ap, ◌∙◌, arith}
+use Rattle.std.proofs.Common.{◌≡◌, ℕ, ◌+◌, ◌*◌, ◌%◌, ◌<◌, List, [], ◌∷◌, ◌++◌, inl, inr, length, map, slice_index, Option, None, Some, refl, sym, subst, ap, ◌∙◌, arith}
+use Rattle.std.specs.List.{All, AllByRecursion, Contains, flat_map}
+use Rattle.std.proofs.lemmas.List.Elements.{All-weaker, All-contains, All-contains_itself, All-from_recursion, recursion_from_All}
 use Rattle.std.proofs.lemmas.List.{append_assoc, length-append, length-map, map-append, get_or_at}
 use Rattle.machine_model.specs.Memory.{word_at}
 use Rattle.code_model.specs.declared.object.Object.{Object}
 use Rattle.code_model.specs.declared.parts.RelKind.{RelKind}
-use Rattle.code_model.specs.Fields.{fields}
+use Rattle.code_model.specs.Fields.{Fields, fields}
 use Rattle.load_model.specs.Domains.{Domain, addend}
 use Rattle.load_model.specs.Standing.{CodeStands, CodeImageLaw}
 use Rattle.insert_model.specs.declared.line.Line.{Line}
 use Rattle.insert_model.specs.declared.piece.Word.{Word}
 use Rattle.insert_model.specs.Words.{unit_words}
-use Rattle.insert_model.specs.Inserted.{moved_value, moved, place_map}
+use Rattle.insert_model.specs.Source.{lines}
+use Rattle.insert_model.specs.Groups.{Group, members, groups}
+use Rattle.insert_model.specs.Laws.{GroupsStand, GroupsLaw}
+use Rattle.insert_model.specs.Inserted.{moved_value, moved}
+use Rattle.insert_model.specs.Layout.{place_map}
 use Rattle.insert_laws.specs.Pieces.{pieces}
 use Rattle.insert_laws.specs.Laws.{kind_in, RelocsStand, RelocsArePieces}
-use Rattle.insert_laws.specs.Lines.{line_words, UnitLies, LinesAreClean, CodeIsPieces, LinesHaveUnits}
+use Rattle.insert_laws.specs.Lines.{group_words, UnitLies, LinesAreClean, CodeIsPieces, GroupsHaveUnits}
+use Rattle.insert_laws.specs.Shapes.{IsCleanLine}
 use Rattle.unit_laws.specs.Guards.{WordsAt}
 use Rattle.placed_unit_laws.specs.Placed.{unit_address, unit_at, unit_behind, word_in_place, placed_word}
-use Rattle.placed_unit_laws.specs.Ends.{UnitStands, UnitStandsLaw}
+use Rattle.placed_unit_laws.specs.Ends.{UnitStands, UnitStandsLaw, group_behind}
 use Rattle.placed_unit_laws.proofs.Here.{IsHere, here_of}
 
 kind_here : (xs : List Word) (w : Word) (ys : List Word) → kind_in (xs ++ w ∷ ys) (length xs) ≡ w.kind
@@ -63,19 +70,33 @@ module _ (o : Object) (d : Domain) (m : List ℕ) (ws : List Word) (is : IsCodeO
 
 -- ---- a unit in memory
 
-module _ (clean : LinesAreClean) (have : LinesHaveUnits) (code : CodeIsPieces) (relocs : RelocsArePieces) (image : CodeImageLaw) where
-  stands_at : (o : Object) (d : Domain) (low top : ℕ) (m r : List ℕ) (l : Line) → IsHere o d low top m r l → UnitLies o l → UnitStands o d m l
+-- what holds of all lines of the source holds of the lines of each group
+all_parts : (P : Line → Type 0) (xs ys : List Line) → AllByRecursion P (xs ++ ys) → AllByRecursion P xs × AllByRecursion P ys
+all_parts P [] ys h = (tt, h)
+all_parts P (x ∷ xs) ys h = let r = all_parts P xs ys h.1 in ((h.0, r.0), r.1)
+
+by_groups : (P : Line → Type 0) (gs : List Group) → AllByRecursion P (flat_map members gs) → AllByRecursion (λ (g : Group). All P (members g)) gs
+by_groups P [] h = tt
+by_groups P (g ∷ gs) h = let r = all_parts P (members g) (flat_map members gs) h in (All-from_recursion P (members g) r.0, by_groups P gs r.1)
+
+all_members : (f : Fields) (P : Line → Type 0) → GroupsStand f → ((l : Line) → Contains (lines f) l → P l) → (g : Group) → Contains (groups f) g → All P (members g)
+all_members f P s h g c =
+    let all : All P (lines f) = All-weaker (Contains (lines f)) P h (lines f) (All-contains_itself (lines f)) in
+    All-contains (λ (x : Group). All P (members x)) (groups f) g (All-from_recursion (λ (x : Group). All P (members x)) (groups f) (by_groups P (groups f) (recursion_from_All P (flat_map members (groups f)) (subst (All P) (sym s.are) all)))) c
+
+module _ (groups_law : GroupsLaw) (clean : LinesAreClean) (have : GroupsHaveUnits) (code : CodeIsPieces) (relocs : RelocsArePieces) (image : CodeImageLaw) where
+  stands_at : (o : Object) (d : Domain) (low top : ℕ) (m r : List ℕ) (g : Group) → IsHere o d low top m r g → UnitLies o g → UnitStands o d m g
   unfolding unit_address
-  stands_at o d low top m r l here u =
+  stands_at o d low top m r g here u =
       let is : IsCodeOf o d.object (unit_words (pieces (fields o))) = record { code = code o d.object here.inserted; are = refl; relocs = relocs o d.object here.inserted } in
       let placed : CodeStands d m = image d m here.at.placed.code_even here.at.code in
-      let all : length d.object.code ≡ length u.front + (length (line_words o l) + length u.back) =
-      code_length o d m (unit_words (pieces (fields o))) is placed ∙ ap length u.are ∙ length-append u.front (line_words o l ++ u.back) ∙ ap (λ (n : ℕ). length u.front + n) (length-append (line_words o l) u.back) in
-      let first : unit_at o d l ≡ d.code_lo + 2 * length u.front = ap (λ (x : ℕ). d.code_lo + x) u.first in
-      let behind : unit_behind o d l ≡ d.code_lo + 2 * (length u.front + length (line_words o l)) = ap (λ (x : ℕ). d.code_lo + x) u.behind in
+      let all : length d.object.code ≡ length u.front + (length (group_words o g) + length u.back) =
+      code_length o d m (unit_words (pieces (fields o))) is placed ∙ ap length u.are ∙ length-append u.front (group_words o g ++ u.back) ∙ ap (λ (n : ℕ). length u.front + n) (length-append (group_words o g) u.back) in
+      let first : unit_at o d g.head ≡ d.code_lo + 2 * length u.front = ap (λ (x : ℕ). d.code_lo + x) u.first in
+      let behind : group_behind o d g ≡ d.code_lo + 2 * (length u.front + length (group_words o g)) = ap (λ (x : ℕ). d.code_lo + x) u.behind in
       record {
-        clean = clean o d.object here.inserted l here.at.line;
-        words = words_stand o d m (unit_words (pieces (fields o))) is placed u.front (line_words o l) u.back (unit_at o d l) 0 u.are (omega (arith, first));
+        clean = all_members (fields o) (IsCleanLine o) (groups_law (fields o)) (clean o d.object here.inserted) g here.at.group;
+        words = words_stand o d m (unit_words (pieces (fields o))) is placed u.front (group_words o g) u.back (unit_at o d g.head) 0 u.are (omega (arith, first));
         behind = omega (arith, first, behind);
         even = omega (arith, first, here.at.placed.code_even);
         below = omega (arith, behind, all, here.at.placed.code_high);
@@ -83,5 +104,5 @@ module _ (clean : LinesAreClean) (have : LinesHaveUnits) (code : CodeIsPieces) (
       }
 
   pub unit_law : UnitStandsLaw
-  unit_law o q i d low top m r l e at =
-      let here : IsHere o d low top m r l = here_of o q i d low top m r l e at in stands_at o d low top m r l here (have o d.object here.inserted l at.line)
+  unit_law o q i d low top m r g e at =
+      let here : IsHere o d low top m r g = here_of o q i d low top m r g e at in stands_at o d low top m r g here (have o d.object here.inserted g at.group)

@@ -36,9 +36,8 @@ use Rattle.unit_laws.specs.Guarded.{IsCell, Steps}
 use Rattle.unit_laws.specs.Rows.{GoesOn, DstFree, ended, Follows, Hands, IsAtStore, IsIn, IsOut, IsWithin, IsBeyond, new_sp}
 use Rattle.placed_unit_laws.specs.Placed.{unit_at, unit_behind, word_in_place, placed_src, placed_dst, source_does}
 use Rattle.placed_unit_laws.specs.Checks.{Unchecked, OfStore, OfSp}
-use Rattle.placed_unit_laws.specs.Ends.{UnitStands}
 use Rattle.placed_unit_laws.specs.Given.{RowLaws}
-use Rattle.placed_unit_laws.proofs.Here.{IsHere}
+use Rattle.placed_unit_laws.proofs.Here.{IsAlone, LineStands}
 use Rattle.placed_unit_laws.proofs.Fetching.{count-place, src-count, src-fits}
 use Rattle.placed_unit_laws.proofs.Pieces.{Stands, cut, head, end, sp-stands, sp-size, store-stands, store-size}
 use Rattle.placed_unit_laws.proofs.Clean.{IsTwoLine, dst-placed, steps-placed, steps-pops, two-fits}
@@ -117,7 +116,7 @@ word-small m at h = omega (arith, h.small (at / 2 * 2), h.small (at / 2 * 2 + 1)
 
 -- ---- a store
 
-module _ (g : RowLaws) (o : Object) (d : Domain) (low top : ℕ) (m r : List ℕ) (l : Line) (a : IsHere o d low top m r l) (st : UnitStands o d m l) (op : Op2) (w : Width) (s : Src) (t : Dst) (is : IsTwoLine o l op w s t) where
+module _ (g : RowLaws) (o : Object) (d : Domain) (low top : ℕ) (m r : List ℕ) (l : Line) (a : IsAlone o d low top m r l) (st : LineStands o d m l) (op : Op2) (w : Width) (s : Src) (t : Dst) (is : IsTwoLine o l op w s t) where
   abbrev first : ℕ
   first = unit_at o d l
 

@@ -36,6 +36,7 @@ use Rattle.unit_laws.specs.Rows.{Follows, Hands, Halts, SameButPc}
 use Rattle.placed_unit_laws.specs.Placed.{unit_address, unit_at, unit_behind, placed_word, placed_src, placed, source_does, source_after}
 use Rattle.placed_unit_laws.specs.Checks.{check_of, Fails, entry_of, before_check, handed}
 use Rattle.kernel_model.specs.declared.map.TheConstants.{CODE_POOL_END, STACK_LIMIT, STACK_TOP}
+use Rattle.kernel_model.specs.declared.entries.TheConstants.{STORE_FAULT}
 
 -- A domain's object, made from o, was placed, its code's bytes are in memory with the two limit words of a stack [low, top), and PC is at
 -- the unit of a group of source instructions. Each context that is good for the domain is a context.

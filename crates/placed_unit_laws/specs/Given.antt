@@ -1,6 +1,8 @@
 -- The laws that the unit law rests on.
-use Rattle.unit_laws.specs.Rows.{GoesOnLaw, GoesToLaw, PcMovesLaw, OwnUnitLaw, BranchUnitLaw, JumpUnitLaw, ComputedUnitLaw, StoreUnitLaw, ChangeUnitLaw, GrowthUnitLaw, CalleeUnitLaw, PopUnitLaw, PopIntoUnitLaw, ReturnUnitLaw, SetSpUnitLaw}
+use Rattle.unit_laws.specs.Rows.{GoesOnLaw, GoesToLaw, PcMovesLaw, OwnUnitLaw, BranchUnitLaw, JumpUnitLaw, ShortJumpUnitLaw, ComputedUnitLaw, StoreUnitLaw, ChangeUnitLaw, GrowthUnitLaw, CalleeUnitLaw, PopUnitLaw, PopIntoUnitLaw, ReturnUnitLaw, SetSpUnitLaw}
+use Rattle.unit_laws.specs.Groups.{GroupUnitLaw}
 use Rattle.msp_encode.specs.Laws.{SpellingLaw}
+use Rattle.insert_model.specs.Laws.{ShortLaw}
 use Rattle.insert_laws.specs.Source.{StartsDecided}
 use Rattle.insert_laws.specs.Lines.{PlacesWithin}
 
@@ -12,6 +14,7 @@ pub record RowLaws : Type 0 where
   pub own : OwnUnitLaw
   pub branch : BranchUnitLaw
   pub jump : JumpUnitLaw
+  pub short_jump : ShortJumpUnitLaw
   pub computed : ComputedUnitLaw
   pub store : StoreUnitLaw
   pub change : ChangeUnitLaw
@@ -21,6 +24,8 @@ pub record RowLaws : Type 0 where
   pub pop_into : PopIntoUnitLaw
   pub returns : ReturnUnitLaw
   pub set_sp : SetSpUnitLaw
+  pub group : GroupUnitLaw
   pub spelling : SpellingLaw
+  pub short_fits : ShortLaw
   pub decided : StartsDecided
   pub places : PlacesWithin

@@ -13,12 +13,14 @@ use insert_laws::{
     code_is_pieces, groups_have_units, lines_are_clean, places_within, relocs_are_pieces,
     starts_decided,
 };
+use insert_model::laws::{groups_stand, short_jumps_fit};
 use load_model::code_image_stands;
 use msp_encode::laws::spelling_spells;
 use unit_laws::{
     branch_unit_ends, callee_unit_ends, change_unit_ends, computed_unit_ends, goes_on, goes_to,
-    growth_unit_ends, jump_unit_ends, own_unit_ends, pc_moves, place_hidden, pop_into_unit_ends,
-    pop_unit_ends, return_unit_ends, set_sp_unit_ends, store_unit_ends,
+    group_unit_ends, growth_unit_ends, jump_unit_ends, own_unit_ends, pc_moves, place_hidden,
+    pop_into_unit_ends, pop_unit_ends, return_unit_ends, set_sp_unit_ends, short_jump_unit_ends,
+    store_unit_ends,
 };
 
 /// The rows of the unit table over numbers, and what is known of spelled instructions and of starts.
@@ -31,6 +33,7 @@ fn row_laws()
     own_unit_ends();
     branch_unit_ends();
     jump_unit_ends();
+    short_jump_unit_ends();
     computed_unit_ends();
     store_unit_ends();
     change_unit_ends();
@@ -40,7 +43,9 @@ fn row_laws()
     pop_into_unit_ends();
     return_unit_ends();
     set_sp_unit_ends();
+    group_unit_ends();
     spelling_spells();
+    short_jumps_fit();
     starts_decided();
     places_within();
 }
@@ -50,6 +55,7 @@ fn row_laws()
 pub fn unit_stands()
     ensures { UnitStandsLaw }
 {
+    groups_stand();
     lines_are_clean();
     groups_have_units();
     code_is_pieces();
