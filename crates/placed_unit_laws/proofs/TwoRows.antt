@@ -30,6 +30,21 @@ use Rattle.placed_unit_laws.proofs.Results.{at-first, leads-behind, goes-behind}
 two-count : (o : Object) (d : Domain) (j k : Option RelKind) (op : Op2) (w : Width) (s : Src) (t : Dst) → count (instr.Two op w (placed_src o d j s) (placed_dst o d k t)) ≡ count (instr.Two op w s t)
 two-count o d j k op w s t = ap (λ (n : ℕ). 1 + n) (length-append (src_words (placed_src o d j s)) (dst_words (placed_dst o d k t)) ∙ (omega (arith, src-count o d j s, dst-count o d k t, length-append (src_words s) (dst_words t))))
 
+own-two : (l : Line) (op : Op2) (w : Width) (s : Src) (t : Dst) → l.instr ≡ instr.Two op w s t → (own l).instr ≡ instr.Two op w s t
+own-two l op w s t e = own-instr l.instr l.second l.third ∙ e
+
+two-placed : (o : Object) (d : Domain) (l : Line) (op : Op2) (w : Width) (s : Src) (t : Dst) → l.instr ≡ instr.Two op w s t
+    → placed o d (own l) ≡ instr.Two op w (placed_src o d (own l).source s) (placed_dst o d (own l).destination t)
+two-placed o d l op w s t e = ap (placed_instr o d (own l).source (own l).destination) (own-two l op w s t e)
+
+-- the source's instruction in place, where the next unit is
+pub two-does : (o : Object) (d : Domain) (m r : List ℕ) (l : Line) (op : Op2) (w : Width) (s : Src) (t : Dst) → l.instr ≡ instr.Two op w s t
+    → source_does o d m r l ≡ ended (unit_behind o d l) m r (instr.Two op w (placed_src o d (own l).source s) (placed_dst o d (own l).destination t)) (count (instr.Two op w s t))
+unfolding source_does
+two-does o d m r l op w s t e =
+    ap (instr_does o d m r l) e ∙ (ap (λ (i : Instr). ended (unit_behind o d l) m r i (count l.instr)) (two-placed o d l op w s t e)
+    ∙ ap (λ (i : Instr). ended (unit_behind o d l) m r (instr.Two op w (placed_src o d (own l).source s) (placed_dst o d (own l).destination t)) (count i)) e)
+
 module _ (g : RowLaws) (o : Object) (d : Domain) (low top : ℕ) (m r : List ℕ) (l : Line) (a : IsAlone o d low top m r l) (st : LineStands o d m l) (op : Op2) (w : Width) (s : Src) (t : Dst) (is : IsTwoLine o l op w s t) where
   -- the source's instruction in place
   abbrev pub here : Instr
@@ -38,15 +53,14 @@ module _ (g : RowLaws) (o : Object) (d : Domain) (low top : ℕ) (m r : List ℕ
   abbrev pub size : ℕ
   size = count (instr.Two op w s t)
 
-  pub own-is : (own l).instr ≡ instr.Two op w s t
-  own-is = own-instr l.instr l.second l.third ∙ is.line
+  own-is : (own l).instr ≡ instr.Two op w s t
+  own-is = own-two l op w s t is.line
 
   own-placed : placed o d (own l) ≡ here
-  own-placed = ap (placed_instr o d (own l).source (own l).destination) own-is
+  own-placed = two-placed o d l op w s t is.line
 
   pub source-is : source_does o d m r l ≡ ended (unit_behind o d l) m r here size
-  unfolding source_does
-  source-is = ap (instr_does o d m r l) is.line ∙ (ap (λ (i : Instr). ended (unit_behind o d l) m r i (count l.instr)) own-placed ∙ ap (λ (i : Instr). ended (unit_behind o d l) m r here (count i)) is.line)
+  source-is = two-does o d m r l op w s t is.line
 
   pub free-source : SrcFree (placed_src o d (own l).source s)
   free-source = src-placed o d (own l).source s (two-source o l op w s t is)
