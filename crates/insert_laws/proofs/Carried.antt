@@ -163,7 +163,7 @@ module _ (o : Object) (l : Line) (clean : IsCleanLine o l) where
       (λ r e n never. word_one (instr.Two op w s d) line r (sym b.last ∙ e) (omega (arith, after, b.none, n)) (λ c. elim c [ inl x ↦ b.never r x.1 | inr x ↦ never x.1 ])),
     )
 
-  two_own : (op : Op2) (w : Width) (s : Src) (d : Dst) → l.instr ≡ instr.Two op w s d → MayInstr (instr.Two op w s d) (own l).source (own l).destination
+  pub two_own : (op : Op2) (w : Width) (s : Src) (d : Dst) → l.instr ≡ instr.Two op w s d → MayInstr (instr.Two op w s d) (own l).source (own l).destination
   two_own op w s d e =
       let h : MayInstr (instr.Two op w s d) (own_piece (instr.Two op w s d) l.second l.third).source (own_piece (instr.Two op w s d) l.second l.third).destination = cut_may op w s d e (own_cut op w s d l.second l.third) in
       subst (λ (i : Instr). MayInstr (instr.Two op w s d) (own_piece i l.second l.third).source (own_piece i l.second l.third).destination) (sym e) h

@@ -35,12 +35,13 @@ use Rattle.insert_laws.proofs.CleanGroups.{IsCleanGroup, AllGroups}
 -- ---- stores
 
 -- an instruction stores at a cell
-record StoresAt (i : Instr) (k : Option RelKind) (e : Cell) : Type 0 where
-  op : Op2
-  width : Width
-  source : Src
-  is : i ≡ instr.Two op width source (dst.Indexed e.base e.index)
-  does : writes op ≡ true
+pub record StoresAt (i : Instr) (k : Option RelKind) (e : Cell) : Type 0 where
+  pub op : Op2
+  pub width : Width
+  pub source : Src
+  pub is : i ≡ instr.Two op width source (dst.Indexed e.base e.index)
+  pub does : writes op ≡ true
+  pub kind : k ≡ e.kind
 
 some_cell : (a b : Cell) → Some a ≡ Some b → a ≡ b
 some_cell a b e = cc
@@ -53,13 +54,14 @@ made n x k = record { base = n; index = x; kind = k }
 
 stores_by : (b : Bool) (op : Op2) (w : Width) (s : Src) (d : Dst) (k : Option RelKind) (e : Cell) → writes op ≡ b → cell_by b d k ≡ Some e → StoresAt (instr.Two op w s d) k e
 stores_by true op w s (dst.Indexed n x) k e t h =
-    record { op = op; width = w; source = s; is = ap (λ (y : Cell). instr.Two op w s (dst.Indexed y.base y.index)) (some_cell (made n x k) e h); does = t }
+    let same : made n x k ≡ e = some_cell (made n x k) e h in
+    record { op = op; width = w; source = s; is = ap (λ (y : Cell). instr.Two op w s (dst.Indexed y.base y.index)) same; does = t; kind = ap (λ (y : Cell). y.kind) same }
 stores_by true op w s (dst.Reg n) k e t h = absurd (no_cell e h)
 stores_by true op w s (dst.Symbolic x) k e t h = absurd (no_cell e h)
 stores_by true op w s (dst.Absolute x) k e t h = absurd (no_cell e h)
 stores_by false op w s d k e t h = absurd (no_cell e h)
 
-stores_of : (i : Instr) (k : Option RelKind) (e : Cell) → cell_of i k ≡ Some e → StoresAt i k e
+pub stores_of : (i : Instr) (k : Option RelKind) (e : Cell) → cell_of i k ≡ Some e → StoresAt i k e
 stores_of (instr.Two op w s d) k e h = stores_by (writes op) op w s d k e refl h
 stores_of (instr.One op w s) k e h = absurd (no_cell e h)
 stores_of instr.Reti k e h = absurd (no_cell e h)
@@ -67,7 +69,7 @@ stores_of (instr.Jump c n) k e h = absurd (no_cell e h)
 
 -- ---- differences
 
-abbrev IsReached : ℕ → Type 0
+abbrev pub IsReached : ℕ → Type 0
 IsReached d = (d % 2 ≡ 0) × (d ≤ 6)
 
 no_number : (d : ℕ) → None ≡ Some d → ⊥
@@ -77,25 +79,26 @@ reached_so : (d : ℕ) → is_reached d ≡ true → IsReached d
 reached_so d e = let both = and_parts _ _ e in (eqb-true (d % 2) 0 both.1, leb-true d 6 both.0)
 
 -- what joins a run that begins with a cell
-record Joined (c : Cell) (l : Line) : Type 0 where
-  at : Cell
-  cell_is : cell l ≡ Some at
-  reached : IsReached (difference_of c (cell l))
+pub record Joined (c : Cell) (l : Line) : Type 0 where
+  pub at : Cell
+  pub cell_is : cell l ≡ Some at
+  pub near : is_near_cell c at ≡ true
+  pub reached : IsReached (difference_of c (cell l))
 
-of_near : (c : Cell) (e : Option Cell) (d : ℕ) → if_near c e ≡ Some d → (a : Cell) × ((e ≡ Some a) × IsReached (difference_of c e))
+of_near : (c : Cell) (e : Option Cell) (d : ℕ) → if_near c e ≡ Some d → (a : Cell) × ((e ≡ Some a) × ((is_near_cell c a ≡ true) × IsReached (difference_of c e)))
 of_near c None d h = absurd (no_number d h)
 of_near c (Some e) d h = by (is_near_cell c e) refl h
   where
-    by : (b : Bool) → is_near_cell c e ≡ b → (if b then Some (difference c.index e.index) else None) ≡ Some d → (a : Cell) × ((Some e ≡ Some a) × IsReached (difference c.index e.index))
-    by true t g = (e, (refl, reached_so (difference c.index e.index) (and_parts _ _ (and_parts _ _ t).1).1))
+    by : (b : Bool) → is_near_cell c e ≡ b → (if b then Some (difference c.index e.index) else None) ≡ Some d → (a : Cell) × ((Some e ≡ Some a) × ((is_near_cell c a ≡ true) × IsReached (difference c.index e.index)))
+    by true t g = (e, (refl, (t, reached_so (difference c.index e.index) (and_parts _ _ (and_parts _ _ t).1).1)))
     by false t g = absurd (no_number d g)
 
-joined : (f : Fields) (c : Cell) (l : Line) → Joins f c l → Joined c l
+pub joined : (f : Fields) (c : Cell) (l : Line) → Joins f c l → Joined c l
 joined f c l (d, h) = by (is_target f (2 * l.at)) h
   where
     by : (b : Bool) → (if b then None else if_near c (cell l)) ≡ Some d → Joined c l
     by true g = absurd (no_number d g)
-    by false g = let n = of_near c (cell l) d g in record { at = n.0; cell_is = n.1.0; reached = n.1.1 }
+    by false g = let n = of_near c (cell l) d g in record { at = n.0; cell_is = n.1.0; near = n.1.1.0; reached = n.1.1.1 }
 
 -- ---- the stores of a wide unit
 
@@ -131,11 +134,11 @@ AllBeside o most c ls = AllByRecursion (IsBeside o most c) ls
 
 -- ---- how far a group reaches
 
-abbrev differences : Cell → List Line → List ℕ
+abbrev pub differences : Cell → List Line → List ℕ
 differences c ls = map (λ (l : Line). difference_of c (cell l)) ls
 
 -- of several numbers the greatest is one that is reached, if each is
-greatest_reached : (ds : List ℕ) → AllByRecursion IsReached ds → IsReached (greatest ds)
+pub greatest_reached : (ds : List ℕ) → AllByRecursion IsReached ds → IsReached (greatest ds)
 unfolding greatest
 greatest_reached [] h = (refl, omega arith)
 greatest_reached (d ∷ ds) h = let r : IsReached (greatest ds) = greatest_reached ds h.1 in (omega (arith, r.0, h.0.0), omega (arith, r.1, h.0.1))
@@ -144,11 +147,11 @@ first_least : (d : ℕ) (ds : List ℕ) → d ≤ greatest (d ∷ ds)
 unfolding greatest
 first_least d ds = omega arith
 
-rest_least : (d : ℕ) (ds : List ℕ) → greatest ds ≤ greatest (d ∷ ds)
+pub rest_least : (d : ℕ) (ds : List ℕ) → greatest ds ≤ greatest (d ∷ ds)
 unfolding greatest
 rest_least d ds = omega arith
 
-reach_is : (d : ℕ) → IsReached d → d ≢ 0 → reach_bytes (reach_of d) ≡ d
+pub reach_is : (d : ℕ) → IsReached d → d ≢ 0 → reach_bytes (reach_of d) ≡ d
 reach_is d h some = by (nat_eq d 2) (nat_eq d 4) refl refl
   where
     by : (a b : Bool) → nat_eq d 2 ≡ a → nat_eq d 4 ≡ b → reach_bytes (if a then reach.Two else (if b then reach.Four else reach.Six)) ≡ d
@@ -171,10 +174,10 @@ pub record IsWideUnit (o : Object) (g : Group) : Type 0 where
   pub version : 2 ≤ o.version
 
 -- the cell's own difference is none
-no_difference : (c : Cell) (e : Option Cell) → e ≡ Some c → c.index < 65536 → difference_of c e ≡ 0
+pub no_difference : (c : Cell) (e : Option Cell) → e ≡ Some c → c.index < 65536 → difference_of c e ≡ 0
 no_difference c e s small = let h : difference c.index c.index ≡ 0 = omega (arith, small) in subst (λ (x : Option Cell). difference_of c x ≡ 0) (sym s) h
 
-all_joined : (f : Fields) (c : Cell) (ls : List Line) → AllByRecursion (Joins f c) ls → AllByRecursion IsReached (differences c ls)
+pub all_joined : (f : Fields) (c : Cell) (ls : List Line) → AllByRecursion (Joins f c) ls → AllByRecursion IsReached (differences c ls)
 all_joined f c [] h = tt
 all_joined f c (l ∷ ls) h = (let j : Joined c l = joined f c l h.0 in j.reached, all_joined f c ls h.1)
 
@@ -187,16 +190,16 @@ module _ (o : Object) (c : Cell) (most : ℕ) where
         rest_beside ls clean.1 h.1 (omega (arith, top, rest_least (difference_of c (cell l)) (differences c ls))),
       )
 
-run_unit : (o : Object) (l k : Line) (ks : List Line) (c : Cell) → cell l ≡ Some c → unit_of_group (fields o) (record { head = l; rest = k ∷ ks }) ≡ wide_unit c (l ∷ k ∷ ks)
+pub run_unit : (o : Object) (l k : Line) (ks : List Line) (c : Cell) → cell l ≡ Some c → unit_of_group (fields o) (record { head = l; rest = k ∷ ks }) ≡ wide_unit c (l ∷ k ∷ ks)
 unfolding unit_of_group unit_in
 run_unit o l k ks c s = ap (λ (x : Option Cell). wide_unit_of x (l ∷ k ∷ ks)) s
 
-wide_is : (c : Cell) (ls : List Line) → wide_unit c ls ≡ wide_guard (reach_from c ls) c.base c.index c.kind ++ map (beside c) ls
+pub wide_is : (c : Cell) (ls : List Line) → wide_unit c ls ≡ wide_guard (reach_from c ls) c.base c.index c.kind ++ map (beside c) ls
 unfolding wide_unit
 wide_is c ls = refl
 
 -- a store's operand is as its line's
-stored_read : (l : Line) (c : Cell) → InstrFits l.instr → HasSmallIndex l.instr → cell l ≡ Some c → DstFits (dst.Indexed c.base c.index) × (c.index < 65536)
+pub stored_read : (l : Line) (c : Cell) → InstrFits l.instr → HasSmallIndex l.instr → cell l ≡ Some c → DstFits (dst.Indexed c.base c.index) × (c.index < 65536)
 stored_read l c fits small s =
     let t : StoresAt l.instr (own l).destination c = stores_of l.instr (own l).destination c s in
     let f : InstrFits (instr.Two t.op t.width t.source (dst.Indexed c.base c.index)) = subst InstrFits t.is fits in

@@ -17,6 +17,7 @@ pub mod WordKinds
 pub mod Tame
 pub mod Static
 pub mod Carried
+pub mod StoreGroups
 pub mod Aimed
 pub mod FormRules
 pub mod SourceLines

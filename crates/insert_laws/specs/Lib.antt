@@ -3,3 +3,4 @@ pub mod Laws
 pub mod Shapes
 pub mod Source
 pub mod Lines
+pub mod Stores

@@ -3,6 +3,7 @@
 
 ghost use Rattle.insert_laws.specs.Laws.{StartsArePieces, RelocsArePieces, FormRulesPass, StartsAreUnits, EntryRulePasses, TargetRulePasses, EndRulePasses, JumpRulePasses, NothingRefused, VerdictAccepts, InsertedIsAccepted, NoLoadGuards};
 ghost use Rattle.insert_laws.specs.Source.{StartsDecided};
+ghost use Rattle.insert_laws.specs.Stores.{GroupsStore};
 ghost use Rattle.insert_laws.specs.Lines.{CodeIsPieces, LinesAreClean, LinesAreSpelled, GroupsHaveUnits, PlacesWithin};
 
 use code_laws::{guards_apart, next_start, one_stands, starts_apart};
@@ -210,4 +211,16 @@ pub fn places_within()
 {
     code_is_pieces();
     sizes_alike();
+}
+
+/// Each group of several source instructions stores behind one base register. Its unit is a guard that reaches from the cell of the first
+/// to the farthest, and then the stores.
+pub fn groups_store()
+    ensures { GroupsStore }
+{
+    one_stands();
+    reading_law();
+    legal_by_cases();
+    groups_stand();
+    short_jumps_fit();
 }
