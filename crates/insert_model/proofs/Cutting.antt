@@ -1,14 +1,14 @@
 -- The groups are the lines, cut.
-use Rattle.std.proofs.Common.{◌≡◌, ℕ, zero, suc, ◌*◌, ◌≤◌, nat_eq, nat_le, if◌then◌else◌, Bool, true, false, List, [], ◌∷◌, ◌++◌, inl, inr, length, map, take, drop, Option, None, Some, refl, sym, subst, ap, ◌∙◌, arith, rules, eq-eqb}
+use Rattle.std.proofs.Common.{◌≡◌, ℕ, zero, suc, ◌*◌, ◌≤◌, nat_eq, nat_le, if◌then◌else◌, Bool, true, false, List, [], ◌∷◌, ◌++◌, inl, inr, length, map, take, drop, Option, None, Some, refl, sym, ap, ◌∙◌, arith, rules, eq-eqb}
 use Rattle.std.specs.List.{AllByRecursion, flat_map}
 use Rattle.std.proofs.lemmas.List.{length-take, take-append-drop}
 use Rattle.std.proofs.lemmas.List.Elements.{All-from_recursion}
 use Rattle.code_model.specs.Fields.{Fields}
 use Rattle.insert_model.specs.declared.line.Line.{Line}
 use Rattle.insert_model.specs.Source.{lines}
-use Rattle.insert_model.specs.Groups.{Cell, cell, difference, is_near_cell, is_target, if_near, joins, cons_if, run, greatest, kept, later_of, later, Group, members, groups_from, groups}
+use Rattle.insert_model.specs.Groups.{Cell, cell, difference, is_near_cell, is_target, if_near, joins, cons_if, run, greatest, later_of, later, members, groups_from, groups}
 use Rattle.insert_model.specs.Layout.{difference_of}
-use Rattle.insert_model.specs.Laws.{Joins, IsRun, IsGroup, GroupsLaw}
+use Rattle.insert_model.specs.Laws.{Joins, IsGroup, GroupsLaw}
 
 -- ---- runs
 

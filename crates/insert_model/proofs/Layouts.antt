@@ -1,6 +1,6 @@
 -- Layouts: the units of the final one have the sizes that tell where they stand, and no distance in it is greater than in the longest.
-use Rattle.std.proofs.Common.{◌≡◌, ℕ, ◌+◌, ◌-◌, ◌*◌, ◌/◌, ◌≤◌, ◌<◌, nat_le, nat_lt, if◌then◌else◌, Bool, true, false, cond, ◌&&◌, List, [], ◌∷◌, ◌++◌, inl, inr, length, ℤ, pos, negsuc, Option, None, Some, refl, sym, subst, ap, ◌∙◌, arith, rules, length-append}
-use Rattle.std.proofs.lemmas.Bool.{and_parts, and_from, cases_lt, ltb-true, leb-true, lt-ltb, le-leb}
+use Rattle.std.proofs.Common.{◌≡◌, ℕ, ◌+◌, ◌-◌, ◌*◌, ◌/◌, ◌≤◌, ◌<◌, nat_le, nat_lt, if◌then◌else◌, Bool, true, false, cond, List, [], ◌∷◌, inl, inr, length, ℤ, pos, negsuc, Option, None, Some, refl, sym, subst, ◌∙◌, arith, length-append}
+use Rattle.std.proofs.lemmas.Bool.{and_parts, cases_lt, ltb-true, leb-true, lt-ltb}
 use Rattle.std.proofs.lemmas.Int.{ints}
 use Rattle.msp_encode.specs.declared.instr.Cond.{Cond}
 use Rattle.msp_encode.specs.declared.instr.Cond.TheVariants as cond
@@ -14,8 +14,8 @@ use Rattle.insert_model.specs.Words.{piece_words, unit_words}
 use Rattle.insert_model.specs.Source.{own}
 use Rattle.insert_model.specs.Guards.{jump}
 use Rattle.insert_model.specs.Units.{static_bytes, target_offset, jump_unit, unit_of, unit}
-use Rattle.insert_model.specs.Groups.{Group, groups, cell}
-use Rattle.insert_model.specs.Layout.{Jumps, jump_by, line_unit_of, line_unit, wide_unit_of, unit_of_lines, unit_in, units, before, words_before, longest, span_between, is_near, is_near_in, is_short, sized, final_offset, final}
+use Rattle.insert_model.specs.Groups.{Group, groups}
+use Rattle.insert_model.specs.Layout.{Jumps, jump_by, line_unit_of, line_unit, unit_of_lines, unit_in, units, before, words_before, longest, span_between, is_near, is_near_in, is_short, sized, final_offset, final}
 use Rattle.insert_model.specs.Laws.{SizedLaw, ShortLaw}
 
 -- how many words pieces have

@@ -9,7 +9,7 @@ use Rattle.msp_encode.specs.Spelled.{two_word, one_word, jump_word}
 use Rattle.insert_model.specs.Words.{piece_words, unit_words}
 use Rattle.insert_model.specs.Source.{kind_at, line_at, lines_from, lines}
 use Rattle.insert_model.specs.Units.{static_bytes, unit}
-use Rattle.insert_model.specs.Groups.{later, groups_from, groups, is_target, run, greatest}
+use Rattle.insert_model.specs.Groups.{later, groups_from, groups}
 use Rattle.insert_model.specs.Layout.{line_unit, unit_in, units, before, words_before, place_map, final, sized, is_short, final_units}
 use Rattle.insert_model.specs.Inserted.{with_guards}
 

@@ -1,7 +1,6 @@
 -- Groups: the source instructions that have one unit. In version 1 each stands alone.
 use Rattle.std.specs.Prelude.{ℕ, zero, suc, ◌+◌, ◌-◌, ◌*◌, ◌/◌, ◌%◌, ◌==◌, ◌&&◌, ◌||◌, Bool, true, false, not, max, nat_le, if◌then◌else◌, List, [], ◌∷◌, length, take, slice_index, Option, None, Some, is_some}
 use Rattle.std.specs.List.{find}
-use Rattle.msp_encode.specs.declared.instr.Op2.{Op2}
 use Rattle.msp_encode.specs.declared.instr.Dst.{Dst}
 use Rattle.msp_encode.specs.declared.instr.Dst.TheVariants as dst
 use Rattle.msp_encode.specs.declared.instr.Instr.{Instr}

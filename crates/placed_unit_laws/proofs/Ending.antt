@@ -69,8 +69,11 @@ module _ (g : RowLaws) (o : Object) (d : Domain) (low top : ℕ) (m r : List ℕ
     where
       by : (b : Bool) → is_short (fields o) l ≡ b → Row o d low top m r l Unchecked (instr.Jump c k) (handed (instr.Jump c k))
       by true f =
-          inr ((λ q. q), short-row g o d low top m r l a st c k st.clean e f
-          (stands (jump c (final_offset (fields o) l l.instr) ∷ []) (own-unit (instr.Jump c k) e ∙ ap (λ (x : Option ℤ). jump_by x c (unit bytes l)) (final-is true f))))
+          inr (
+            (λ q. q),
+            short-row g o d low top m r l a st c k st.clean e f
+                (stands (jump c (final_offset (fields o) l l.instr) ∷ []) (own-unit (instr.Jump c k) e ∙ ap (λ (x : Option ℤ). jump_by x c (unit bytes l)) (final-is true f))),
+          )
       by false f =
           jump-row g o d low top m r l a st c k st.clean e
           (stands (unit_of bytes l.at (own l) (instr.Jump c k)) (own-unit (instr.Jump c k) e ∙ ap (λ (x : Option ℤ). jump_by x c (unit bytes l)) (final-is false f) ∙ unit-is (instr.Jump c k) e))

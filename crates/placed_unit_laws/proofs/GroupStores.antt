@@ -1,6 +1,6 @@
 -- Where running the unit of a group of stores ends.
-use Rattle.std.proofs.Common.{◌≡◌, ◌≢◌, ℕ, ◌+◌, ◌-◌, ◌*◌, ◌%◌, ◌<◌, ◌≤◌, Bool, true, false, List, [], ◌∷◌, ◌++◌, length, map, Option, None, Some, refl, sym, ap, ◌∙◌, subst, inl, inr, arith}
-use Rattle.std.specs.List.{AllByRecursion, Any, Contains}
+use Rattle.std.proofs.Common.{◌≡◌, ℕ, ◌+◌, ◌-◌, ◌*◌, ◌%◌, ◌<◌, ◌≤◌, Bool, true, false, List, [], ◌∷◌, length, map, Option, None, Some, refl, sym, ap, ◌∙◌, subst, inl, inr, arith}
+use Rattle.std.specs.List.{AllByRecursion}
 use Rattle.std.proofs.lemmas.Bool.{cases_lt, eqb-true}
 use Rattle.std.proofs.lemmas.List.{length-append}
 use Rattle.std.proofs.lemmas.List.Elements.{All-contains, recursion_from_All}
@@ -9,7 +9,7 @@ use Rattle.msp_encode.specs.declared.instr.Src.TheVariants as src
 use Rattle.msp_encode.specs.declared.instr.Dst.TheVariants as dst
 use Rattle.msp_encode.specs.declared.instr.Instr.{Instr}
 use Rattle.msp_encode.specs.declared.instr.Instr.TheVariants as instr
-use Rattle.msp_encode.specs.Spelling.{IsBase, DstFits, InstrFits, src_words}
+use Rattle.msp_encode.specs.Spelling.{DstFits, InstrFits, src_words}
 use Rattle.machine_model.specs.Context.{reg}
 use Rattle.machine_model.specs.Does.{Effect, memory_after}
 use Rattle.machine_model.specs.Operands.{sum_of}
@@ -25,19 +25,20 @@ use Rattle.load_model.specs.Domains.{Domain}
 use Rattle.insert_model.specs.declared.line.Line.{Line}
 use Rattle.insert_model.specs.declared.piece.Piece.{Piece}
 use Rattle.msp_encode.specs.Spelled.{count}
-use Rattle.insert_model.specs.Words.{piece_words, unit_words}
+use Rattle.insert_model.specs.Words.{piece_words}
 use Rattle.insert_model.specs.Source.{own}
 use Rattle.insert_model.specs.Guards.{wide_guard}
 use Rattle.insert_model.specs.Units.{static_bytes, is_popped}
-use Rattle.insert_model.specs.Groups.{Cell, cell, difference, Group, members, last_of}
-use Rattle.insert_model.specs.Layout.{difference_of, beside_by, beside, place_map}
-use Rattle.insert_laws.specs.Pieces.{unit_of_group}
+use Rattle.insert_model.specs.Faults.{UsesCheck, DstUsesCheck}
+use Rattle.insert_model.specs.Groups.{Cell, difference, Group, members, last_of}
+use Rattle.insert_model.specs.Layout.{beside_by, beside}
 use Rattle.insert_laws.specs.Stores.{IsIndexKind, StoresBehind, StoresTogether, GroupsStore}
+use Rattle.unit_laws.specs.Lines.{IsIndexed}
 use Rattle.unit_laws.specs.Groups.{Store, at_base, at_r4, stores_after, IsStoreAt, StoresAt, Last, Before, Reaches, GroupUnitLaw}
 use Rattle.unit_laws.specs.Guards.{WordsAt, store_words}
 use Rattle.unit_laws.specs.Rows.{ended, Checked, IsAtStore, IsIn, IsOut}
-use Rattle.placed_unit_laws.specs.Placed.{unit_address, unit_at, unit_behind, word_in_place, placed_src, placed_instr, placed, instr_does, source_does, source_after}
-use Rattle.placed_unit_laws.specs.Checks.{Check, OfStore, check_of_two, check_of_instr, check_of, Fails}
+use Rattle.placed_unit_laws.specs.Placed.{unit_address, unit_at, unit_behind, word_in_place, placed_src, placed_instr, instr_does, source_does, source_after}
+use Rattle.placed_unit_laws.specs.Checks.{OfStore, check_of_two, check_of_instr, check_of, Fails}
 use Rattle.placed_unit_laws.specs.Ends.{group_behind, AnyFails, Works, GroupEnds, Stopped, Worked, UnitStands, UnitStandsLaw, GroupEndsLaw}
 use Rattle.placed_unit_laws.specs.Given.{RowLaws}
 use Rattle.placed_unit_laws.proofs.Here.{IsHereOf, here_of}
@@ -93,7 +94,7 @@ module _ (o : Object) (d : Domain) (from : Cell) (most : ℕ) where
     past = unit_behind o d l;
   }
 
-  stores-of : (ls : List Line) → AllByRecursion (StoresBehind o from most) ls → List Store
+  pub stores-of : (ls : List Line) → AllByRecursion (StoresBehind o from most) ls → List Store
   stores-of [] h = []
   stores-of (l ∷ ls) h = store-of l h.0 ∷ stores-of ls h.1
 
@@ -138,10 +139,9 @@ module _ (o : Object) (d : Domain) (from : Cell) (most : ℕ) where
         by true e = absurd (pops-aright o l h.op h.width h.source (dst.Indexed from.base h.index) two-line (popped h.source e) (writes-so h.op h.stores) (inr (inr tt)))
         by false e = rw (e, alu-writes h.op h.stores) refl
 
-
   -- one after another
   pub after-is : (ls : List Line) (hs : AllByRecursion (StoresBehind o from most) ls) (m r : List ℕ) → source_after o d m r ls ≡ stores_after from.base m r (stores-of ls hs)
-  unfolding source_after stores_after
+  unfolding source_after stores_after stores-of
   after-is [] hs m r = refl
   after-is (l ∷ ls) hs m r =
       ap (λ (e : Effect). source_after o d (memory_after m e) e.context ls) (does-store l hs.0 m r)
@@ -149,7 +149,7 @@ module _ (o : Object) (d : Domain) (from : Cell) (most : ℕ) where
 
 -- ---- a group's unit
 
-module _ (g : RowLaws) (o : Object) (d : Domain) (low top : ℕ) (m r : List ℕ) (gr : Group) (a : IsHereOf o d low top m r gr) (st : UnitStands o d m gr) (s : StoresTogether o gr) where
+module _ (g : RowLaws) (group : GroupUnitLaw) (o : Object) (d : Domain) (low top : ℕ) (m r : List ℕ) (gr : Group) (a : IsHereOf o d low top m r gr) (st : UnitStands o d m gr) (s : StoresTogether o gr) where
   abbrev first : ℕ
   first = unit_at o d gr.head
 
@@ -203,7 +203,7 @@ module _ (g : RowLaws) (o : Object) (d : Domain) (low top : ℕ) (m r : List ℕ
 
   stores-at : (l : Line) (ls : List Line) (hs : AllByRecursion (StoresBehind o s.from most) (l ∷ ls)) (at : ℕ) → Stands o d m at past (map (beside s.from) (l ∷ ls)) → unit_behind o d (last_of l ls) ≡ past
       → StoresAt m n x most past at (stores-of o d s.from most (l ∷ ls) hs)
-  unfolding last_of
+  unfolding last_of stores-of
   stores-at l [] hs at stands e =
       let f = fetched l hs.0 at [] stands in
       Last at (store-of o d s.from most l hs.0) (store-at l hs.0 at f.0) (end o d m (at + 2 * (store-of o d s.from most l hs.0).words) past f.1) e
@@ -225,7 +225,86 @@ module _ (g : RowLaws) (o : Object) (d : Domain) (low top : ℕ) (m r : List ℕ
       )
 
   register : IsIndexed n
-  register = let h : StoresBehind o s.from most gr.head = each.0 in base-of h
-    where
-      base-of : StoresBehind o s.from most gr.head → IsIndexed n
-      base-of h = ?
+  register =
+      let h : StoresBehind o s.from most gr.head = each.0 in
+      let two = two-line o d s.from most gr.head h in
+      let fits : DstFits (dst.Indexed n h.index) = (two-fits o gr.head h.op h.width h.source (dst.Indexed n h.index) two).1 in
+      let check : DstUsesCheck (dst.Indexed n h.index) → ⊥ = λ c. h.clean.free (subst UsesCheck (sym h.line) (inr c)) in
+      indexed n fits.0 fits.1 (λ e. check (inl e)) (λ e. check (inr e))
+
+  at-store : IsAtStore m r first past n x d.lo end-less
+  at-store = record {
+    at = record { memory = a.at.memory; context = a.at.context; pc = a.at.pc; below = omega (arith, st.below) };
+    words = parts.0;
+    register = register;
+    index = omega (arith, parts.0.1.1.1.0, word-small m (first + 6) a.at.memory);
+    lo_word = lo-word;
+    hi_word = omega (arith, a.at.placed.hi_high);
+  }
+
+  room : end-less + most ≤ first
+  unfolding unit_address
+  room = omega (arith, near-is s.reach, a.at.placed.hi_high, a.at.placed.lo_low, a.at.placed.statics, a.at.placed.code_low)
+
+  stores : List Store
+  stores = stores-of o d s.from most (members gr) each
+
+  law : Checked m r first past STORE_FAULT r (IsIn d.lo end-less (sum_of x (reg r n))) (IsOut d.lo end-less (sum_of x (reg r n))) (Reaches m r first past (stores_after n m r stores).0 (stores_after n m r stores).1)
+  unfolding stores
+  law = group m r first past n x d.lo end-less most stores at-store room (stores-at gr.head gr.rest each (first + 26) parts.1 refl)
+
+  -- ---- where the check fails
+
+  -- that of a line's store
+  fails-by : (l : Line) (h : StoresBehind o s.from most l) → Fails o d low top m r (check_of o l) ≡ IsOut d.lo d.hi (sum_of (sum_of x (difference s.from.index h.index)) (reg r n))
+  fails-by l h =
+      ap (Fails o d low top m r) (check-is o d s.from most l h)
+      ∙ ap (λ (v : ℕ). IsOut d.lo d.hi (sum_of v (reg r n))) (subst (λ (k : Option RelKind). word_in_place o d h.index k ≡ sum_of x (difference s.from.index h.index)) (sym h.kind) (ahead-placed o d s.from.index h.index s.from.kind s.kind s.word h.word))
+
+  bounds : (d.hi ≤ 65529) × (most ≤ 6)
+  bounds = (omega (arith, a.at.placed.hi_high), near-is s.reach)
+
+  -- the first store's
+  first-fails : IsOut d.lo d.hi (sum_of x (reg r n)) → AnyFails o d low top m r gr
+  first-fails out =
+      let h : StoresBehind o s.from most gr.head = each.0 in
+      let zero' : difference s.from.index h.index ≡ 0 = sym h.ahead ∙ s.first in
+      let same : sum_of (sum_of x (difference s.from.index h.index)) (reg r n) ≡ sum_of x (reg r n) = omega (arith, zero') in
+      (0, gr.head, omega arith, refl, subst (λ (T : Type 0). T) (sym (fails-by gr.head h)) (subst (IsOut d.lo d.hi) (sym same) out))
+
+  -- the farthest one's
+  last-fails : end-less ≤ sum_of x (reg r n) → sum_of x (reg r n) < d.hi → AnyFails o d low top m r gr
+  last-fails more less =
+      let f = s.reached in
+      let l : Line = f.1 in
+      let h : StoresBehind o s.from most l = All-contains (StoresBehind o s.from most) (members gr) l s.each (f.0, f.2, f.3) in
+      let far : difference s.from.index h.index ≡ most = sym h.ahead ∙ f.4 in
+      let out : d.hi ≤ sum_of (sum_of x (difference s.from.index h.index)) (reg r n) = omega (arith, far, more, less, bounds.0, bounds.1) in
+      (f.0, l, f.2, f.3, subst (λ (T : Type 0). T) (sym (fails-by l h)) (inr out))
+
+  some-fails : IsOut d.lo end-less (sum_of x (reg r n)) → AnyFails o d low top m r gr
+  some-fails (inl below) = first-fails (inl below)
+  some-fails (inr above) = elim (cases_lt (sum_of x (reg r n)) d.hi) [ inl less ↦ last-fails above less | inr more ↦ first-fails (inr more) ]
+
+  none-fails : IsIn d.lo end-less (sum_of x (reg r n)) → AnyFails o d low top m r gr → ⊥
+  none-fails in' f =
+      let l : Line = f.1 in
+      let h : StoresBehind o s.from most l = All-contains (StoresBehind o s.from most) (members gr) l s.each (f.0, f.2, f.3) in
+      let out : IsOut d.lo d.hi (sum_of (sum_of x (difference s.from.index h.index)) (reg r n)) = subst (λ (T : Type 0). T) (fails-by l h) f.4 in
+      elim out [ inl b ↦ omega (arith, b, in'.0, in'.1, h.near, bounds.0, bounds.1) | inr b ↦ omega (arith, b, in'.0, in'.1, h.near, bounds.0, bounds.1) ]
+
+  worked : Reaches m r first past (stores_after n m r stores).0 (stores_after n m r stores).1 → Works o d m r gr
+  unfolding stores
+  worked e =
+      let same : source_after o d m r (members gr) ≡ stores_after n m r (stores-of o d s.from most (members gr) each) = after-is o d s.from most (members gr) each m r in
+      subst (λ (t : List ℕ × List ℕ). Reaches m r first past t.0 t.1 → Works o d m r gr) same (λ w. record { x = w.x; y = w.y; runs = w.runs; lands = w.there }) e
+
+  ends : Outcome (IsIn d.lo end-less (sum_of x (reg r n))) (IsOut d.lo end-less (sum_of x (reg r n))) → GroupEnds o d low top m r gr
+  ends (inl out) = Stopped (some-fails out) (law.halts out)
+  ends (inr in') = Worked (none-fails in'.0) (worked (law.goes in'.0))
+
+pub groups-end : RowLaws → GroupUnitLaw → GroupsStore → UnitStandsLaw → GroupEndsLaw
+groups-end g group store stand o q i d low top m r gr e at more =
+    let here : IsHereOf o d low top m r gr = here_of o q i d low top m r gr e at in
+    let s : StoresTogether o gr = store o d.object here.inserted gr at.group more in
+    ends g group o d low top m r gr here (stand o q i d low top m r gr e at) s (of-store d.lo (d.hi - reach_bytes s.reach) (sum_of (word_in_place o d s.from.index s.from.kind) (reg r s.from.base)))

@@ -5,7 +5,6 @@ use Rattle.code_model.specs.declared.object.Object.{Object}
 use Rattle.code_model.specs.Starts.{Start}
 use Rattle.load_model.specs.Domains.{Domain}
 use Rattle.insert_model.specs.declared.line.Line.{Line}
-use Rattle.msp_encode.specs.Spelled.{count}
 use Rattle.insert_model.specs.Groups.{Group, alone, last_of}
 use Rattle.insert_model.specs.Faults.{IsInserted}
 use Rattle.insert_laws.specs.Lines.{group_words}

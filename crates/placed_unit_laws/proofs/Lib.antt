@@ -15,5 +15,6 @@ pub mod OneUnits
 pub mod Calls
 pub mod Jumps
 pub mod Ending
+pub mod GroupStores
 pub mod Worked
 pub mod Anywhere

@@ -12,7 +12,7 @@ use Rattle.load_model.specs.Standing.{CodeStands, CodeImageLaw}
 use Rattle.insert_model.specs.declared.line.Line.{Line}
 use Rattle.insert_model.specs.Groups.{Group, members, groups}
 use Rattle.insert_model.specs.Layout.{place_map}
-use Rattle.insert_model.specs.Laws.{GroupsStand, GroupsLaw}
+use Rattle.insert_model.specs.Laws.{GroupsLaw}
 use Rattle.insert_model.specs.declared.piece.Word.{Word}
 use Rattle.insert_model.specs.Words.{unit_words}
 use Rattle.insert_model.specs.Source.{lines}

@@ -63,7 +63,7 @@ writes-so Bis e = tt
 writes-so Xor e = tt
 writes-so And e = tt
 
-alu-writes : (op : Op2) → writes op ≡ true → alu.writes op ≡ true
+pub alu-writes : (op : Op2) → writes op ≡ true → alu.writes op ≡ true
 alu-writes Mov e = refl
 alu-writes Add e = refl
 alu-writes Addc e = refl

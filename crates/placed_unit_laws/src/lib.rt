@@ -10,16 +10,17 @@ ghost use Rattle.placed_unit_laws.specs.Ends.{GroupEndsLaw, PushedLaw, SourcePla
 ghost use Rattle.placed_unit_laws.specs.Given.{RowLaws};
 
 use insert_laws::{
-    code_is_pieces, groups_have_units, lines_are_clean, places_within, relocs_are_pieces,
-    starts_decided,
+    code_is_pieces, groups_have_units, groups_store, lines_are_clean, places_within,
+    relocs_are_pieces, starts_decided,
 };
 use insert_model::laws::{groups_stand, short_jumps_fit};
 use load_model::code_image_stands;
 use msp_encode::laws::spelling_spells;
 use unit_laws::{
     branch_unit_ends, callee_unit_ends, change_unit_ends, computed_unit_ends, goes_on, goes_to,
-    growth_unit_ends, jump_unit_ends, own_unit_ends, pc_moves, place_hidden, pop_into_unit_ends,
-    pop_unit_ends, return_unit_ends, set_sp_unit_ends, short_jump_unit_ends, store_unit_ends,
+    group_unit_ends, growth_unit_ends, jump_unit_ends, own_unit_ends, pc_moves, place_hidden,
+    pop_into_unit_ends, pop_unit_ends, return_unit_ends, set_sp_unit_ends, short_jump_unit_ends,
+    store_unit_ends,
 };
 
 /// The rows of the unit table over numbers, and what is known of spelled instructions and of starts.
@@ -78,6 +79,8 @@ pub fn group_ends()
     ensures { GroupEndsLaw }
 {
     row_laws();
+    group_unit_ends();
+    groups_store();
     unit_stands();
 }
 
