@@ -1,6 +1,6 @@
 //! The object with its guards.
 
-ghost use Rattle.std.specs.Prelude.{Result, MatchResult, IfOk};
+ghost use Rattle.std.specs.Prelude.{◌<◌, Result, MatchResult, IfOk};
 ghost use Rattle.code_model.specs.declared.verdict.Verdict.{Verdict};
 ghost use Rattle.code_model.specs.Verdicts.{AllSpelled, IsAcceptance, IsVerdict};
 ghost use Rattle.code_model.specs.declared.object.Object.{Object};
@@ -8,9 +8,10 @@ ghost use Rattle.insert_model.specs.declared.fault.InsertFault.{InsertFault};
 ghost use Rattle.insert_model.specs.Faults.{NoHit, IsAnswer, SameAnswer};
 ghost use Rattle.code_model.specs.Fields.{fields};
 ghost use Rattle.insert_model.specs.Source.{lines};
-ghost use Rattle.insert_laws.specs.Laws.{IsAcceptable, PiecesStand};
+ghost use Rattle.insert_model.specs.Laws.{StandsAlone};
+ghost use Rattle.insert_laws.specs.Laws.{IsAcceptable, HasNoLoads, PiecesStand};
 ghost use Rattle.insert_laws.specs.Lines.{LinesStand};
-ghost use Rattle.placed_unit_laws.specs.Ends.{UnitsEnd, CallsPush, UnitsStand, SourcesHide};
+ghost use Rattle.placed_unit_laws.specs.Ends.{UnitsEnd, GroupsEnd, CallsPush, UnitsStand, SourcesHide};
 ghost use Rattle.check_inserter.specs.Read.{IsSource};
 ghost use Rattle.check_inserter.specs.Places.{IsLaid};
 
@@ -21,10 +22,13 @@ use crate::moving::{all_relocs, moved_bytes, moved_exports, moved_words, place_o
 use crate::source::read_lines;
 use crate::starts::starts;
 use code_model::object::Object;
-use insert_laws::{inserted_is_accepted, lines_are_spelled, starts_are_pieces, verdict_accepts};
+use insert_laws::{
+    inserted_is_accepted, lines_are_spelled, no_load_guards, starts_are_pieces, verdict_accepts,
+};
 use insert_model::fault::InsertFault;
+use insert_model::laws::first_version;
 use insert_model::line::Line;
-use placed_unit_laws::{call_pushes, source_place_hidden, unit_ends, unit_stands};
+use placed_unit_laws::{call_pushes, group_ends, source_place_hidden, unit_ends, unit_stands};
 use std::alloc::Global;
 
 /// The object with guards for an object without, or the first fault of the source object: where an instruction isn't spelled
@@ -59,7 +63,10 @@ pub fn insert(alloc: Global, o: &Object) -> Result<Object, InsertFault>
     one_answer();
     inserted_is_accepted();
     verdict_accepts();
+    no_load_guards();
+    first_version();
     unit_ends();
+    group_ends();
     call_pushes();
     unit_stands();
     source_place_hidden();

@@ -11,14 +11,19 @@
 //! bounded number of times.
 #![tactic(auto)]
 
+mod cells;
 mod faults;
 mod forbidden;
 mod forms;
+mod group_units;
+mod groups;
 mod guards;
 mod inserter;
+mod jumps;
 pub mod laws;
 mod laying;
 mod moving;
+mod named;
 mod operands;
 mod size;
 mod source;
