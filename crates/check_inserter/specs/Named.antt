@@ -1,5 +1,5 @@
 -- What is named, as marks.
-use Rattle.std.specs.Prelude.{◌≡◌, ◌↔◌, ℕ, ◌*◌, ◌<◌, ◌⊎◌, ◌==◌, ◌&&◌, IsTrue, List}
+use Rattle.std.specs.Prelude.{◌↔◌, ℕ, ◌*◌, ◌<◌, ◌⊎◌, ◌==◌, ◌&&◌, IsTrue, List}
 use Rattle.std.specs.List.{Any}
 use Rattle.kernel_model.specs.Bitmap.{Has}
 use Rattle.code_model.specs.declared.object.TheConstants.{CODE_WORDS_MAX}

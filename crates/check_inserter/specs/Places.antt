@@ -1,5 +1,5 @@
 -- The units one after another.
-use Rattle.std.specs.Prelude.{◌≡◌, ℕ, ◌+◌, ◌*◌, ◌<◌, ◌≤◌, List, length, slice_index}
+use Rattle.std.specs.Prelude.{◌≡◌, ℕ, ◌+◌, ◌≤◌, List, length, slice_index}
 use Rattle.code_model.specs.declared.object.Object.{Object}
 use Rattle.code_model.specs.Fields.{Fields, fields}
 use Rattle.insert_model.specs.declared.fault.InsertFault.{InsertFault}
@@ -25,6 +25,7 @@ pub record IsLaidIn (js : Jumps) (o : Object) (laid : Laid) : Type 0 where
 -- the final one
 pub record IsFinal (o : Object) (laid : Laid) : Type 0 where
   pub words : laid.words.items ≡ final_units (fields o)
+  pub size : length laid.words.items ≡ length (units (sized (fields o)) (static_bytes (fields o)) (groups (fields o)))
   pub places : ArePlaces (sized (fields o)) (fields o) laid.places.items
 
 -- it isn't too large

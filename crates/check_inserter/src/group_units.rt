@@ -45,6 +45,7 @@ pub(crate) fn put_group(
 }
 
 /// Appends the unit of a line that stands alone.
+#[tactic(auto, unfolding(insert_model::specs::Layout::line_unit))]
 fn put_line(
     out: &mut Vec<Word>,
     size: usize,
@@ -55,9 +56,12 @@ fn put_line(
     requires line { IsLegalLine line.now }
     ensures { OnOk result (out.new.items ≡ out.old.items ++ unit_words (line_unit (λ _. short) size line.now)) }
 {
-    match (line.instr, short) {
-        (Instr::Jump { cond, .. }, Some(offset)) => put_pieces(out, &[jump(cond, offset)]),
-        _ => put_unit(out, size, line),
+    match line.instr {
+        Instr::Jump { cond, .. } => match short {
+            None => put_unit(out, size, line),
+            Some(offset) => put_pieces(out, &[jump(cond, offset)]),
+        },
+        Instr::Two { .. } | Instr::One { .. } | Instr::Reti => put_unit(out, size, line),
     }
 }
 
@@ -110,6 +114,7 @@ fn reach_of(distance: u16) -> Reach
 }
 
 /// A line's store, at its distance from the cell that R4 has the address of.
+#[tactic(auto, unfolding(insert_model::specs::Layout::beside))]
 fn beside(cell: &Cell, line: &Line) -> Piece
     requires { InstrFits line.now.instr }
     ensures is { result ≡ beside (as_cell cell.now) line.now }
@@ -127,6 +132,6 @@ fn beside(cell: &Cell, line: &Line) -> Piece
             source: piece.source,
             destination: None,
         },
-        _ => piece,
+        Instr::One { .. } | Instr::Reti | Instr::Jump { .. } => piece,
     }
 }

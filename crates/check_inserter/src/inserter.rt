@@ -26,7 +26,7 @@ use insert_laws::{
     inserted_is_accepted, lines_are_spelled, no_load_guards, starts_are_pieces, verdict_accepts,
 };
 use insert_model::fault::InsertFault;
-use insert_model::laws::first_version;
+use insert_model::laws::{first_version, groups_stand};
 use insert_model::line::Line;
 use placed_unit_laws::{call_pushes, group_ends, source_place_hidden, unit_ends, unit_stands};
 use std::alloc::Global;
@@ -112,6 +112,7 @@ fn assembled(alloc: Global, o: &Object, laid: &Laid) -> Result<Object, InsertFau
     requires clean { NoHit o.now }
     ensures { IsAnswer o.now result }
 {
+    groups_stand();
     let code = moved_words(alloc, o, laid)?;
     let init = moved_bytes(alloc, o, laid)?;
     let relocs = all_relocs(alloc, o, laid)?;

@@ -2,11 +2,12 @@
 
 ghost use Rattle.std.specs.Prelude.{◌≡◌, ℕ, ◌+◌, ◌*◌, ◌<◌, ◌≤◌, ◌++◌, length, map, replicate, OnOk, IfOk, MatchResult, MatchOption};
 ghost use Rattle.code_model.specs.Fields.{fields};
+ghost use Rattle.insert_model.specs.Source.{lines};
 ghost use Rattle.insert_model.specs.Layout.{Jumps, longest, sized};
 ghost use Rattle.insert_model.specs.Faults.{most_words, Passes};
 ghost use Rattle.check_inserter.specs.Named.{AreTargets};
 ghost use Rattle.check_inserter.specs.Fitting.{AreOffsets};
-ghost use Rattle.check_inserter.specs.Read.{IsSource};
+ghost use Rattle.check_inserter.specs.Read.{IsRow, IsSource};
 ghost use Rattle.check_inserter.specs.Places.{ArePlaces, IsLaidIn, IsFinal, IsLaid, IsUnlaid};
 
 use crate::group_units::put_group;
@@ -17,7 +18,7 @@ use crate::size::word_count;
 use code_model::marks::Marks;
 use code_model::object::{CODE_WORDS_MAX, Object};
 use insert_model::fault::{InsertFault, InsertKind};
-use insert_model::laws::{first_version, sizes_alike};
+use insert_model::laws::{short_jumps_fit, sizes_alike};
 use insert_model::line::Line;
 use insert_model::piece::Word;
 use std::alloc::{AllocError, Global};
@@ -47,6 +48,7 @@ fn lay_final(alloc: Global, o: &Object, lines: &[Line]) -> Result<Laid, AllocErr
     requires { IsSource o.now lines.now }
     ensures { IfOk result (λ laid. IsFinal o.now laid) }
 {
+    sizes_alike();
     let targets = targets(o, lines);
     let offsets = long_jumps(alloc, lines)?;
     let long = lay_units(alloc, o, lines, &targets, &offsets)?;
@@ -57,7 +59,7 @@ fn lay_final(alloc: Global, o: &Object, lines: &[Line]) -> Result<Laid, AllocErr
     }
 }
 
-/// The layout with jumps of one word, by the places of the one without.
+/// The final layout, by the places of the one in which no jump is one word.
 fn lay_shorter(
     alloc: Global,
     o: &Object,
@@ -71,10 +73,29 @@ fn lay_shorter(
     requires places { ArePlaces longest (fields o.now) long.now }
     ensures { IfOk result (λ laid. IsFinal o.now laid) }
 {
-    sizes_alike();
     let short = short_jumps(alloc, o, lines, long)?;
     let sized = lay_units(alloc, o, lines, targets, &short)?;
-    let offsets = final_jumps(alloc, o, lines, &short, &sized.places)?;
+    lay_placed(alloc, o, lines, targets, &short, &sized.places)
+}
+
+/// The final layout, by its places.
+fn lay_placed(
+    alloc: Global,
+    o: &Object,
+    lines: &[Line],
+    targets: &Marks,
+    short: &[Option<i16>],
+    places: &[usize],
+) -> Result<Laid, AllocError>
+    requires source { IsSource o.now lines.now }
+    requires targets { AreTargets o.now targets.now }
+    requires short { short.now ≡ map (sized (fields o.now)) lines.now }
+    requires places { ArePlaces (sized (fields o.now)) (fields o.now) places.now }
+    ensures { IfOk result (λ laid. IsFinal o.now laid) }
+{
+    sizes_alike();
+    short_jumps_fit();
+    let offsets = final_jumps(alloc, o, lines, short, places)?;
     let laid = lay_units(alloc, o, lines, targets, &offsets)?;
     Ok(laid)
 }
@@ -126,9 +147,11 @@ fn put_places(places: &mut Vec<usize>, place: usize, times: usize) -> Result<(),
 
 /// The place of the first line of the first group whose unit passes the most words.
 fn passing(o: &Object, laid: &Laid) -> Option<usize>
-    requires { IsFinal o.now laid.now }
+    requires row { IsRow 0 (lines (fields o.now)) (length o.now.code) }
+    requires laid { IsFinal o.now laid.now }
     ensures { MatchOption result (length laid.now.words.items ≤ most_words) (λ at. (at < CODE_WORDS_MAX) × Passes o.now (2 * at)) }
 {
+    sizes_alike();
     for at in 0..o.code.len() {
         if laid.places[at + 1] > CODE_WORDS_MAX {
             return Some(at);
