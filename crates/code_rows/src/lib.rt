@@ -4,8 +4,6 @@
 //! time for them. What is expected is worked out by hand from the tables, or comes from outside of the program.
 #![tactic(auto)]
 
-pub mod object_parts;
-
 #[cfg(test)]
 mod checker;
 #[cfg(test)]
@@ -14,5 +12,6 @@ mod decoder;
 mod encoder;
 #[cfg(test)]
 mod machine;
+pub mod object_parts;
 #[cfg(test)]
 mod object_texts;

@@ -13,7 +13,7 @@ use Rattle.msp_encode.specs.Spelled.{count}
 use Rattle.insert_model.specs.Source.{kind_at, kind_within, line_at}
 use Rattle.insert_model.specs.Faults.{IsStartOffset}
 use Rattle.insert_laws.specs.Shapes.{IsCleanLine}
-use Rattle.insert_laws.proofs.ShapedUnits.{AllClean}
+use Rattle.insert_laws.proofs.CleanLines.{AllClean}
 use Rattle.gen_model.specs.declared.block.Block as blocks
 use Rattle.gen_model.specs.declared.block.Block.TheVariants as block
 use Rattle.gen_model.specs.Blocks.{words}

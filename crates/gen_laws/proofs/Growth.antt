@@ -14,14 +14,15 @@ use Rattle.msp_encode.specs.declared.instr.Dst.TheVariants as dst
 use Rattle.msp_encode.specs.declared.instr.Instr.TheVariants as instr
 use Rattle.code_model.specs.declared.parts.RelKind.{RelKind}
 use Rattle.code_model.specs.declared.parts.Reloc.{Reloc}
+use Rattle.code_model.specs.Fields.{Fields}
 use Rattle.insert_model.specs.declared.aim.Aim.TheVariants.{ToMemory, Elsewhere}
 use Rattle.insert_model.specs.declared.line.Line.{Line}
 use Rattle.insert_model.specs.declared.piece.Piece.{Piece}
 use Rattle.insert_model.specs.Words.{piece_words, unit_words}
 use Rattle.insert_model.specs.Source.{line_at, own}
 use Rattle.insert_model.specs.Guards.{pop_guard}
-use Rattle.insert_model.specs.Units.{aim, is_static, is_popped, writes, writing, popping, two_unit, unit}
-use Rattle.insert_model.specs.Inserted.{units}
+use Rattle.insert_model.specs.Units.{static_bytes, aim, is_static, is_popped, writes, writing, popping, two_unit, unit}
+use Rattle.insert_model.specs.Laws.{line_units}
 use Rattle.insert_laws.specs.Pieces.{size_of}
 use Rattle.gen_model.specs.declared.block.Block as blocks
 use Rattle.gen_model.specs.declared.block.Block.TheVariants as block
@@ -62,7 +63,10 @@ abbrev pub growth_of : List blocks.Block → ℕ
 growth_of [] = 0
 growth_of (b ∷ bs) = growth b + growth_of bs
 
-module _ (size : ℕ) (relocs : List Reloc) where
+module _ (f : Fields) (relocs : List Reloc) where
+  abbrev size : ℕ
+  size = static_bytes f
+
   registers_grown : (at : ℕ) (op : Op2) (from to : ℕ) → writes op ≡ true → IsFree to → grown size (line_at relocs at (instr.Two op Wide (src.Reg from) (dst.Reg to))) ≡ 1
   unfolding grown unit line_at unit_words piece_words
   registers_grown at op from to w t = ap (λ (ps : List Piece). length (unit_words ps)) (plain_two size op (src.Reg from) to _ refl w t)
@@ -113,21 +117,21 @@ module _ (size : ℕ) (relocs : List Reloc) where
 
   -- ---- a block
 
-  line_and : (l : Line) (ls : List Line) → length (units size (l ∷ ls)) ≡ grown size l + length (units size ls)
-  unfolding units grown
-  line_and l ls = length-append (unit_words (unit size l)) (units size ls)
+  line_and : (l : Line) (ls : List Line) → length (line_units f (l ∷ ls)) ≡ grown size l + length (line_units f ls)
+  unfolding line_units grown
+  line_and l ls = length-append (unit_words (unit size l)) (line_units f ls)
 
-  no_lines : length (units size []) ≡ 0
-  unfolding units
+  no_lines : length (line_units f []) ≡ 0
+  unfolding line_units
   no_lines = refl
 
-  one_line : (l : Line) → length (units size (l ∷ [])) ≡ grown size l
+  one_line : (l : Line) → length (line_units f (l ∷ [])) ≡ grown size l
   one_line l = omega (arith, line_and l [], no_lines)
 
-  two_lines : (l m : Line) → length (units size (l ∷ m ∷ [])) ≡ grown size l + grown size m
+  two_lines : (l m : Line) → length (line_units f (l ∷ m ∷ [])) ≡ grown size l + grown size m
   two_lines l m = omega (arith, line_and l (m ∷ []), one_line m)
 
-  block_grown : (at : ℕ) (b : blocks.Block) → Suits b → length (units size (lines_for relocs at (instrs b))) ≤ growth b
+  block_grown : (at : ℕ) (b : blocks.Block) → Suits b → length (line_units f (lines_for relocs at (instrs b))) ≤ growth b
   block_grown at (block.Set to value) s = omega (arith, one_line (line_at relocs at (instr.Two Mov Wide (src.Immediate value) (dst.Reg to))), immediate_grown at Mov value to refl s)
   block_grown at (block.Add from to) s = omega (arith, one_line (line_at relocs at (instr.Two Add Wide (src.Reg from) (dst.Reg to))), registers_grown at Add from to refl s.1)
   block_grown at (block.Xor from to) s = omega (arith, one_line (line_at relocs at (instr.Two Xor Wide (src.Reg from) (dst.Reg to))), registers_grown at Xor from to refl s.1)
@@ -165,17 +169,17 @@ module _ (size : ℕ) (relocs : List Reloc) where
 
   -- ---- all blocks
 
-  units_append : (xs ys : List Line) → length (units size (xs ++ ys)) ≡ length (units size xs) + length (units size ys)
-  unfolding units
-  units_append xs ys = ap length (flat_map-append (λ (l : Line). unit_words (unit size l)) xs ys) ∙ length-append (units size xs) (units size ys)
+  units_append : (xs ys : List Line) → length (line_units f (xs ++ ys)) ≡ length (line_units f xs) + length (line_units f ys)
+  unfolding line_units
+  units_append xs ys = ap length (flat_map-append (λ (l : Line). unit_words (unit size l)) xs ys) ∙ length-append (line_units f xs) (line_units f ys)
 
-  pub blocks_grown : (at : ℕ) (bs : List blocks.Block) → AllSuit bs → length (units size (lines_for relocs at (all_instrs bs))) ≤ growth_of bs
+  pub blocks_grown : (at : ℕ) (bs : List blocks.Block) → AllSuit bs → length (line_units f (lines_for relocs at (all_instrs bs))) ≤ growth_of bs
   unfolding all_instrs
   blocks_grown at [] s = omega (arith, no_lines)
   blocks_grown at (b ∷ bs) s =
       omega (
         arith,
-        ap (λ (ls : List Line). length (units size ls)) (lines_apart relocs at (instrs b) (all_instrs bs)),
+        ap (λ (ls : List Line). length (line_units f ls)) (lines_apart relocs at (instrs b) (all_instrs bs)),
         units_append (lines_for relocs at (instrs b)) (lines_for relocs (at + size_of (instrs b)) (all_instrs bs)),
         block_grown at b s.0,
         blocks_grown (at + size_of (instrs b)) bs s.1,

@@ -17,7 +17,7 @@ use Rattle.insert_model.specs.Faults.{IsStartOffset}
 use Rattle.insert_model.specs.Laws.{LineLaw}
 use Rattle.insert_laws.specs.Pieces.{size_of}
 use Rattle.insert_laws.proofs.Streams.{FitEach, words_of, size_push, size_none, size_is, spelling_length, stands_at, Cut, start_cut, cut_start, cut_stands}
-use Rattle.insert_laws.proofs.ShapedUnits.{AllClean}
+use Rattle.insert_laws.proofs.CleanLines.{AllClean}
 use Rattle.gen_model.specs.declared.block.Block as blocks
 use Rattle.gen_model.specs.declared.block.Block.TheVariants as block
 use Rattle.gen_model.specs.Blocks.{words}

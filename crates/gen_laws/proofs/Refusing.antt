@@ -14,12 +14,14 @@ use Rattle.insert_model.specs.declared.fault.InsertKind.TheVariants.{NotDecoded,
 use Rattle.insert_model.specs.declared.line.Line.{Line}
 use Rattle.insert_model.specs.Words.{unit_words}
 use Rattle.insert_model.specs.Source.{lines}
-use Rattle.insert_model.specs.Units.{static_bytes, unit}
-use Rattle.insert_model.specs.Inserted.{moved, place_map, units, with_guards, inserted}
+use Rattle.insert_model.specs.Units.{static_bytes}
+use Rattle.insert_model.specs.Groups.{Group, groups}
+use Rattle.insert_model.specs.Layout.{Jumps, unit_in, units, final, final_units, place_map}
+use Rattle.insert_model.specs.Inserted.{moved, with_guards, inserted}
 use Rattle.insert_model.specs.Faults.{IsStartOffset, LineHas, LinesHave, DataMiss, ExportsMiss, Hits, most_words, Passes, IsFault}
-use Rattle.insert_model.specs.Laws.{LineLaw}
+use Rattle.insert_model.specs.Laws.{LineLaw, line_units, StandsAlone, FirstVersionLaw}
 use Rattle.insert_laws.specs.Shapes.{IsCleanLine}
-use Rattle.insert_laws.proofs.ShapedUnits.{AllClean}
+use Rattle.insert_laws.proofs.CleanLines.{AllClean}
 use Rattle.gen_model.specs.declared.block.Block.{Block}
 use Rattle.gen_model.specs.Blocks.{words, second, second_at}
 use Rattle.gen_model.specs.Generated.{blocks, relocs_from, generated}
@@ -81,6 +83,7 @@ exports_miss o es x e (j, m, h, f, p) = let none : length es ≡ 0 = ap length e
 
 record IsMadeFrom (n : ℕ) (o : Object) : Type 0 where
   made : Made o (blocks n)
+  first : o.version ≡ 1
   entry_is : o.entry ≡ 0
   no_exports : o.exports ≡ []
 
@@ -94,6 +97,7 @@ made_from n o e = record {
     suit = all_suit n;
     closed = all_closed n;
   };
+  first = ap (λ (f : Fields). f.version) e;
   entry_is = ap (λ (f : Fields). f.entry) e;
   no_exports = ap (λ (f : Fields). f.exports) e;
 }
@@ -107,44 +111,53 @@ no_hit line n o m k x (inr (e, inr (inr h))) =
 
 -- ---- how many words
 
-words_most : LineLaw → (n : ℕ) (o : Object) (size : ℕ) → Made o (blocks n) → length (units size (lines (fields o))) ≤ 7664
-words_most line n o size made =
-    omega (arith, ap (λ (ls : List Line). length (units size ls)) (lines_are o (blocks n) made line), blocks_grown size o.relocs 0 (blocks n) (all_suit n), all_growth n)
+-- each line has its own unit, since the object has version 1
+words_most : LineLaw → FirstVersionLaw → (n : ℕ) (o : Object) → IsMadeFrom n o → length (final_units (fields o)) ≤ 7664
+words_most line first n o m =
+    let alone : StandsAlone (fields o) = first (fields o) (omega (arith, m.first)) in
+    omega (
+      arith,
+      ap length alone.are,
+      ap (λ (ls : List Line). length (line_units (fields o) ls)) (lines_are o (blocks n) m.made line),
+      blocks_grown (fields o) o.relocs 0 (blocks n) (all_suit n),
+      all_growth n,
+    )
 
-part_less : (size : ℕ) (xs ys : List Line) → length (units size xs) ≤ length (units size (xs ++ ys))
+part_less : (js : Jumps) (size : ℕ) (xs ys : List Group) → length (units js size xs) ≤ length (units js size (xs ++ ys))
 unfolding units
-part_less size xs ys =
-    omega (arith, ap length (flat_map-append (λ (l : Line). unit_words (unit size l)) xs ys), length-append (units size xs) (units size ys))
+part_less js size xs ys =
+    omega (arith, ap length (flat_map-append (λ (g : Group). unit_words (unit_in js size g)) xs ys), length-append (units js size xs) (units js size ys))
 
-never_passes : LineLaw → (n : ℕ) (o : Object) (x : ℕ) → Made o (blocks n) → Passes o x → ⊥
-unfolding most_words
-never_passes line n o x made p =
-    let split : lines (fields o) ≡ (p.before ++ p.line ∷ []) ++ p.after = p.are ∙ sym (append_assoc p.before (p.line ∷ []) p.after) in
-    let less : length (units (static_bytes (fields o)) (p.before ++ p.line ∷ [])) ≤ length (units (static_bytes (fields o)) (lines (fields o))) =
-    subst (λ (ls : List Line). length (units (static_bytes (fields o)) (p.before ++ p.line ∷ [])) ≤ length (units (static_bytes (fields o)) ls)) (sym split)
-    (part_less (static_bytes (fields o)) (p.before ++ p.line ∷ []) p.after) in
-    let most : length (units (static_bytes (fields o)) (lines (fields o))) ≤ 7664 = words_most line n o (static_bytes (fields o)) made in
-    let passes : most_words < length (units (static_bytes (fields o)) (p.before ++ p.line ∷ [])) = p.passes in
+never_passes : LineLaw → FirstVersionLaw → (n : ℕ) (o : Object) (x : ℕ) → IsMadeFrom n o → Passes o x → ⊥
+unfolding most_words final_units
+never_passes line first n o x m p =
+    let js : Jumps = final (fields o) in
+    let size : ℕ = static_bytes (fields o) in
+    let split : groups (fields o) ≡ (p.before ++ p.group ∷ []) ++ p.after = p.are ∙ sym (append_assoc p.before (p.group ∷ []) p.after) in
+    let less : length (units js size (p.before ++ p.group ∷ [])) ≤ length (units js size (groups (fields o))) =
+    subst (λ (gs : List Group). length (units js size (p.before ++ p.group ∷ [])) ≤ length (units js size gs)) (sym split) (part_less js size (p.before ++ p.group ∷ []) p.after) in
+    let most : length (units js size (groups (fields o))) ≤ 7664 = words_most line first n o m in
+    let passes : most_words < length (units js size (p.before ++ p.group ∷ [])) = p.passes in
     omega (arith, less, most, passes)
 
 -- ---- the laws
 
-never : OneStands → LineLaw → (n : ℕ) (o : Object) → IsMadeFrom n o → (k : InsertKind) (x : ℕ) → IsFault o k x → ⊥
-never one line n o m NotDecoded x h = let s : IsSpelled o.code h.place = spelled o (blocks n) m.made one h.place h.bad.start in h.bad.none s.instr s.words s.stands
-never one line n o m UsesCheckRegister x h = no_hit line n o m UsesCheckRegister x h.first.hit
-never one line n o m Forbidden x h = no_hit line n o m Forbidden x h.first.hit
-never one line n o m BadTarget x h = no_hit line n o m BadTarget x h.first.hit
-never one line n o m TooLarge x h = never_passes line n o x m.made h.passes
+never : OneStands → LineLaw → FirstVersionLaw → (n : ℕ) (o : Object) → IsMadeFrom n o → (k : InsertKind) (x : ℕ) → IsFault o k x → ⊥
+never one line first n o m NotDecoded x h = let s : IsSpelled o.code h.place = spelled o (blocks n) m.made one h.place h.bad.start in h.bad.none s.instr s.words s.stands
+never one line first n o m UsesCheckRegister x h = no_hit line n o m UsesCheckRegister x h.first.hit
+never one line first n o m Forbidden x h = no_hit line n o m Forbidden x h.first.hit
+never one line first n o m BadTarget x h = no_hit line n o m BadTarget x h.first.hit
+never one line first n o m TooLarge x h = never_passes line first n o x m h.passes
 
-pub no_fault : OneStands → LineLaw → NeverRefused
-no_fault one line n o e k x h = never one line n o (made_from n o e) k x h
+pub no_fault : OneStands → LineLaw → FirstVersionLaw → NeverRefused
+no_fault one line first n o e k x h = never one line first n o (made_from n o e) k x h
 
-guarded_long : (f : Fields) → length (with_guards f).code ≡ length (units (static_bytes f) (lines f))
+guarded_long : (f : Fields) → length (with_guards f).code ≡ length (final_units f)
 unfolding with_guards
-guarded_long f = length-map (units (static_bytes f) (lines f)) (moved (place_map f))
+guarded_long f = length-map (final_units f) (moved (place_map f))
 
-pub few_words : LineLaw → StaysSmall
+pub few_words : LineLaw → FirstVersionLaw → StaysSmall
 unfolding inserted
-few_words line n o q e i =
+few_words line first n o q e i =
     let m : IsMadeFrom n o = made_from n o e in
-    omega (arith, ap (λ (f : Fields). length f.code) i.is, guarded_long (fields o), words_most line n o (static_bytes (fields o)) m.made)
+    omega (arith, ap (λ (f : Fields). length f.code) i.is, guarded_long (fields o), words_most line first n o m)

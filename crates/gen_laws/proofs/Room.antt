@@ -1,26 +1,23 @@
 -- A generated object with its guards has room where there is no other.
-use Rattle.std.proofs.Common.{◌≡◌, ℕ, ◌+◌, ◌-◌, ◌*◌, ◌/◌, ◌≤◌, ◌==◌, nat_le, if◌then◌else◌, Bool, true, false, List, [], ◌∷◌, length, Option, Result, Ok, Err, refl, ap, ◌∙◌, arith, rules}
+use Rattle.std.proofs.Common.{◌≡◌, ℕ, ◌+◌, ◌-◌, ◌*◌, ◌/◌, ◌≤◌, ◌==◌, nat_le, if◌then◌else◌, Bool, true, false, List, [], ◌∷◌, length, Ok, Err, refl, ap, ◌∙◌, arith, rules}
 use Rattle.std.specs.List.{fold}
 use Rattle.code_model.specs.declared.object.Object.{Object}
-use Rattle.code_model.specs.declared.parts.Export.{Export}
 use Rattle.code_model.specs.declared.parts.Reloc.{Reloc}
 use Rattle.code_model.specs.Fields.{Fields, fields}
 use Rattle.kernel_model.specs.declared.map.TheConstants.{CODE_POOL, CODE_POOL_END, DATA_POOL, DATA_POOL_END}
-use Rattle.kernel_model.specs.declared.kinds.Kind.{Kind}
 use Rattle.kernel_model.specs.declared.kinds.Kind.TheVariants.{App}
 use Rattle.kernel_model.specs.Layout.{empty}
 use Rattle.place_model.specs.declared.places.Pool.TheVariants.{Code, Data}
 use Rattle.place_model.specs.declared.places.Regions.{Regions}
-use Rattle.place_model.specs.declared.places.NoRoom.{NoRoom}
 use Rattle.place_model.specs.Gaps.{gaps, longest, lowest, place_in}
 use Rattle.place_model.specs.Placing.{pool_range, free_from, placing}
 use Rattle.load_model.specs.Domains.{code_length, region_length}
-use Rattle.load_model.specs.Loading.{Loadable, places_of}
-use Rattle.node_model.specs.Systems.{System}
+use Rattle.load_model.specs.Loading.{places_of}
 use Rattle.node_model.specs.Booting.{empty_system, loaded, booted, by_places, begun_if, Refusal}
-use Rattle.insert_model.specs.Inserted.{place_map, moved_data, with_guards, inserted}
+use Rattle.insert_model.specs.Layout.{place_map}
+use Rattle.insert_model.specs.Inserted.{moved_data, with_guards, inserted}
 use Rattle.insert_model.specs.Faults.{IsInserted}
-use Rattle.insert_model.specs.Laws.{LineLaw}
+use Rattle.insert_model.specs.Laws.{LineLaw, FirstVersionLaw}
 use Rattle.gen_model.specs.Generated.{blocks, relocs_from, generated}
 use Rattle.gen_laws.specs.Laws.{HasRoom}
 use Rattle.gen_laws.proofs.Refusing.{InCode, all_in_code, few_words}
@@ -48,11 +45,11 @@ guarded_is : (n : ℕ) (o q : Object) → fields o ≡ generated n → IsInserte
 unfolding inserted
 guarded_is n o q e i = i.is ∙ ap with_guards e
 
-is_small : LineLaw → (n : ℕ) (o q : Object) → fields o ≡ generated n → IsInserted o q → IsSmall q
+is_small : LineLaw → FirstVersionLaw → (n : ℕ) (o q : Object) → fields o ≡ generated n → IsInserted o q → IsSmall q
 unfolding with_guards generated
-is_small line n o q e i =
+is_small line first n o q e i =
     let is : fields q ≡ with_guards (generated n) = guarded_is n o q e i in
-    let few : length q.code ≤ 7664 = few_words line n o q e i in
+    let few : length q.code ≤ 7664 = few_words line first n o q e i in
     record {
       app = ap (λ (f : Fields). f.kind) is;
       no_exports = ap (λ (f : Fields). f.exports) is;
@@ -103,5 +100,5 @@ unfolding booted loaded empty_system
 boots q units s e h =
     cc (ap (λ r. begun_if (by_places empty_system 0 (record { object = q; units = units }) r)) (small_places q s), h)
 
-pub room : LineLaw → HasRoom
-room line n o q units e i refusal h = boots q units (is_small line n o q e i) refusal h
+pub room : LineLaw → FirstVersionLaw → HasRoom
+room line first n o q units e i refusal h = boots q units (is_small line first n o q e i) refusal h

@@ -5,7 +5,6 @@ use Rattle.code_model.specs.Fields.{fields}
 use Rattle.gen_model.specs.Generated.{generated}
 use Rattle.insert_model.specs.declared.fault.InsertKind.{InsertKind}
 use Rattle.insert_model.specs.Faults.{IsFault, IsInserted}
-use Rattle.load_model.specs.Loading.{Loadable}
 use Rattle.node_model.specs.Booting.{booted, Refusal}
 
 -- a generated object has no fault

@@ -7,7 +7,7 @@
 ghost use Rattle.gen_laws.specs.Laws.{NeverRefused, StaysSmall, HasRoom};
 
 use code_laws::one_stands;
-use insert_model::laws::line_stands;
+use insert_model::laws::{first_version, line_stands};
 
 /// Nothing is wrong with a generated object: the inserter never refuses it.
 pub fn never_refused()
@@ -15,6 +15,7 @@ pub fn never_refused()
 {
     one_stands();
     line_stands();
+    first_version();
 }
 
 /// A generated object with its guards has at most 7,664 words.
@@ -22,6 +23,7 @@ pub fn stays_small()
     ensures { StaysSmall }
 {
     line_stands();
+    first_version();
 }
 
 /// A generated object with its guards has room on an empty node.
@@ -29,4 +31,5 @@ pub fn has_room()
     ensures { HasRoom }
 {
     line_stands();
+    first_version();
 }

@@ -1,6 +1,5 @@
 -- Branches and calls of pieces name starts or entries.
 use Rattle.std.proofs.Common.{◌≡◌, ℕ, ◌+◌, ◌*◌, ◌≤◌, if◌then◌else◌, Bool, true, false, List, [], ◌∷◌, ◌++◌, ◌⊎◌, inl, inr, Option, None, Some, ℤ, pos, negsuc, ◌+ℤ◌, refl, sym, subst, ap, ◌∙◌, arith}
-use Rattle.std.specs.List.{flat_map}
 use Rattle.std.proofs.lemmas.Int.{ints}
 use Rattle.msp_encode.specs.declared.instr.Op1.{Op1}
 use Rattle.msp_encode.specs.declared.instr.Op1.TheVariants.{Rrc, Swpb, Rra, Sxt, Push, Call}
@@ -24,21 +23,25 @@ use Rattle.kernel_model.specs.declared.kinds.Kind.TheVariants.{App, Module}
 use Rattle.code_model.specs.declared.parts.RelKind.{RelKind}
 use Rattle.code_model.specs.declared.parts.RelKind.TheVariants.{Code, Lo, Hi}
 use Rattle.code_model.specs.Relocs.{HasReloc, Unrelocated}
-use Rattle.code_model.specs.Guards.{DstIs}
+use Rattle.code_model.specs.Fields.{fields}
+use Rattle.code_model.specs.Guards.{high_word, DstIs}
 use Rattle.code_model.specs.Rules.{IsBranch, IsCall, IsJumpEntry, IsCallEntry, IsUnitOffset, IsBranchTarget, IsCallTarget, GoesAstray}
 use Rattle.insert_model.specs.declared.aim.Aim.{Aim}
 use Rattle.insert_model.specs.declared.aim.Aim.TheVariants.{ToPc, ToSp, ToMemory, Elsewhere}
 use Rattle.insert_model.specs.declared.line.Line.{Line}
 use Rattle.insert_model.specs.declared.piece.Piece.{Piece}
 use Rattle.insert_model.specs.Source.{own_piece, own}
+use Rattle.insert_model.specs.Groups.{Cell, cell, Group}
+use Rattle.insert_model.specs.Layout.{difference_of, beside}
 use Rattle.insert_model.specs.Inserted.{moved_value}
 use Rattle.insert_model.specs.Faults.{IsStartOffset, IsJumpStart, IsSourceTarget, IsSourceCallee, GoesAmiss, JumpsAmiss}
-use Rattle.insert_model.specs.Guards.{base, plain, save, restore, branch, take_sp, pop_r4, give_sp, store_guard, growth_guard, pop_guard, sp_guard}
-use Rattle.insert_model.specs.Units.{aim, aim_one, writes, is_popped, is_immediate, is_pc, is_plain_pop, into_r4, through_r4, from_r4, popping, writing, changing, calling_value, one_unit, target_offset, jump_unit, unit_of, unit}
+use Rattle.insert_model.specs.Guards.{base, plain, save, restore, branch, take_sp, pop_r4, give_sp, region_guard, store_guard, growth_guard, pop_guard, sp_guard}
+use Rattle.insert_model.specs.Units.{static_bytes, aim, aim_one, writes, is_popped, is_immediate, is_pc, is_plain_pop, into_r4, through_r4, from_r4, popping, writing, changing, calling_value, one_unit, target_offset, jump_unit, unit_of, unit}
 use Rattle.insert_laws.specs.Pieces.{pieces_of, moved_dst, moved_instr}
 use Rattle.insert_laws.specs.Shapes.{IsCleanLine}
 use Rattle.insert_laws.proofs.UnitsFit.{own_instr}
-use Rattle.insert_laws.proofs.ShapedUnits.{AllClean}
+use Rattle.insert_laws.proofs.CleanGroups.{AllGroups}
+use Rattle.insert_laws.proofs.GroupUnits.{IsBeside, near_piece, beside_is, all_pieces}
 
 -- ---- what a branch and a call may name
 
@@ -101,8 +104,8 @@ saves o = reg o Mov Wide (src.Reg 2) 5 None (omega arith)
 restores : (o : Object) → Aimed o restore
 restores o = reg o Mov Wide (src.Reg 5) 2 None (omega arith)
 
-store_aimed : (o : Object) (n x : ℕ) (k : Option RelKind) → AllAimed o (store_guard n x k)
-store_aimed o n x k = (
+region_aimed : (o : Object) (n x high : ℕ) (k : Option RelKind) → AllAimed o (region_guard n x high k)
+region_aimed o n x high k = (
   saves o,
   (
     reg o Mov Wide (base n) 4 None (omega arith),
@@ -110,7 +113,7 @@ store_aimed o n x k = (
       reg o Add Wide (src.Immediate x) 4 k (omega arith),
       (
         reg o Cmp Wide (src.Immediate 0) 4 (Some Lo) (omega arith),
-        (tt, (reg o Cmp Wide (src.Immediate 0) 4 (Some Hi) (omega arith), (tt, (entry o STORE_FAULT (inl refl), (restores o, tt))))),
+        (tt, (reg o Cmp Wide (src.Immediate high) 4 (Some Hi) (omega arith), (tt, (entry o STORE_FAULT (inl refl), (restores o, tt))))),
       ),
     ),
   ),
@@ -163,7 +166,7 @@ module _ (o : Object) (l : Line) (clean : IsCleanLine o l) where
       ] in
       clean.lands (inr (inl (subst (GoesAmiss o l) (sym e) (b, misses))))
 
-  target_is : (k : ℤ) (t : ℕ) → pos t ≡ pos (l.at + 1) +ℤ k → target_offset l.at k ≡ 2 * t
+  pub target_is : (k : ℤ) (t : ℕ) → pos t ≡ pos (l.at + 1) +ℤ k → target_offset l.at k ≡ 2 * t
   target_is (pos m) t e = omega (arith, ints, e)
   target_is (negsuc m) t e = omega (arith, ints, e)
 
@@ -185,13 +188,13 @@ writing_aimed o op w s d p ToPc e h =
     aimed_if o (is_immediate s) (p ∷ []) (into_r4 Mov Wide s p.source ∷ branch GOES None ∷ []) (λ t. own_aimed o p (instr.Two op w s d) e h) (λ f. (reg o Mov Wide s 4 p.source (omega arith), (entry o GOES (inr (inr refl)), tt)))
 writing_aimed o op w s d p ToSp e h =
     aimed_append o (take_sp ∷ into_r4 op w s p.source ∷ sp_guard) (give_sp ∷ []) (reg o Mov Wide (src.Reg 1) 4 None (omega arith), (reg o op w s 4 p.source (omega arith), sp_aimed o)) (reg o Mov Wide (src.Reg 4) 1 None (omega arith), tt)
-writing_aimed o op w s d p (ToMemory n x k) e h = aimed_append o (store_guard n x k) (through_r4 op w s p.source ∷ []) (store_aimed o n x k) (stored o op w s 4 0 p.source, tt)
+writing_aimed o op w s d p (ToMemory n x k) e h = aimed_append o (store_guard n x k) (through_r4 op w s p.source ∷ []) (region_aimed o n x 0 k) (stored o op w s 4 0 p.source, tt)
 writing_aimed o op w s d p Elsewhere e h = own_aimed o p (instr.Two op w s d) e h
 
 changing_aimed : (o : Object) (op : Op1) (w : Width) (s : Src) (p : Piece) (a : Aim) → (IsCall op → ⊥) → p.instr ≡ instr.One op w s → AllAimed o (changing op w p a)
 changing_aimed o op w s p ToPc other e = own_aimed o p (instr.One op w s) e (λ b never. other b)
 changing_aimed o op w s p ToSp other e = own_aimed o p (instr.One op w s) e (λ b never. other b)
-changing_aimed o op w s p (ToMemory n x k) other e = aimed_append o (store_guard n x k) (plain (instr.One op w (src.Indirect 4)) ∷ []) (store_aimed o n x k) ((λ b never. other b), tt)
+changing_aimed o op w s p (ToMemory n x k) other e = aimed_append o (store_guard n x k) (plain (instr.One op w (src.Indirect 4)) ∷ []) (region_aimed o n x 0 k) ((λ b never. other b), tt)
 changing_aimed o op w s p Elsewhere other e = own_aimed o p (instr.One op w s) e (λ b never. other b)
 
 calls_kernel : (o : Object) → AimedInstr o (instr.One Call Wide (src.Immediate CALLS)) None
@@ -236,10 +239,14 @@ unit_aimed : (o : Object) (l : Line) (size : ℕ) → IsCleanLine o l → AllAim
 unfolding unit
 unit_aimed o l size c = instr_aimed o l size l.instr c refl
 
-pub lines_aimed : (o : Object) (size : ℕ) (ls : List Line) → AllClean o ls → AllAimed o (pieces_of size ls)
-unfolding pieces_of
-lines_aimed o size [] c = tt
-lines_aimed o size (l ∷ ls) c = aimed_append o (unit size l) (flat_map (unit size) ls) (unit_aimed o l size c.0) (lines_aimed o size ls c.1)
+near_aimed : (o : Object) (most : ℕ) (c : Cell) (l : Line) → IsBeside o most c l → AllAimed o (beside c l ∷ [])
+near_aimed o most c l h =
+    let p : AllAimed o (near_piece h.op h.width h.source (difference_of c (cell l)) (own l).source ∷ []) = (stored o h.op h.width h.source 4 (difference_of c (cell l)) (own l).source, tt) in
+    subst (λ (r : Piece). AllAimed o (r ∷ [])) (sym (beside_is o most c l h)) p
+
+pub pieces_aimed : (o : Object) (gs : List Group) → AllGroups o gs → AllAimed o (pieces_of (fields o) gs)
+pieces_aimed o gs c =
+    all_pieces o (AllAimed o) tt (aimed_append o) (λ l h. unit_aimed o l (static_bytes (fields o)) h) (λ l d k e s. (tt, tt)) (λ r d f. region_aimed o d.base d.index (high_word r) d.kind) (near_aimed o) gs c
 
 -- ---- as it stands
 

@@ -20,6 +20,8 @@ use Rattle.msp_encode.specs.Spelling.{src_words, dst_words}
 use Rattle.code_model.specs.declared.object.Object.{Object}
 use Rattle.code_model.specs.declared.parts.RelKind.{RelKind}
 use Rattle.code_model.specs.declared.parts.RelKind.TheVariants.{Code, Lo, Hi}
+use Rattle.code_model.specs.Fields.{fields}
+use Rattle.code_model.specs.Guards.{high_word}
 use Rattle.code_model.specs.Rules.{SrcCarries, DstCarries, Carries}
 use Rattle.insert_model.specs.declared.aim.Aim.{Aim}
 use Rattle.insert_model.specs.declared.aim.Aim.TheVariants.{ToPc, ToSp, ToMemory, Elsewhere}
@@ -29,15 +31,18 @@ use Rattle.insert_model.specs.declared.piece.Word.{Word}
 use Rattle.msp_encode.specs.Spelled.{count}
 use Rattle.insert_model.specs.Words.{with_kind, operand_words, piece_words, unit_words}
 use Rattle.insert_model.specs.Source.{own_piece, own}
-use Rattle.insert_model.specs.Guards.{base, plain, branch, take_sp, pop_r4, give_sp, store_guard, growth_guard, pop_guard, sp_guard}
-use Rattle.insert_model.specs.Units.{aim, aim_one, writes, is_popped, is_immediate, is_pc, is_plain_pop, into_r4, through_r4, from_r4, popping, writing, changing, calling_value, one_unit, target_offset, jump_unit, unit_of, unit}
+use Rattle.insert_model.specs.Guards.{base, plain, branch, take_sp, pop_r4, give_sp, region_guard, store_guard, growth_guard, pop_guard, sp_guard}
+use Rattle.insert_model.specs.Units.{static_bytes, aim, aim_one, writes, is_popped, is_immediate, is_pc, is_plain_pop, into_r4, through_r4, from_r4, popping, writing, changing, calling_value, one_unit, target_offset, jump_unit, unit_of, unit}
+use Rattle.insert_model.specs.Groups.{Cell, cell, Group}
+use Rattle.insert_model.specs.Layout.{difference_of, beside}
 use Rattle.insert_laws.specs.Pieces.{pieces_of, moved_src, moved_dst, moved_instr}
 use Rattle.insert_laws.specs.Laws.{kind_in}
 use Rattle.insert_laws.specs.Shapes.{IsCleanLine}
 use Rattle.insert_laws.proofs.UnitsFit.{own_instr}
 use Rattle.insert_laws.proofs.Guarding.{span, span_cons, span_none}
-use Rattle.insert_laws.proofs.UnitStarts.{src_count}
-use Rattle.insert_laws.proofs.ShapedUnits.{AllClean}
+use Rattle.insert_laws.proofs.ServedForms.{src_count}
+use Rattle.insert_laws.proofs.CleanGroups.{AllGroups}
+use Rattle.insert_laws.proofs.GroupUnits.{IsBeside, near_piece, beside_is, all_pieces}
 use Rattle.kernel_model.specs.declared.map.TheConstants.{STACK_LIMIT, STACK_TOP}
 use Rattle.kernel_model.specs.declared.entries.TheConstants.{CALLS, GOES, STACK_FAULT, STORE_FAULT}
 
@@ -92,9 +97,9 @@ two s d = (bare s, bare_dst d)
 wide : (x : ℕ) (k : Option RelKind) (d : Dst) → SrcMay (src.Immediate x) k × DstMay d None
 wide x k d = (any x k, bare_dst d)
 
-store_may : (n x : ℕ) (k : Option RelKind) → AllMay (store_guard n x k)
-store_may n x k =
-    (two (src.Reg 2) (dst.Reg 5), (two (base n) (dst.Reg 4), (wide x k (dst.Reg 4), (wide 0 (Some Lo) (dst.Reg 4), (tt, (wide 0 (Some Hi) (dst.Reg 4), (tt, (wide STORE_FAULT None (dst.Reg 0), (two (src.Reg 5) (dst.Reg 2), tt)))))))))
+region_may : (n x high : ℕ) (k : Option RelKind) → AllMay (region_guard n x high k)
+region_may n x high k =
+    (two (src.Reg 2) (dst.Reg 5), (two (base n) (dst.Reg 4), (wide x k (dst.Reg 4), (wide 0 (Some Lo) (dst.Reg 4), (tt, (wide high (Some Hi) (dst.Reg 4), (tt, (wide STORE_FAULT None (dst.Reg 0), (two (src.Reg 5) (dst.Reg 2), tt)))))))))
 
 growth_may : AllMay growth_guard
 growth_may = (two (src.Reg 2) (dst.Reg 5), (two (src.Absolute STACK_LIMIT) (dst.Reg 1), (tt, (wide STACK_FAULT None (dst.Reg 0), (two (src.Reg 5) (dst.Reg 2), tt)))))
@@ -182,13 +187,13 @@ writing_may op w s d p ToPc e h =
     may_if (is_immediate s) (p ∷ []) (into_r4 Mov Wide s p.source ∷ branch GOES None ∷ []) (own_may p (instr.Two op w s d) e h) ((h.0, bare_dst (dst.Reg 4)), (wide GOES None (dst.Reg 0), tt))
 writing_may op w s d p ToSp e h =
     may_append (take_sp ∷ into_r4 op w s p.source ∷ sp_guard) (give_sp ∷ []) (two (src.Reg 1) (dst.Reg 4), ((h.0, bare_dst (dst.Reg 4)), sp_may)) (two (src.Reg 4) (dst.Reg 1), tt)
-writing_may op w s d p (ToMemory n x k) e h = may_append (store_guard n x k) (through_r4 op w s p.source ∷ []) (store_may n x k) ((h.0, bare_dst (dst.Indexed 4 0)), tt)
+writing_may op w s d p (ToMemory n x k) e h = may_append (store_guard n x k) (through_r4 op w s p.source ∷ []) (region_may n x 0 k) ((h.0, bare_dst (dst.Indexed 4 0)), tt)
 writing_may op w s d p Elsewhere e h = own_may p (instr.Two op w s d) e h
 
 changing_may : (op : Op1) (w : Width) (s : Src) (p : Piece) (a : Aim) → p.instr ≡ instr.One op w s → SrcMay s p.source → AllMay (changing op w p a)
 changing_may op w s p ToPc e h = own_may p (instr.One op w s) e h
 changing_may op w s p ToSp e h = own_may p (instr.One op w s) e h
-changing_may op w s p (ToMemory n x k) e h = may_append (store_guard n x k) (plain (instr.One op w (src.Indirect 4)) ∷ []) (store_may n x k) (bare (src.Indirect 4), tt)
+changing_may op w s p (ToMemory n x k) e h = may_append (store_guard n x k) (plain (instr.One op w (src.Indirect 4)) ∷ []) (region_may n x 0 k) (bare (src.Indirect 4), tt)
 changing_may op w s p Elsewhere e h = own_may p (instr.One op w s) e h
 
 one_may : (size : ℕ) (op : Op1) (w : Width) (s : Src) (p : Piece) → p.instr ≡ instr.One op w s → SrcMay s p.source → AllMay (one_unit size op w s p)
@@ -226,10 +231,16 @@ unit_may : (o : Object) (l : Line) (size : ℕ) → IsCleanLine o l → AllMay (
 unfolding unit
 unit_may o l size c = instr_may o l size l.instr c refl
 
-pub lines_may : (o : Object) (size : ℕ) (ls : List Line) → AllClean o ls → AllMay (pieces_of size ls)
-unfolding pieces_of
-lines_may o size [] c = tt
-lines_may o size (l ∷ ls) c = may_append (unit size l) (flat_map (unit size) ls) (unit_may o l size c.0) (lines_may o size ls c.1)
+-- the source's word is the line's own
+near_may : (o : Object) (most : ℕ) (c : Cell) (l : Line) → IsBeside o most c l → AllMay (beside c l ∷ [])
+near_may o most c l h =
+    let t : MayInstr (instr.Two h.op h.width h.source (dst.Indexed h.base h.index)) (own l).source (own l).destination = two_own o l h.clean h.op h.width h.source (dst.Indexed h.base h.index) h.line in
+    let p : AllMay (near_piece h.op h.width h.source (difference_of c (cell l)) (own l).source ∷ []) = ((t.0, bare_dst (dst.Indexed 4 (difference_of c (cell l)))), tt) in
+    subst (λ (r : Piece). AllMay (r ∷ [])) (sym (beside_is o most c l h)) p
+
+pub pieces_all_may : (o : Object) (gs : List Group) → AllGroups o gs → AllMay (pieces_of (fields o) gs)
+pieces_all_may o gs c =
+    all_pieces o AllMay tt may_append (λ l h. unit_may o l (static_bytes (fields o)) h) (λ l d k e s. (tt, tt)) (λ r d f. region_may d.base d.index (high_word r) d.kind) (near_may o) gs c
 
 -- ---- a word of a piece
 

@@ -1,5 +1,6 @@
 -- The rules on forms refuse no object with guards.
-use Rattle.std.proofs.Common.{◌≡◌, ℕ, ◌+◌, List, [], ◌∷◌, ◌++◌, map, length, Option, Some, refl, sym, subst, ap, ◌∙◌, arith}
+use Rattle.std.proofs.Common.{◌≡◌, ℕ, ◌+◌, List, [], ◌∷◌, ◌++◌, length, Option, Some, refl, sym, subst, ap, ◌∙◌, arith}
+use Rattle.std.proofs.lemmas.List.{append-nil}
 use Rattle.msp_encode.specs.declared.instr.Op2.{Op2}
 use Rattle.msp_encode.specs.declared.instr.Op2.TheVariants.{Mov}
 use Rattle.msp_encode.specs.declared.instr.Width.{Width}
@@ -10,8 +11,6 @@ use Rattle.msp_encode.specs.declared.instr.Dst.{Dst}
 use Rattle.msp_encode.specs.declared.instr.Dst.TheVariants as dst
 use Rattle.msp_encode.specs.declared.instr.Instr.{Instr}
 use Rattle.msp_encode.specs.declared.instr.Instr.TheVariants as instr
-use Rattle.msp_encode.specs.Laws.{LegalByCases}
-use Rattle.msp_decode.specs.Function.{ReadingLaw}
 use Rattle.msp_decode.specs.Laws.{OneInstruction, FirstWordDecides}
 use Rattle.code_model.specs.declared.object.Object.{Object}
 use Rattle.code_model.specs.declared.parts.RelKind.{RelKind}
@@ -23,32 +22,33 @@ use Rattle.code_model.specs.declared.guards.GuardKind.TheVariants as guard
 use Rattle.code_model.specs.declared.rules.Rule.{Rule}
 use Rattle.code_model.specs.declared.rules.Rule.TheVariants as rule
 use Rattle.code_model.specs.Starts.{Stands, Start, Bad}
-use Rattle.code_model.specs.Guards.{Guarded, Own}
+use Rattle.code_model.specs.Guards.{high_word, Guarded, Own}
 use Rattle.code_model.specs.Rules.{IsReti, WritesReg, IsBranch, WritesMemory, WritesWild, ReadsStack, IsPushOrCall, IsGuardedStore, BreaksAt, HasWrongReloc, Refuses}
-use Rattle.code_laws.specs.Laws.{IsSame, OneStands}
+use Rattle.code_laws.specs.Laws.{IsSame}
 use Rattle.insert_model.specs.declared.piece.Piece.{Piece}
 use Rattle.msp_encode.specs.Spelled.{count}
 use Rattle.insert_model.specs.Words.{unit_words}
-use Rattle.insert_model.specs.Source.{lines}
+use Rattle.insert_model.specs.Guards.{region_guard}
 use Rattle.insert_model.specs.Units.{static_bytes}
-use Rattle.insert_model.specs.Inserted.{moved, place_map, with_guards, inserted}
+use Rattle.insert_model.specs.Groups.{Group, groups}
+use Rattle.insert_model.specs.Layout.{place_map}
+use Rattle.insert_model.specs.Inserted.{with_guards, inserted}
 use Rattle.insert_model.specs.Faults.{ChangesFlags, IsInserted}
 use Rattle.code_model.specs.Rules as code
-use Rattle.insert_laws.specs.Pieces.{pieces, moved_src, moved_dst, moved_instr, standing, PieceAt}
+use Rattle.insert_laws.specs.Pieces.{unit_of_group, pieces_of, pieces, moved_src, moved_dst, moved_instr, standing, PieceAt}
 use Rattle.insert_laws.specs.Laws.{kind_in, PiecesStand, IsFormRule, FormRulesPass}
 use Rattle.insert_laws.specs.Shapes.{saving, IsGuard, IsServed, Shaped, IsFreeForm}
-use Rattle.insert_laws.proofs.Placed.{pieces_stand}
+use Rattle.insert_laws.proofs.CleanGroups.{Premises, IsCleanGroup, AllGroups, all_groups, front_groups}
+use Rattle.insert_laws.proofs.Placed.{code_words, pieces_stand}
 use Rattle.insert_laws.proofs.Relocated.{relocs_stand}
-use Rattle.insert_laws.proofs.Standing.{units_words}
-use Rattle.insert_laws.proofs.UnitsFit.{LinesFit, lines_fit}
 use Rattle.insert_laws.proofs.GuardWords.{IsWordsOf, no_reloc, a_reloc}
-use Rattle.insert_laws.proofs.Guarding.{span, size_span}
+use Rattle.insert_laws.proofs.Guarding.{span, size_span, IsServedBy}
 use Rattle.insert_laws.proofs.Static.{size_stays, destination_kind, operand_kind, tame_stands}
-use Rattle.insert_laws.proofs.Tame.{AllTame, tame_member, lines_tame}
-use Rattle.insert_laws.proofs.Carried.{AllMay, may_member, lines_may, piece_may, carries_moved, WordOf, word_of}
+use Rattle.insert_laws.proofs.Tame.{AllTame, tame_member, pieces_tame}
+use Rattle.insert_laws.proofs.Carried.{AllMay, may_member, pieces_all_may, piece_may, carries_moved, WordOf, word_of}
 use Rattle.insert_laws.proofs.WordKinds.{source_kind, flags_moved}
 use Rattle.insert_laws.proofs.UnitStarts.{served_guarded, own_covered}
-use Rattle.insert_laws.proofs.ShapedUnits.{all_clean, all_shaped}
+use Rattle.insert_laws.proofs.ShapedUnits.{unit_shaped, groups_shaped}
 use Rattle.insert_laws.proofs.Roles.{Role, IsFree, IsOwn, Serves, role_of, reti_back, reg_back, memory_back, stack_back, push_back, branch_on, form_of, served_reti, served_reg, served_memory, served_stack, served_push}
 
 -- ---- a guard's own pieces aren't RETI
@@ -57,11 +57,14 @@ NotReti : List Piece → Type 0
 NotReti [] = Unit {0}
 NotReti (p ∷ ps) = (IsReti p.instr → ⊥) × NotReti ps
 
+region_reti : (n x high : ℕ) (k : Option RelKind) → NotReti (region_guard n x high k)
+unfolding NotReti
+region_reti n x high k = ((λ e. e), ((λ e. e), ((λ e. e), ((λ e. e), ((λ e. e), ((λ e. e), ((λ e. e), ((λ e. e), ((λ e. e), tt)))))))))
+
 own_reti : (g : GuardKind) (gs : List Piece) → IsGuard g gs → NotReti gs
 unfolding NotReti
-own_reti guard.Store gs h =
-    subst NotReti (sym h.are) ((λ e. e), ((λ e. e), ((λ e. e), ((λ e. e), ((λ e. e), ((λ e. e), ((λ e. e), ((λ e. e), ((λ e. e), tt)))))))))
-own_reti (guard.Wide r) gs h = absurd h
+own_reti guard.Store gs h = subst NotReti (sym h.are) (region_reti h.base h.index 0 h.kind)
+own_reti (guard.Wide r) gs h = subst NotReti (sym h.are) (region_reti h.base h.index (high_word r) h.kind)
 own_reti guard.Load gs h = absurd h
 own_reti guard.Growth gs h = subst NotReti (sym h) ((λ e. e), ((λ e. e), ((λ e. e), ((λ e. e), ((λ e. e), tt)))))
 own_reti guard.Pop gs h = subst NotReti (sym h) ((λ e. e), ((λ e. e), ((λ e. e), ((λ e. e), ((λ e. e), tt)))))
@@ -119,29 +122,31 @@ free_standing go p f e = f.no_save (saving_back go p.source p.destination p.inst
 
 -- ---- the object
 
-guarded_code : (f : Fields) → (with_guards f).code ≡ map (moved (place_map f)) (unit_words (pieces f))
-unfolding with_guards pieces
-guarded_code f = ap (map (moved (place_map f))) (units_words (static_bytes f) (lines f))
-
-code_words : (o q : Object) → IsInserted o q → q.code ≡ map (moved (place_map (fields o))) (unit_words (pieces (fields o)))
-unfolding inserted
-code_words o q i = ap (λ (f : Fields). f.code) i.is ∙ guarded_code (fields o)
-
 pub words_are : (o q : Object) → IsInserted o q → IsWordsOf o q (unit_words (pieces (fields o)))
 words_are o q i = record { code = code_words o q i; are = refl; relocs = relocs_stand o q i }
 
-pub source_fits : (o : Object) → ReadingLaw → LegalByCases → LinesFit (lines (fields o))
-unfolding lines
-source_fits o reads legal = lines_fit reads legal o.relocs o.code 0 0 o.form.words_small
+pub version_stays : (o q : Object) → IsInserted o q → q.version ≡ o.version
+unfolding inserted with_guards
+version_stays o q i = ap (λ (f : Fields). f.version) i.is
+
+-- pieces of groups in front are shaped for the object with guards
+pub front_shaped : Premises → (o q : Object) → IsInserted o q → (front rest : List Group) → groups (fields o) ≡ front ++ rest → Shaped IsFreeForm q.version (pieces_of (fields o) front)
+front_shaped h o q i front rest e =
+    subst (λ (v : ℕ). Shaped IsFreeForm v (pieces_of (fields o) front)) (sym (version_stays o q i)) (groups_shaped o front (front_groups o front rest (subst (AllGroups o) e (all_groups h o q i))))
+
+-- and so is a group's unit
+pub group_unit_shaped : (o q : Object) → IsInserted o q → (g : Group) → IsCleanGroup o g → Shaped IsFreeForm q.version (unit_of_group (fields o) g)
+group_unit_shaped o q i g c = subst (λ (v : ℕ). Shaped IsFreeForm v (unit_of_group (fields o) g)) (sym (version_stays o q i)) (unit_shaped o g c)
 
 -- ---- the rules
 
-module _ (one : OneStands) (reads : ReadingLaw) (legal : LegalByCases) (unique : OneInstruction) (decides : FirstWordDecides) (o q : Object) (i : IsInserted o q) where
+module _ (given : Premises) (unique : OneInstruction) (decides : FirstWordDecides) (o q : Object) (i : IsInserted o q) where
   stand : PiecesStand o q
-  stand = pieces_stand one reads legal o q i
+  stand = pieces_stand given o q i
 
-  pub shaped : Shaped IsFreeForm (pieces (fields o))
-  shaped = all_shaped o i.clean (source_fits o reads legal)
+  pub shaped : Shaped IsFreeForm q.version (pieces (fields o))
+  unfolding pieces
+  shaped = front_shaped given o q i (groups (fields o)) [] (sym (append-nil (groups (fields o))))
 
   -- the piece that starts at a place, and its role
   record Here (at : ℕ) (j : Instr) : Type 0 where
@@ -151,13 +156,13 @@ module _ (one : OneStands) (reads : ReadingLaw) (legal : LegalByCases) (unique :
     are : pieces (fields o) ≡ before ++ piece ∷ after
     place : at ≡ span before
     same : j ≡ standing (place_map (fields o)) piece
-    role : Role IsFreeForm (pieces (fields o)) before piece after
+    role : Role IsFreeForm q.version (pieces (fields o)) before piece after
 
   here : (at : ℕ) (j : Instr) (n : ℕ) → Start q.code at → Stands q.code at j n → Here at j
   here at j n start stands =
       let p : PieceAt (fields o) at = stand.starts at start in
       let s : IsSame j (standing (place_map (fields o)) p.piece) n (count (standing (place_map (fields o)) p.piece)) =
-      one q.code at j (standing (place_map (fields o)) p.piece) n (count (standing (place_map (fields o)) p.piece)) stands (stand.stands at p) in
+      given.one q.code at j (standing (place_map (fields o)) p.piece) n (count (standing (place_map (fields o)) p.piece)) stands (stand.stands at p) in
       record {
         before = p.before;
         piece = p.piece;
@@ -165,18 +170,18 @@ module _ (one : OneStands) (reads : ReadingLaw) (legal : LegalByCases) (unique :
         are = p.are;
         place = p.place ∙ size_span (place_map (fields o)) p.before;
         same = s.instr;
-        role = role_of IsFreeForm (pieces (fields o)) p.before p.piece p.after shaped p.are;
+        role = role_of IsFreeForm q.version (pieces (fields o)) p.before p.piece p.after shaped p.are;
       }
 
-  pub own_at : (at : ℕ) (x : List Piece) (r : Piece) (a : List Piece) (g : GuardKind) (u y : List Piece) (p : Piece) (b : List Piece) → IsGuard g (u ++ r ∷ y) → IsServed g p
+  pub own_at : (at : ℕ) (x : List Piece) (r : Piece) (a : List Piece) (g : GuardKind) (u y : List Piece) (p : Piece) (b : List Piece) → IsServedBy q.version g (u ++ r ∷ y) [] p
       → pieces (fields o) ≡ a ++ ((u ++ r ∷ y) ++ p ∷ b) → x ≡ a ++ u → at ≡ span x → Own q at
-  own_at at x r a g u y p b is h e ex place =
-      subst (Own q) (sym (place ∙ ap span ex)) (own_covered unique decides IsFreeForm o q stand (words_are o q i) (free_standing (place_map (fields o))) a g u r y p b is h e)
+  own_at at x r a g u y p b h e ex place =
+      subst (Own q) (sym (place ∙ ap span ex)) (own_covered unique decides IsFreeForm o q stand (words_are o q i) (free_standing (place_map (fields o))) a g u r y p b h e)
 
-  served_at : (at : ℕ) (x : List Piece) (r : Piece) (z a : List Piece) (g : GuardKind) (gs : List Piece) → IsGuard g gs → IsServed g r → pieces (fields o) ≡ a ++ (gs ++ r ∷ z) → x ≡ a ++ gs → at ≡ span x
+  served_at : (at : ℕ) (x : List Piece) (r : Piece) (z a : List Piece) (g : GuardKind) (gs done : List Piece) → IsServedBy q.version g gs done r → pieces (fields o) ≡ x ++ r ∷ z → x ≡ a ++ (gs ++ done) → at ≡ span x
       → Guarded q at g
-  served_at at x r z a g gs is h e ex place =
-      subst (λ (n : ℕ). Guarded q n g) (sym (place ∙ ap span ex)) (served_guarded unique decides IsFreeForm o q stand (words_are o q i) (free_standing (place_map (fields o))) a g gs r z is h e)
+  served_at at x r z a g gs done h e ex place =
+      subst (λ (n : ℕ). Guarded q n g) (sym place) (served_guarded unique decides IsFreeForm o q stand (words_are o q i) (free_standing (place_map (fields o))) x a g gs done r z h e ex)
 
   no_reti : (at : ℕ) → BreaksAt rule.Reti q at → ⊥
   no_reti at b =
@@ -184,21 +189,21 @@ module _ (one : OneStands) (reads : ReadingLaw) (legal : LegalByCases) (unique :
       let r : IsReti h.piece.instr = reti_back (place_map (fields o)) h.piece (subst IsReti h.same b.breaks) in
       by h.before h.piece h.after h.role r
     where
-      by : (x : List Piece) (p : Piece) (z : List Piece) → Role IsFreeForm (pieces (fields o)) x p z → IsReti p.instr → ⊥
+      by : (x : List Piece) (p : Piece) (z : List Piece) → Role IsFreeForm q.version (pieces (fields o)) x p z → IsReti p.instr → ⊥
       by x p z (IsFree f s) r = f.no_reti r
-      by x p z (IsOwn a g u y s b front is h e ex) r = member_reti u p y (own_reti g (u ++ p ∷ y) is) r
-      by x p z (Serves a g gs s is h e ex) r = served_reti g p.destination p.instr (form_of g p h) r
+      by x p z (IsOwn a g u y s b front h e ex) r = member_reti u p y (own_reti g (u ++ p ∷ y) h.is) r
+      by x p z (Serves a g gs done s h ex) r = served_reti g p.destination p.instr (form_of g p h.serves) r
 
   on_role : (at : ℕ) (j : Instr) (n : ℕ) → Start q.code at → Stands q.code at j n → (Own q at → ⊥) → (P : Type 0)
       → ((p : Piece) → j ≡ standing (place_map (fields o)) p → IsFreeForm p → P) → ((p : Piece) → j ≡ standing (place_map (fields o)) p → (g : GuardKind) → IsServed g p → Guarded q at g → P) → P
   on_role at j n start stands own P free served =
       let h : Here at j = here at j n start stands in
-      by h.before h.piece h.after h.role h.place h.same
+      by h.before h.piece h.after h.role h.are h.place h.same
     where
-      by : (x : List Piece) (p : Piece) (z : List Piece) → Role IsFreeForm (pieces (fields o)) x p z → at ≡ span x → j ≡ standing (place_map (fields o)) p → P
-      by x p z (IsFree f s) place same = free p same f
-      by x p z (IsOwn a g u y s b front is h e ex) place same = absurd (own (own_at at x p a g u y s b is h e ex place))
-      by x p z (Serves a g gs s is h e ex) place same = served p same g h (served_at at x p z a g gs is h e ex place)
+      by : (x : List Piece) (p : Piece) (z : List Piece) → Role IsFreeForm q.version (pieces (fields o)) x p z → pieces (fields o) ≡ x ++ p ∷ z → at ≡ span x → j ≡ standing (place_map (fields o)) p → P
+      by x p z (IsFree f s) are place same = free p same f
+      by x p z (IsOwn a g u y s b front h e ex) are place same = absurd (own (own_at at x p a g u y s b h e ex place))
+      by x p z (Serves a g gs done s h ex) are place same = served p same g h.serves (served_at at x p z a g gs done h are ex place)
 
   no_pc : (at : ℕ) → (Own q at → ⊥) → BreaksAt rule.Pc q at → ⊥
   no_pc at own b = on_role at b.instr b.words b.start b.stands own ⊥
@@ -215,8 +220,7 @@ module _ (one : OneStands) (reads : ReadingLaw) (legal : LegalByCases) (unique :
   unfolding IsGuardedStore
   no_store at own b = on_role at b.instr b.words b.start b.stands own ⊥
       (λ p same f. f.no_memory (memory_back (place_map (fields o)) p (subst WritesMemory same b.breaks.0)))
-      (λ p same g h guarded. b.breaks.1
-      (guard.Store, (tt, subst (Guarded q at) (served_memory g p.destination p.instr (form_of g p h) (memory_back (place_map (fields o)) p (subst WritesMemory same b.breaks.0))) guarded)))
+      (λ p same g h guarded. b.breaks.1 (g, (served_memory g p.destination p.instr (form_of g p h) (memory_back (place_map (fields o)) p (subst WritesMemory same b.breaks.0)), guarded)))
 
   no_pop : (at : ℕ) → (Own q at → ⊥) → BreaksAt rule.Pop q at → ⊥
   no_pop at own b = on_role at b.instr b.words b.start b.stands own ⊥
@@ -242,16 +246,16 @@ module _ (one : OneStands) (reads : ReadingLaw) (legal : LegalByCases) (unique :
       let h : Here at b.instr = here at b.instr b.words b.start b.stands in
       by h.before h.piece h.after h.role h.are h.place h.same
     where
-      by : (x : List Piece) (p : Piece) (z : List Piece) → Role IsFreeForm (pieces (fields o)) x p z → pieces (fields o) ≡ x ++ p ∷ z → at ≡ span x → b.instr ≡ standing (place_map (fields o)) p → ⊥
+      by : (x : List Piece) (p : Piece) (z : List Piece) → Role IsFreeForm q.version (pieces (fields o)) x p z → pieces (fields o) ≡ x ++ p ∷ z → at ≡ span x → b.instr ≡ standing (place_map (fields o)) p → ⊥
       by x p z (IsFree f s) are place same =
           f.sr (reg_back (place_map (fields o)) p 2 (subst (λ (j : Instr). WritesReg j 2) same b.breaks.0)) (λ c. b.breaks.1 (subst (code.ChangesFlags q at) (sym same) (flags_on at x p z are place c)))
-      by x p z (IsOwn a g u y s b' front is h e ex) are place same = own (own_at at x p a g u y s b' is h e ex place)
-      by x p z (Serves a g gs s is h e ex) are place same =
-          let r = served_reg g p.destination p.instr 2 (omega arith) (form_of g p h) (reg_back (place_map (fields o)) p 2 (subst (λ (j : Instr). WritesReg j 2) same b.breaks.0)) in omega (arith, r.1)
+      by x p z (IsOwn a g u y s b' front h e ex) are place same = own (own_at at x p a g u y s b' h e ex place)
+      by x p z (Serves a g gs done s h ex) are place same =
+          let r = served_reg g p.destination p.instr 2 (omega arith) (form_of g p h.serves) (reg_back (place_map (fields o)) p 2 (subst (λ (j : Instr). WritesReg j 2) same b.breaks.0)) in omega (arith, r.1)
 
   tame : AllTame (static_bytes (fields o)) (pieces (fields o))
   unfolding pieces
-  tame = lines_tame o (static_bytes (fields o)) (lines (fields o)) (all_clean o i.clean (source_fits o reads legal))
+  tame = pieces_tame o (groups (fields o)) (all_groups given o q i)
 
   wild_on : (at : ℕ) (x : List Piece) (p : Piece) (z : List Piece) → pieces (fields o) ≡ x ++ p ∷ z → at ≡ span x → WritesWild q at (standing (place_map (fields o)) p) → ⊥
   unfolding standing
@@ -271,7 +275,7 @@ module _ (one : OneStands) (reads : ReadingLaw) (legal : LegalByCases) (unique :
 
   may : AllMay (pieces (fields o))
   unfolding pieces
-  may = lines_may o (static_bytes (fields o)) (lines (fields o)) (all_clean o i.clean (source_fits o reads legal))
+  may = pieces_all_may o (groups (fields o)) (all_groups given o q i)
 
   no_wrong : (at : ℕ) → HasWrongReloc q at → ⊥
   unfolding standing
@@ -312,5 +316,5 @@ module _ (one : OneStands) (reads : ReadingLaw) (legal : LegalByCases) (unique :
   passes rule.Reloc at is h = no_wrong at h
   passes rule.Entry at is h = is
 
-pub form_rules : OneStands → ReadingLaw → LegalByCases → OneInstruction → FirstWordDecides → FormRulesPass
-form_rules one reads legal unique decides o q i r at is h = passes one reads legal unique decides o q i r at is h
+pub form_rules : Premises → OneInstruction → FirstWordDecides → FormRulesPass
+form_rules given unique decides o q i r at is h = passes given unique decides o q i r at is h

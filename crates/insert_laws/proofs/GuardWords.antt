@@ -16,12 +16,13 @@ use Rattle.code_model.specs.declared.guards.GuardKind.TheVariants as guard
 use Rattle.code_model.specs.declared.guards.Slot.{Slot}
 use Rattle.code_model.specs.declared.guards.Slot.TheVariants as slot
 use Rattle.code_model.specs.Relocs.{HasReloc, Unrelocated}
-use Rattle.code_model.specs.Guards.{guard_words, IsLoad, Takes, FitAll}
+use Rattle.code_model.specs.Guards.{high_word, region_slots, guard_words, IsLoad, Takes, FitAll}
 use Rattle.insert_model.specs.declared.piece.Piece.{Piece}
 use Rattle.insert_model.specs.declared.piece.Word.{Word}
 use Rattle.msp_encode.specs.Spelled.{two_word, jump_word}
 use Rattle.insert_model.specs.Words.{piece_words, unit_words}
-use Rattle.insert_model.specs.Inserted.{moved, moved_value, place_map}
+use Rattle.insert_model.specs.Layout.{place_map}
+use Rattle.insert_model.specs.Inserted.{moved, moved_value}
 use Rattle.insert_model.specs.Guards.{save, mov, on_r4, jump, branch, restore, growth_guard, pop_guard, sp_guard}
 use Rattle.insert_laws.specs.Pieces.{pieces}
 use Rattle.insert_laws.specs.Laws.{kind_in, RelocsStand}
@@ -60,25 +61,27 @@ unfolding two_word
 load_reg n h (inl e) = (omega arith, omega arith, inl (omega arith))
 load_reg n h (inr e) = (omega arith, omega arith, inr (omega arith))
 
--- a store guard whose base is 0 or a register
-abbrev based : Src → ℕ → Option RelKind → List Piece
-based s x k = save ∷ mov s (dst.Reg 4) ∷ on_r4 Add x k ∷ on_r4 Cmp 0 (Some Lo) ∷ jump cond.Nc (pos 3) ∷ on_r4 Cmp 0 (Some Hi) ∷ jump cond.Nc (pos 2) ∷ branch STORE_FAULT None ∷ restore ∷ []
+-- a guard of a region whose base is 0 or a register
+abbrev based : Src → (x high : ℕ) → Option RelKind → List Piece
+based s x high k =
+    save ∷ mov s (dst.Reg 4) ∷ on_r4 Add x k ∷ on_r4 Cmp 0 (Some Lo) ∷ jump cond.Nc (pos 3) ∷ on_r4 Cmp high (Some Hi) ∷ jump cond.Nc (pos 2) ∷ branch STORE_FAULT None ∷ restore ∷ []
 
-zero_words : (x : ℕ) (k : Option RelKind) → WordsFit (unit_words (based (src.Const Zero) x k)) (guard_words guard.Store)
+zero_words : (x high : ℕ) (k : Option RelKind) → WordsFit (unit_words (based (src.Const Zero) x high k)) (region_slots high)
 unfolding unit_words piece_words two_word jump_word
-zero_words x k = search rules
+zero_words x high k = search rules
 
-reg_words : (n x : ℕ) (k : Option RelKind) → IsLoad (two_word 4 0 n 0 4 0) → WordsFit (unit_words (based (src.Reg n) x k)) (guard_words guard.Store)
+reg_words : (n x high : ℕ) (k : Option RelKind) → IsLoad (two_word 4 0 n 0 4 0) → WordsFit (unit_words (based (src.Reg n) x high k)) (region_slots high)
 unfolding unit_words piece_words two_word jump_word
-reg_words n x k load = search (rules, load)
+reg_words n x high k load = search (rules, load)
 
-store_by : (b : Bool) (n x : ℕ) (k : Option RelKind) → IsLoad (two_word 4 0 n 0 4 0) → WordsFit (unit_words (based (if b then src.Const Zero else src.Reg n) x k)) (guard_words guard.Store)
-store_by true n x k load = zero_words x k
-store_by false n x k load = reg_words n x k load
+region_by : (b : Bool) (n x high : ℕ) (k : Option RelKind) → IsLoad (two_word 4 0 n 0 4 0) → WordsFit (unit_words (based (if b then src.Const Zero else src.Reg n) x high k)) (region_slots high)
+region_by true n x high k load = zero_words x high k
+region_by false n x high k load = reg_words n x high k load
 
 pub guard_fits : (g : GuardKind) (gs : List Piece) → IsGuard g gs → WordsFit (unit_words gs) (guard_words g)
-guard_fits guard.Store gs h = subst (λ (ps : List Piece). WordsFit (unit_words ps) (guard_words guard.Store)) (sym h.are) (store_by (nat_eq h.base 3) h.base h.index h.kind (load_reg h.base h.below h.register))
-guard_fits (guard.Wide r) gs h = absurd h
+guard_fits guard.Store gs h = subst (λ (ps : List Piece). WordsFit (unit_words ps) (guard_words guard.Store)) (sym h.are) (region_by (nat_eq h.base 3) h.base h.index 0 h.kind (load_reg h.base h.below h.register))
+guard_fits (guard.Wide r) gs h =
+    subst (λ (ps : List Piece). WordsFit (unit_words ps) (guard_words (guard.Wide r))) (sym h.are) (region_by (nat_eq h.base 3) h.base h.index (high_word r) h.kind (load_reg h.base h.below h.register))
 guard_fits guard.Load gs h = absurd h
 guard_fits guard.Growth gs h = subst (λ (ps : List Piece). WordsFit (unit_words ps) (guard_words guard.Growth)) (sym h) growth_words
 guard_fits guard.Pop gs h = subst (λ (ps : List Piece). WordsFit (unit_words ps) (guard_words guard.Pop)) (sym h) pop_words
@@ -113,9 +116,6 @@ module _ (o q : Object) (ws : List Word) (is : IsWordsOf o q ws) where
 
   pub a_reloc : (at : ℕ) (k : RelKind) → kind_in ws at ≡ Some k → HasReloc q.relocs at k
   a_reloc at k e = is.relocs.some at k (kind_is at (Some k) e)
-
-  pub reloc_kind : (at : ℕ) (k : RelKind) → HasReloc q.relocs at k → kind_in ws at ≡ Some k
-  reloc_kind at k h = ap (λ (vs : List Word). kind_in vs at) is.are ∙ is.relocs.has at k h
 
   pub code_word : (us : List Word) (w : Word) (bs : List Word) → ws ≡ us ++ w ∷ bs → slice_index q.code (length us) ≡ moved (place_map (fields o)) w
   code_word us w bs e =

@@ -5,8 +5,6 @@ use Rattle.msp_encode.specs.declared.instr.Width.{Width}
 use Rattle.msp_encode.specs.declared.instr.Src.TheVariants as src
 use Rattle.msp_encode.specs.declared.instr.Instr.{Instr}
 use Rattle.msp_encode.specs.declared.instr.Instr.TheVariants as instr
-use Rattle.msp_encode.specs.Laws.{LegalByCases}
-use Rattle.msp_decode.specs.Function.{ReadingLaw}
 use Rattle.code_model.specs.declared.object.Object.{Object}
 use Rattle.code_model.specs.declared.parts.RelKind.{RelKind}
 use Rattle.code_model.specs.declared.parts.RelKind.TheVariants.{Code}
@@ -15,23 +13,23 @@ use Rattle.code_model.specs.declared.rules.Rule.TheVariants as rule
 use Rattle.code_model.specs.Starts.{Start}
 use Rattle.code_model.specs.Relocs.{HasReloc, Unrelocated}
 use Rattle.code_model.specs.Rules.{IsUnitOffset, GoesAstray, BreaksAt}
-use Rattle.code_laws.specs.Laws.{IsSame, OneStands}
+use Rattle.code_laws.specs.Laws.{IsSame}
 use Rattle.insert_model.specs.declared.piece.Piece.{Piece}
 use Rattle.msp_encode.specs.Spelled.{count}
 use Rattle.insert_model.specs.Words.{operand_words, piece_words, unit_words}
-use Rattle.insert_model.specs.Source.{lines}
-use Rattle.insert_model.specs.Units.{static_bytes}
-use Rattle.insert_model.specs.Inserted.{place_map, with_guards, inserted}
+use Rattle.insert_model.specs.Groups.{groups}
+use Rattle.insert_model.specs.Layout.{place_map}
+use Rattle.insert_model.specs.Inserted.{with_guards, inserted}
 use Rattle.insert_model.specs.Faults.{IsStartOffset, IsInserted}
 use Rattle.insert_laws.specs.Pieces.{pieces, standing, PieceAt}
 use Rattle.insert_laws.specs.Laws.{kind_in, PiecesStand, UnitAt, StartsAreUnits, TargetRulePasses}
+use Rattle.insert_laws.proofs.CleanGroups.{Premises, all_groups}
 use Rattle.insert_laws.proofs.Placed.{pieces_stand}
 use Rattle.insert_laws.proofs.GuardWords.{no_reloc, a_reloc}
 use Rattle.insert_laws.proofs.Guarding.{span, size_span}
 use Rattle.insert_laws.proofs.WordKinds.{piece_kind, source_kind}
-use Rattle.insert_laws.proofs.ShapedUnits.{all_clean}
-use Rattle.insert_laws.proofs.Aimed.{AllAimed, aimed_member, lines_aimed, aimed_stands}
-use Rattle.insert_laws.proofs.FormRules.{source_fits, words_are}
+use Rattle.insert_laws.proofs.Aimed.{AllAimed, aimed_member, pieces_aimed, aimed_stands}
+use Rattle.insert_laws.proofs.FormRules.{words_are}
 
 callee_kind : (x : List Piece) (p : Piece) (z : List Piece) (op : Op1) (w : Width) (v : ℕ) → p.instr ≡ instr.One op w (src.Immediate v) → kind_in (unit_words (x ++ p ∷ z)) (span x + 1) ≡ p.source
 unfolding piece_words
@@ -45,10 +43,10 @@ unit_offset : (o q : Object) → ((t : ℕ) → Start o.code t → UnitAt o q t)
 unfolding IsStartOffset IsUnitOffset
 unit_offset o q all x s = let u : UnitAt o q s.0 = all s.0 s.1 in (u.place, u.unit, ap (place_map (fields o)) s.2 ∙ u.is)
 
-module _ (one : OneStands) (reads : ReadingLaw) (legal : LegalByCases) (units : StartsAreUnits) (o q : Object) (i : IsInserted o q) where
+module _ (given : Premises) (units : StartsAreUnits) (o q : Object) (i : IsInserted o q) where
   aimed : AllAimed o (pieces (fields o))
   unfolding pieces
-  aimed = lines_aimed o (static_bytes (fields o)) (lines (fields o)) (all_clean o i.clean (source_fits o reads legal))
+  aimed = pieces_aimed o (groups (fields o)) (all_groups given o q i)
 
   lands_on : (at : ℕ) (x : List Piece) (p : Piece) (z : List Piece) → pieces (fields o) ≡ x ++ p ∷ z → at ≡ span x → GoesAstray q at (standing (place_map (fields o)) p) → ⊥
   unfolding standing
@@ -67,10 +65,10 @@ module _ (one : OneStands) (reads : ReadingLaw) (legal : LegalByCases) (units : 
   no_target : (at : ℕ) → BreaksAt rule.Target q at → ⊥
   no_target at b =
       let go : ℕ → ℕ = place_map (fields o) in
-      let stand : PiecesStand o q = pieces_stand one reads legal o q i in
+      let stand : PiecesStand o q = pieces_stand given o q i in
       let p : PieceAt (fields o) at = stand.starts at b.start in
-      let s : IsSame b.instr (standing go p.piece) b.words (count (standing go p.piece)) = one q.code at b.instr (standing go p.piece) b.words (count (standing go p.piece)) b.stands (stand.stands at p) in
+      let s : IsSame b.instr (standing go p.piece) b.words (count (standing go p.piece)) = given.one q.code at b.instr (standing go p.piece) b.words (count (standing go p.piece)) b.stands (stand.stands at p) in
       lands_on at p.before p.piece p.after p.are (p.place ∙ size_span go p.before) (subst (GoesAstray q at) s.instr b.breaks)
 
-pub target_passes : OneStands → ReadingLaw → LegalByCases → StartsAreUnits → TargetRulePasses
-target_passes one reads legal units o q i at h = no_target one reads legal units o q i at h.1
+pub target_passes : Premises → StartsAreUnits → TargetRulePasses
+target_passes given units o q i at h = no_target given units o q i at h.1

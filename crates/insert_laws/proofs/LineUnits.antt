@@ -1,27 +1,28 @@
--- The lines of the source, one behind another, and the words of their units.
-use Rattle.std.proofs.Common.{◌≡◌, ℕ, zero, suc, ◌+◌, ◌*◌, ◌/◌, ◌≤◌, ◌<◌, nat_lt, true, false, List, [], ◌∷◌, ◌++◌, inl, inr, length, slice_index_or, refl, sym, subst, ap, ◌∙◌, arith, rules}
+-- Each line of the source is clean, and the words of its group's unit lie where the place map sends it.
+use Rattle.std.proofs.Common.{◌≡◌, ℕ, zero, suc, ◌+◌, ◌*◌, ◌/◌, ◌≤◌, ◌<◌, nat_lt, true, false, List, [], ◌∷◌, ◌++◌, inl, inr, length, slice_index_or, subst, ap, ◌∙◌, arith, rules}
 use Rattle.std.proofs.lemmas.Bool.{cases_lt}
-use Rattle.std.proofs.lemmas.List.{append-nil, length-append}
+use Rattle.std.proofs.lemmas.List.{length-append}
 use Rattle.std.proofs.lemmas.List.Concat.{flat_map-append}
 use Rattle.msp_encode.specs.Laws.{LegalByCases}
 use Rattle.msp_decode.specs.Function.{ReadingLaw}
 use Rattle.code_model.specs.declared.object.Object.{Object}
-use Rattle.code_model.specs.Fields.{fields}
+use Rattle.code_model.specs.Fields.{Fields, fields}
 use Rattle.insert_model.specs.declared.line.Line.{Line}
 use Rattle.insert_model.specs.declared.piece.Word.{Word}
-use Rattle.msp_encode.specs.Spelled.{count}
 use Rattle.insert_model.specs.Words.{unit_words}
 use Rattle.insert_model.specs.Source.{lines}
-use Rattle.insert_model.specs.Units.{static_bytes, unit}
-use Rattle.insert_model.specs.Inserted.{units, before, place_in, place_map}
-use Rattle.insert_model.specs.Laws.{SizeLaw, LineLaw}
-use Rattle.insert_laws.specs.Pieces.{pieces}
+use Rattle.insert_model.specs.Units.{static_bytes}
+use Rattle.insert_model.specs.Groups.{Group, behind, groups}
+use Rattle.insert_model.specs.Layout.{Jumps, unit_in, units, before, words_before, sized, place_map}
+use Rattle.insert_model.specs.Laws.{SizeLaw, LineLaw, GroupsLaw, SizedLaw}
+use Rattle.insert_laws.specs.Pieces.{unit_of_group, pieces_of, pieces}
 use Rattle.insert_laws.specs.Shapes.{IsCleanLine}
-use Rattle.insert_laws.specs.Lines.{line_words, UnitLies, LinesAreClean, CodeIsPieces, LinesHaveUnits}
-use Rattle.insert_laws.proofs.Standing.{units_words}
-use Rattle.insert_laws.proofs.ShapedUnits.{AllClean, all_clean}
-use Rattle.insert_laws.proofs.SourceLines.{Consecutive, source_consecutive}
-use Rattle.insert_laws.proofs.FormRules.{source_fits, words_are}
+use Rattle.insert_laws.specs.Lines.{group_words, UnitLies, LinesAreClean, CodeIsPieces, GroupsHaveUnits}
+use Rattle.insert_laws.proofs.UnitsFit.{source_fits}
+use Rattle.insert_laws.proofs.CleanLines.{AllClean, all_clean}
+use Rattle.insert_laws.proofs.Placed.{code_words}
+use Rattle.insert_laws.proofs.Guarding.{span, span_append, unit_words_append}
+use Rattle.insert_laws.proofs.GroupOrder.{InRow, source_row, first_less, before_group, before_next, place_is, pieces_more}
 
 -- ---- each line is clean
 
@@ -33,122 +34,84 @@ clean_in o (x ∷ ls) l (suc k) c h e = clean_in o ls l k c.1 (omega arith) e
 pub all_lines_clean : ReadingLaw → LegalByCases → LinesAreClean
 all_lines_clean reads legal o q i l h = clean_in o (lines (fields o)) l h.0 (all_clean o i.clean (source_fits o reads legal)) h.1 h.2
 
-pub code_words : CodeIsPieces
-code_words o q i = (words_are o q i).code
+pub code_pieces : CodeIsPieces
+code_pieces o q i = code_words o q i
 
--- ---- a line, those in front of it and those behind it
+-- ---- a group, those in front of it and those behind it
 
-record Split (ls : List Line) (l : Line) : Type 0 where
-  front : List Line
-  back : List Line
-  are : ls ≡ front ++ l ∷ back
+record Split (gs : List Group) (g : Group) : Type 0 where
+  front : List Group
+  back : List Group
+  are : gs ≡ front ++ g ∷ back
 
-split_in : (ls : List Line) (l : Line) (k : ℕ) → k < length ls → slice_index_or ls k l ≡ l → Split ls l
-split_in [] l k h e = absurd (omega arith)
-split_in (x ∷ ls) l zero h e = record { front = []; back = ls; are = ap (λ (m : Line). m ∷ ls) e }
-split_in (x ∷ ls) l (suc k) h e =
-    let s : Split ls l = split_in ls l k (omega arith) e in record { front = x ∷ s.front; back = s.back; are = ap (λ (ms : List Line). x ∷ ms) s.are }
-
-not_before : (t : ℕ) (front : List Line) (l : Line) (back : List Line) → Consecutive t (front ++ l ∷ back) → t ≤ l.at
-not_before t [] l back c = omega (arith, c.0)
-not_before t (x ∷ front) l back c = omega (arith, not_before (t + count x.instr) front l back c.1)
-
-before_none : (k t : ℕ) (ls : List Line) → k ≤ t → Consecutive t ls → before k ls ≡ []
-unfolding before
-before_none k t [] h c = refl
-before_none k t (l ∷ ls) h c =
-    let g : k ≤ l.at = omega (arith, c.0) in let e : nat_lt l.at k ≡ false = search rules in rw e (before_none k (t + count l.instr) ls (omega arith) c.1)
-
-before_line : (t : ℕ) (front : List Line) (l : Line) (back : List Line) → Consecutive t (front ++ l ∷ back) → before l.at (front ++ l ∷ back) ≡ front
-unfolding before
-before_line t [] l back c = before_none l.at t (l ∷ back) (omega (arith, c.0)) c
-before_line t (x ∷ front) l back c =
-    let g : x.at < l.at = omega (arith, c.0, not_before (t + count x.instr) front l back c.1) in
-    let e : nat_lt x.at l.at ≡ true = search rules in rw e (ap (λ (ms : List Line). x ∷ ms) (before_line (t + count x.instr) front l back c.1))
-
--- up to a place behind the line's own, and not behind its words
-before_next : (k t : ℕ) (front : List Line) (l : Line) (back : List Line) → Consecutive t (front ++ l ∷ back) → l.at < k → k ≤ l.at + count l.instr
-    → before k (front ++ l ∷ back) ≡ front ++ l ∷ []
-unfolding before
-before_next k t [] l back c h g =
-    let e : nat_lt l.at k ≡ true = search rules in rw e (ap (λ (ms : List Line). l ∷ ms) (before_none k (t + count l.instr) back (omega (arith, c.0)) c.1))
-before_next k t (x ∷ front) l back c h g =
-    let f : x.at < k = omega (arith, c.0, not_before (t + count x.instr) front l back c.1) in
-    let e : nat_lt x.at k ≡ true = search rules in rw e (ap (λ (ms : List Line). x ∷ ms) (before_next k (t + count x.instr) front l back c.1 h g))
+split_in : (gs : List Group) (g : Group) (k : ℕ) → k < length gs → slice_index_or gs k g ≡ g → Split gs g
+split_in [] g k h e = absurd (omega arith)
+split_in (x ∷ gs) g zero h e = record { front = []; back = gs; are = ap (λ (y : Group). y ∷ gs) e }
+split_in (x ∷ gs) g (suc k) h e =
+    let s : Split gs g = split_in gs g k (omega arith) e in record { front = x ∷ s.front; back = s.back; are = ap (λ (hs : List Group). x ∷ hs) s.are }
 
 -- ---- the words of their units
 
-units_append : (size : ℕ) (xs ys : List Line) → units size (xs ++ ys) ≡ units size xs ++ units size ys
-unfolding units
-units_append size xs ys = flat_map-append (λ (l : Line). unit_words (unit size l)) xs ys
-
--- the place map sends a greater offset to no lesser one
-more_words : (size a b : ℕ) (ls : List Line) → a ≤ b → length (units size (before a ls)) ≤ length (units size (before b ls))
+-- more groups are before a greater place, so the place map sends a greater offset to no lesser one
+more_words : (js : Jumps) (size a b : ℕ) (gs : List Group) → a ≤ b → length (units js size (before a gs)) ≤ length (units js size (before b gs))
 unfolding units before
-more_words size a b [] h = omega arith
-more_words size a b (l ∷ ls) h = elim (cases_lt l.at a) [
+more_words js size a b [] h = omega arith
+more_words js size a b (g ∷ gs) h = elim (cases_lt g.head.at a) [
   | inl less ↦
-      let g : l.at < b = omega arith in
-      let e : nat_lt l.at a ≡ true = search rules in
-      let f : nat_lt l.at b ≡ true = search rules in
-      rw (e, f) (longer (unit_words (unit size l)) (units size (before a ls)) (units size (before b ls)) (more_words size a b ls h))
+      let m : g.head.at < b = omega arith in
+      let e : nat_lt g.head.at a ≡ true = search rules in
+      let f : nat_lt g.head.at b ≡ true = search rules in
+      rw (e, f) (longer (unit_words (unit_in js size g)) (units js size (before a gs)) (units js size (before b gs)) (more_words js size a b gs h))
   | inr more ↦
-      let e : nat_lt l.at a ≡ false = search rules in
-      elim (cases_lt l.at b) [
+      let e : nat_lt g.head.at a ≡ false = search rules in
+      elim (cases_lt g.head.at b) [
         | inl less ↦
-            let f : nat_lt l.at b ≡ true = search rules in
-            rw (e, f) (omega (arith, more_words size a b ls h, length-append (unit_words (unit size l)) (units size (before b ls))))
-        | inr most ↦ let f : nat_lt l.at b ≡ false = search rules in rw (e, f) (more_words size a b ls h)
+            let f : nat_lt g.head.at b ≡ true = search rules in
+            rw (e, f) (omega (arith, more_words js size a b gs h, length-append (unit_words (unit_in js size g)) (units js size (before b gs))))
+        | inr most ↦ let f : nat_lt g.head.at b ≡ false = search rules in rw (e, f) (more_words js size a b gs h)
       ]
 ]
   where
     longer : (us xs ys : List Word) → length xs ≤ length ys → length (us ++ xs) ≤ length (us ++ ys)
     longer us xs ys h = omega (arith, length-append us xs, length-append us ys)
 
-module _ (o : Object) where
-  bytes : ℕ
-  bytes = static_bytes (fields o)
+place_more : (f : Fields) (a b : ℕ) → a ≤ b → place_map f (2 * a) ≤ place_map f (2 * b)
+unfolding place_map words_before
+place_more f a b h = omega (arith, more_words (sized f) (static_bytes f) (2 * a / 2) (2 * b / 2) (groups f) (omega arith))
 
-  place_is : (t : ℕ) (ls : List Line) → before t (lines (fields o)) ≡ ls → place_map (fields o) (2 * t) ≡ 2 * length (units bytes ls)
-  unfolding place_map place_in bytes
-  place_is t ls e =
-      let half : 2 * t / 2 ≡ t = omega arith in
-      ap (λ (n : ℕ). 2 * length (units (static_bytes (fields o)) (before n (lines (fields o))))) half ∙ ap (λ (ms : List Line). 2 * length (units (static_bytes (fields o)) ms)) e
+module _ (sizes : SizedLaw) (o : Object) where
+  one_more : (front : List Group) (g : Group) → span (pieces_of (fields o) (front ++ g ∷ [])) ≡ span (pieces_of (fields o) front) + length (group_words o g)
+  unfolding span
+  one_more front g = ap span (pieces_more (fields o) front g) ∙ span_append (pieces_of (fields o) front) (unit_of_group (fields o) g)
 
-  place_more : (a b : ℕ) → a ≤ b → place_map (fields o) (2 * a) ≤ place_map (fields o) (2 * b)
-  place_more a b h =
-      let e : place_map (fields o) (2 * a) ≡ 2 * length (units bytes (before a (lines (fields o)))) = place_is a (before a (lines (fields o))) refl in
-      let f : place_map (fields o) (2 * b) ≡ 2 * length (units bytes (before b (lines (fields o)))) = place_is b (before b (lines (fields o))) refl in
-      omega (arith, e, f, more_words bytes a b (lines (fields o)) h)
+  all_words : (front : List Group) (g : Group) (back : List Group) → groups (fields o) ≡ front ++ g ∷ back
+      → unit_words (pieces (fields o)) ≡ unit_words (pieces_of (fields o) front) ++ (group_words o g ++ unit_words (pieces_of (fields o) back))
+  unfolding pieces pieces_of
+  all_words front g back e =
+      ap (λ (gs : List Group). unit_words (pieces_of (fields o) gs)) e ∙ ap unit_words (flat_map-append (unit_of_group (fields o)) front (g ∷ back))
+      ∙ unit_words_append (pieces_of (fields o) front) (unit_of_group (fields o) g ++ pieces_of (fields o) back)
+      ∙ ap (λ (ws : List Word). unit_words (pieces_of (fields o) front) ++ ws) (unit_words_append (unit_of_group (fields o) g) (pieces_of (fields o) back))
 
-  one_more : (front : List Line) (l : Line) → length (units bytes (front ++ l ∷ [])) ≡ length (units bytes front) + length (line_words o l)
-  unfolding units bytes
-  one_more front l =
-      ap length (units_append (static_bytes (fields o)) front (l ∷ [])) ∙ length-append (units (static_bytes (fields o)) front) (line_words o l ++ [])
-      ∙ ap (λ (ws : List Word). length (units (static_bytes (fields o)) front) + length ws) (append-nil (line_words o l))
-
-  all_words : (front : List Line) (l : Line) (back : List Line) → lines (fields o) ≡ front ++ l ∷ back → unit_words (pieces (fields o)) ≡ units bytes front ++ (line_words o l ++ units bytes back)
-  unfolding pieces units bytes
-  all_words front l back e =
-      sym (units_words (static_bytes (fields o)) (lines (fields o))) ∙ ap (units (static_bytes (fields o))) e ∙ units_append (static_bytes (fields o)) front (l ∷ back)
-
-  unit_lies : Consecutive 0 (lines (fields o)) → (l : Line) → Split (lines (fields o)) l → UnitLies o l
-  unit_lies c l s =
-      let whole : Consecutive 0 (s.front ++ l ∷ s.back) = subst (Consecutive 0) s.are c in
-      let upto : (k : ℕ) → l.at < k → k ≤ l.at + count l.instr → place_map (fields o) (2 * k) ≡ 2 * (length (units bytes s.front) + length (line_words o l)) =
-      λ k h g. place_is k (s.front ++ l ∷ []) (ap (before k) s.are ∙ before_next k 0 s.front l s.back whole h g) ∙ ap (λ (n : ℕ). 2 * n) (one_more s.front l) in
-      let here : place_map (fields o) (2 * l.at) ≡ 2 * length (units bytes s.front) = place_is l.at s.front (ap (before l.at) s.are ∙ before_line 0 s.front l s.back whole) in
+  unit_lies : InRow 0 (groups (fields o)) (length o.code) → (g : Group) → Split (groups (fields o)) g → UnitLies o g
+  unfolding span
+  unit_lies c g s =
+      let whole : InRow 0 (s.front ++ g ∷ s.back) (length o.code) = subst (λ (gs : List Group). InRow 0 gs (length o.code)) s.are c in
+      let upto : (k : ℕ) → g.head.at < k → k ≤ behind g → place_map (fields o) (2 * k) ≡ 2 * (span (pieces_of (fields o) s.front) + length (group_words o g)) =
+      λ k h m. place_is sizes (fields o) k (s.front ++ g ∷ []) (ap (before k) s.are ∙ before_next k 0 s.front g s.back (length o.code) whole h m) ∙ ap (λ (n : ℕ). 2 * n) (one_more s.front g) in
+      let here : place_map (fields o) (2 * g.head.at) ≡ 2 * span (pieces_of (fields o) s.front) =
+      place_is sizes (fields o) g.head.at s.front (ap (before g.head.at) s.are ∙ before_group 0 s.front g s.back (length o.code) whole) in
+      let some : g.head.at < behind g = first_less 0 s.front g s.back (length o.code) whole in
       record {
-        front = units bytes s.front;
-        back = units bytes s.back;
-        are = all_words s.front l s.back s.are;
+        front = unit_words (pieces_of (fields o) s.front);
+        back = unit_words (pieces_of (fields o) s.back);
+        are = all_words s.front g s.back s.are;
         first = here;
-        behind = upto (l.at + count l.instr) (omega arith) (omega arith);
-        apart = λ t. elim (cases_lt l.at t) [
-          | inl less ↦ inr (omega (arith, upto (l.at + 1) (omega arith) (omega arith), place_more (l.at + 1) t (omega arith)))
-          | inr more ↦ inl (omega (arith, here, place_more t l.at more))
+        behind = upto (behind g) some (omega arith);
+        apart = λ t. elim (cases_lt g.head.at t) [
+          | inl less ↦ inr (omega (arith, upto (g.head.at + 1) (omega arith) (omega (arith, some)), place_more (fields o) (g.head.at + 1) t (omega arith)))
+          | inr more ↦ inl (omega (arith, here, place_more (fields o) t g.head.at more))
         ];
       }
 
-pub units_lie : SizeLaw → LineLaw → LinesHaveUnits
-units_lie size line o q i l h = unit_lies o (source_consecutive size line o i.spelled) l (split_in (lines (fields o)) l h.0 h.1 h.2)
+pub units_lie : SizeLaw → LineLaw → GroupsLaw → SizedLaw → GroupsHaveUnits
+units_lie size line cuts sizes o q i g h = unit_lies sizes o (source_row size line cuts o i.spelled) g (split_in (groups (fields o)) g h.0 h.1 h.2)

@@ -8,13 +8,11 @@ use Rattle.code_model.specs.Fields.{Fields, fields}
 use Rattle.code_model.specs.Relocs.{HasReloc, Unrelocated}
 use Rattle.insert_model.specs.declared.piece.Word.{Word}
 use Rattle.insert_model.specs.Words.{unit_words}
-use Rattle.insert_model.specs.Source.{lines}
-use Rattle.insert_model.specs.Units.{static_bytes}
 use Rattle.insert_model.specs.Inserted.{with_reloc, relocs_from, of_data, with_guards, inserted}
 use Rattle.insert_model.specs.Faults.{IsInserted}
 use Rattle.insert_laws.specs.Pieces.{pieces}
 use Rattle.insert_laws.specs.Laws.{kind_in, RelocsArePieces}
-use Rattle.insert_laws.proofs.Standing.{units_words}
+use Rattle.insert_laws.proofs.Standing.{final_words}
 
 -- ---- members
 
@@ -106,8 +104,8 @@ to_words (w ∷ ws) start (suc more) k e =
 -- ---- the object's
 
 relocs_of : (f : Fields) → (with_guards f).relocs ≡ relocs_from 0 (unit_words (pieces f)) ++ of_data f.relocs
-unfolding with_guards pieces
-relocs_of f = ap (λ (ws : List Word). relocs_from 0 ws ++ of_data f.relocs) (units_words (static_bytes f) (lines f))
+unfolding with_guards
+relocs_of f = ap (λ (ws : List Word). relocs_from 0 ws ++ of_data f.relocs) (final_words f)
 
 relocs_is : (o q : Object) → IsInserted o q → q.relocs ≡ relocs_from 0 (unit_words (pieces (fields o))) ++ of_data o.relocs
 unfolding inserted

@@ -12,75 +12,73 @@ use Rattle.msp_encode.specs.declared.instr.Instr.TheVariants as instr
 use Rattle.code_model.specs.declared.parts.RelKind.{RelKind}
 use Rattle.code_model.specs.declared.guards.GuardKind.{GuardKind}
 use Rattle.code_model.specs.declared.guards.GuardKind.TheVariants as guard
-use Rattle.code_model.specs.Guards.{Changes, Stacks, SrcIs, DstIs, Pops, IsAtR4, IsHigh, IsGrowthForm, IsPopForm, IsSpForm}
-use Rattle.code_model.specs.Rules.{IsReti, WritesReg, IsImmediate, IsBranch, IsMemoryDst, IsMemorySrc, WritesMemory, ReadsStack, IsPushOrCall}
+use Rattle.code_model.specs.Guards.{reach_bytes, Changes, Stacks, SrcIs, DstIs, Pops, IsAtR4, IsHigh, IsGrowthForm, IsPopForm, IsSpForm}
+use Rattle.code_model.specs.Rules.{IsReti, WritesReg, IsImmediate, IsBranch, IsMemoryDst, IsMemorySrc, WritesMemory, ReadsStack, IsPushOrCall, KeepsStores}
 use Rattle.insert_model.specs.declared.piece.Piece.{Piece}
 use Rattle.insert_laws.specs.Pieces.{moved_src, moved_dst, moved_instr, standing}
-use Rattle.insert_laws.specs.Shapes.{IsGuard, IsThroughR4, IsServed, Shaped, Ends, Free, Guards}
+use Rattle.insert_laws.specs.Shapes.{IsThroughR4, IsNearR4, IsServed, IsGuarding, Shaped, Ends, Free, Guards}
+use Rattle.insert_laws.proofs.Guarding.{heads, tails, no_cut, IsServedBy, served_of, first_served}
 
 -- ---- roles
 
-heads : (m n : Piece) (xs ys : List Piece) → m ∷ xs ≡ n ∷ ys → m ≡ n
-heads m n xs ys e = cc
+pub data Role (F : Piece → Type 0) (version : ℕ) (xs x : List Piece) (r : Piece) (z : List Piece) : Type 0 where
+  IsFree : F r → Shaped F version x → Role F version xs x r z
+  IsOwn : (a : List Piece) (g : GuardKind) (u y : List Piece) (p : Piece) (b : List Piece) → Shaped F version a → IsServedBy version g (u ++ r ∷ y) [] p → xs ≡ a ++ ((u ++ r ∷ y) ++ p ∷ b)
+      → x ≡ a ++ u → Role F version xs x r z
+  Serves : (a : List Piece) (g : GuardKind) (gs done : List Piece) → Shaped F version a → IsServedBy version g gs done r → x ≡ a ++ (gs ++ done) → Role F version xs x r z
 
-tails : (m n : Piece) (xs ys : List Piece) → m ∷ xs ≡ n ∷ ys → xs ≡ ys
-tails m n xs ys e = cc
+-- where a cut of two lists lies
+pub data Lies (a b x : List Piece) (r : Piece) (z : List Piece) : Type 0 where
+  InFirst : (more : List Piece) → a ≡ x ++ r ∷ more → z ≡ more ++ b → Lies a b x r z
+  InSecond : (less : List Piece) → x ≡ a ++ less → b ≡ less ++ r ∷ z → Lies a b x r z
 
-no_cut : (x : List Piece) (r : Piece) (z : List Piece) → [] ≡ x ++ r ∷ z → ⊥
-no_cut [] r z e = cc
-no_cut (n ∷ x) r z e = cc
-
-pub data Role (F : Piece → Type 0) (xs x : List Piece) (r : Piece) (z : List Piece) : Type 0 where
-  IsFree : F r → Shaped F x → Role F xs x r z
-  IsOwn : (a : List Piece) (g : GuardKind) (u y : List Piece) (p : Piece) (b : List Piece) → Shaped F a → IsGuard g (u ++ r ∷ y) → IsServed g p → xs ≡ a ++ ((u ++ r ∷ y) ++ p ∷ b) → x ≡ a ++ u → Role F xs x r z
-  Serves : (a : List Piece) (g : GuardKind) (gs : List Piece) → Shaped F a → IsGuard g gs → IsServed g r → xs ≡ a ++ (gs ++ r ∷ z) → x ≡ a ++ gs → Role F xs x r z
-
--- where a cut of a guard with what it guards lies
-data Lies (gs : List Piece) (p : Piece) (ps x : List Piece) (r : Piece) (z : List Piece) : Type 0 where
-  Inside : (y : List Piece) → gs ≡ x ++ r ∷ y → Lies gs p ps x r z
-  Behind : x ≡ gs → r ≡ p → z ≡ ps → Lies gs p ps x r z
-  After : (more : List Piece) → x ≡ gs ++ p ∷ more → ps ≡ more ++ r ∷ z → Lies gs p ps x r z
-
-lies : (gs : List Piece) (p : Piece) (ps x : List Piece) (r : Piece) (z : List Piece) → gs ++ p ∷ ps ≡ x ++ r ∷ z → Lies gs p ps x r z
-lies [] p ps [] r z e = Behind refl (sym (heads p r ps z e)) (sym (tails p r ps z e))
-lies [] p ps (n ∷ x) r z e = After x (ap (λ (m : Piece). m ∷ x) (sym (heads p n ps (x ++ r ∷ z) e))) (tails p n ps (x ++ r ∷ z) e)
-lies (m ∷ gs) p ps [] r z e = Inside gs (ap (λ (n : Piece). n ∷ gs) (heads m r (gs ++ p ∷ ps) z e))
-lies (m ∷ gs) p ps (n ∷ x) r z e =
-    let h : m ≡ n = heads m n (gs ++ p ∷ ps) (x ++ r ∷ z) e in
-    elim (lies gs p ps x r z (tails m n (gs ++ p ∷ ps) (x ++ r ∷ z) e)) [
-      | Inside y f ↦ Inside y (λ j. h j ∷ f j)
-      | Behind f s t ↦ Behind (λ j. sym h j ∷ f j) s t
-      | After more f t ↦ After more (λ j. sym h j ∷ f j) t
+pub lies : (a b x : List Piece) (r : Piece) (z : List Piece) → a ++ b ≡ x ++ r ∷ z → Lies a b x r z
+lies [] b x r z e = InSecond x refl e
+lies (m ∷ a) b [] r z e = InFirst a (ap (λ (n : Piece). n ∷ a) (heads m r (a ++ b) z e)) (sym (tails m r (a ++ b) z e))
+lies (m ∷ a) b (n ∷ x) r z e =
+    let h : m ≡ n = heads m n (a ++ b) (x ++ r ∷ z) e in
+    elim (lies a b x r z (tails m n (a ++ b) (x ++ r ∷ z) e)) [
+      | InFirst more f t ↦ InFirst more (λ j. h j ∷ f j) t
+      | InSecond less f t ↦ InSecond less (λ j. sym h j ∷ f j) t
     ]
 
-role_after : (F : Piece → Type 0) (front xs x : List Piece) (r : Piece) (z : List Piece) → ((ys : List Piece) → Shaped F ys → Shaped F (front ++ ys)) → Role F xs x r z → Role F (front ++ xs) (front ++ x) r z
-role_after F front xs x r z on (IsFree f s) = IsFree f (on x s)
-role_after F front xs x r z on (IsOwn a g u y p b s is h e ex) =
-    IsOwn (front ++ a) g u y p b (on a s) is h (ap (λ (ys : List Piece). front ++ ys) e ∙ sym (append_assoc front a ((u ++ r ∷ y) ++ p ∷ b))) (ap (λ (ys : List Piece). front ++ ys) ex ∙ sym (append_assoc front a u))
-role_after F front xs x r z on (Serves a g gs s is h e ex) =
-    Serves (front ++ a) g gs (on a s) is h (ap (λ (ys : List Piece). front ++ ys) e ∙ sym (append_assoc front a (gs ++ r ∷ z))) (ap (λ (ys : List Piece). front ++ ys) ex ∙ sym (append_assoc front a gs))
+role_after : (F : Piece → Type 0) (version : ℕ) (front xs x : List Piece) (r : Piece) (z : List Piece) → ((ys : List Piece) → Shaped F version ys → Shaped F version (front ++ ys)) → Role F version xs x r z
+    → Role F version (front ++ xs) (front ++ x) r z
+role_after F version front xs x r z on (IsFree f s) = IsFree f (on x s)
+role_after F version front xs x r z on (IsOwn a g u y p b s h e ex) =
+    IsOwn (front ++ a) g u y p b (on a s) h (ap (λ (ys : List Piece). front ++ ys) e ∙ sym (append_assoc front a ((u ++ r ∷ y) ++ p ∷ b))) (ap (λ (ys : List Piece). front ++ ys) ex ∙ sym (append_assoc front a u))
+role_after F version front xs x r z on (Serves a g gs done s h ex) =
+    Serves (front ++ a) g gs done (on a s) h (ap (λ (ys : List Piece). front ++ ys) ex ∙ sym (append_assoc front a (gs ++ done)))
 
-pub role_of : (F : Piece → Type 0) (xs x : List Piece) (r : Piece) (z : List Piece) → Shaped F xs → xs ≡ x ++ r ∷ z → Role F xs x r z
-role_of F xs x r z (Ends _ empty) e = absurd (no_cut x r z (sym empty ∙ e))
-role_of F xs [] r z (Free _ p ps is f rest) e = IsFree (subst F (heads p r ps z (sym is ∙ e)) f) (Ends [] refl)
-role_of F xs (n ∷ x) r z (Free _ p ps is f rest) e =
+pub role_of : (F : Piece → Type 0) (version : ℕ) (xs x : List Piece) (r : Piece) (z : List Piece) → Shaped F version xs → xs ≡ x ++ r ∷ z → Role F version xs x r z
+role_of F version xs x r z (Ends _ empty) e = absurd (no_cut x r z (sym empty ∙ e))
+role_of F version xs [] r z (Free _ p ps is f rest) e = IsFree (subst F (heads p r ps z (sym is ∙ e)) f) (Ends [] refl)
+role_of F version xs (n ∷ x) r z (Free _ p ps is f rest) e =
     let h : p ≡ n = heads p n ps (x ++ r ∷ z) (sym is ∙ e) in
-    let q : Role F ps x r z = role_of F ps x r z rest (tails p n ps (x ++ r ∷ z) (sym is ∙ e)) in
-    subst (λ (ys : List Piece). Role F ys (n ∷ x) r z) (sym is) (subst (λ (m : Piece). Role F (p ∷ ps) (m ∷ x) r z) h (role_after F (p ∷ []) ps x r z (λ ys s. Free (p ∷ ys) p ys refl f s) q))
-role_of F xs x r z (Guards _ g gs p ps are is h rest) e = by (lies gs p ps x r z (sym are ∙ e)) (λ more t. role_of F ps more r z rest t)
+    let q : Role F version ps x r z = role_of F version ps x r z rest (tails p n ps (x ++ r ∷ z) (sym is ∙ e)) in
+    subst (λ (ys : List Piece). Role F version ys (n ∷ x) r z) (sym is)
+    (subst (λ (m : Piece). Role F version (p ∷ ps) (m ∷ x) r z) h (role_after F version (p ∷ []) ps x r z (λ ys s. Free (p ∷ ys) p ys refl f s) q))
+role_of F version xs x r z (Guards _ g gs p more ps are is rest) e = in_guard (lies gs (p ∷ (more ++ ps)) x r z (sym are ∙ e)) (λ less t. role_of F version ps less r z rest t)
   where
-    whole : xs ≡ (gs ++ p ∷ []) ++ ps
-    whole = are ∙ sym (append_assoc gs (p ∷ []) ps)
+    whole : xs ≡ (gs ++ (p ∷ more)) ++ ps
+    whole = are ∙ sym (append_assoc gs (p ∷ more) ps)
 
-    on : (ys : List Piece) → Shaped F ys → Shaped F ((gs ++ p ∷ []) ++ ys)
-    on ys s = Guards ((gs ++ p ∷ []) ++ ys) g gs p ys (append_assoc gs (p ∷ []) ys) is h s
+    on : (ys : List Piece) → Shaped F version ys → Shaped F version ((gs ++ (p ∷ more)) ++ ys)
+    on ys s = Guards ((gs ++ (p ∷ more)) ++ ys) g gs p more ys (append_assoc gs (p ∷ more) ys) is s
 
-    by : Lies gs p ps x r z → ((more : List Piece) → ps ≡ more ++ r ∷ z → Role F ps more r z) → Role F xs x r z
-    by (Inside y f) later = IsOwn [] g x y p ps (Ends [] refl) (subst (IsGuard g) f is) h (are ∙ ap (λ (ys : List Piece). ys ++ p ∷ ps) f) refl
-    by (Behind f s t) later = Serves [] g gs (Ends [] refl) is (subst (IsServed g) (sym s) h) (are ∙ (λ j. gs ++ sym s j ∷ sym t j)) f
-    by (After more f t) later =
-        let front : x ≡ (gs ++ p ∷ []) ++ more = f ∙ sym (append_assoc gs (p ∷ []) more) in
-        subst (λ (ys : List Piece). Role F ys x r z) (sym whole) (subst (λ (ys : List Piece). Role F ((gs ++ p ∷ []) ++ ps) ys r z) (sym front) (role_after F (gs ++ p ∷ []) ps more r z on (later more t)))
+    -- behind the guard, among what it serves or behind that
+    in_served : (less : List Piece) → x ≡ gs ++ less → Lies (p ∷ more) ps less r z → ((less : List Piece) → ps ≡ less ++ r ∷ z → Role F version ps less r z) → Role F version xs x r z
+    in_served less front (InFirst others f t) later = Serves [] g gs less (Ends [] refl) (served_of version g gs less r others (subst (IsGuarding version g gs) f is)) front
+    in_served less front (InSecond behind f t) later =
+        let place : x ≡ (gs ++ (p ∷ more)) ++ behind = front ∙ ap (λ (ys : List Piece). gs ++ ys) f ∙ sym (append_assoc gs (p ∷ more) behind) in
+        subst (λ (ys : List Piece). Role F version ys x r z) (sym whole)
+        (subst (λ (ys : List Piece). Role F version ((gs ++ (p ∷ more)) ++ ps) ys r z) (sym place) (role_after F version (gs ++ (p ∷ more)) ps behind r z on (later behind t)))
+
+    in_guard : Lies gs (p ∷ (more ++ ps)) x r z → ((less : List Piece) → ps ≡ less ++ r ∷ z → Role F version ps less r z) → Role F version xs x r z
+    in_guard (InFirst y f t) later =
+        let h : IsServedBy version g gs [] p = first_served version g gs p more is in
+        IsOwn [] g x y p (more ++ ps) (Ends [] refl) (subst (λ (ys : List Piece). IsServedBy version g ys [] p) f h) (are ∙ ap (λ (ys : List Piece). ys ++ (p ∷ (more ++ ps))) f) refl
+    in_guard (InSecond less front t) later = in_served less front (lies (p ∷ more) ps less r z t) later
 
 -- ---- forms stay where words move
 
@@ -213,11 +211,11 @@ not_both Sxt c s = s
 not_both Push c s = c
 not_both Call c s = c
 
-through_dst : (d : Dst) (r : ℕ) → d ≡ dst.Indexed 4 0 → DstIs d r → ⊥
-through_dst (dst.Reg n) r e h = let f : dst.Reg n ≡ dst.Indexed 4 0 = e in cc
-through_dst (dst.Indexed n x) r e h = h
-through_dst (dst.Symbolic x) r e h = h
-through_dst (dst.Absolute x) r e h = h
+through_dst : (d : Dst) (x r : ℕ) → d ≡ dst.Indexed 4 x → DstIs d r → ⊥
+through_dst (dst.Reg n) x r e h = let f : dst.Reg n ≡ dst.Indexed 4 x = e in cc
+through_dst (dst.Indexed n y) x r e h = h
+through_dst (dst.Symbolic y) x r e h = h
+through_dst (dst.Absolute y) x r e h = h
 
 at_r4_src : (s : Src) (r : ℕ) → IsAtR4 s → SrcIs s r → ⊥
 at_r4_src (src.Reg n) r a h = a
@@ -276,7 +274,7 @@ is_reg_src (src.Const c) a b h k = h
 -- a guarded form, by its instruction
 abbrev pub ServedForm : GuardKind → Option RelKind → Instr → Type 0
 ServedForm guard.Store k i = IsThroughR4 k i
-ServedForm (guard.Wide r) k i = ⊥
+ServedForm (guard.Wide r) k i = IsNearR4 (reach_bytes r) k i
 ServedForm guard.Load k i = ⊥
 ServedForm guard.Growth k i = IsGrowthForm i
 ServedForm guard.Pop k i = IsPopForm i
@@ -303,11 +301,14 @@ served_reti g k (instr.Jump c n) f h = h
 
 -- R0 to R3 are written by guarded pieces only as the SP guard's
 pub served_reg : (g : GuardKind) (k : Option RelKind) (i : Instr) (r : ℕ) → r < 4 → ServedForm g k i → WritesReg i r → (g ≡ guard.Sp) × (r ≡ 1)
-served_reg guard.Store k (instr.Two op w s d) r low f h = absurd (through_dst d r f.1 h.1)
+served_reg guard.Store k (instr.Two op w s d) r low f h = absurd (through_dst d 0 r f.1 h.1)
 served_reg guard.Store k (instr.One op w s) r low f h = absurd (at_r4_src s r f.1 h.1)
 served_reg guard.Store k instr.Reti r low f h = absurd h
 served_reg guard.Store k (instr.Jump c n) r low f h = absurd h
-served_reg (guard.Wide q) k i r low f h = absurd f
+served_reg (guard.Wide q) k (instr.Two op w s d) r low f h = absurd (through_dst d f.1.0 r f.1.1.0 h.1)
+served_reg (guard.Wide q) k (instr.One op w s) r low f h = absurd f
+served_reg (guard.Wide q) k instr.Reti r low f h = absurd f
+served_reg (guard.Wide q) k (instr.Jump c n) r low f h = absurd f
 served_reg guard.Load k i r low f h = absurd f
 served_reg guard.Growth k (instr.Two op w s d) r low f h = absurd f
 served_reg guard.Growth k (instr.One op w s) r low f h = absurd (not_both op h.0 f.0)
@@ -322,9 +323,9 @@ served_reg guard.Sp k (instr.One op w s) r low f h = absurd f
 served_reg guard.Sp k instr.Reti r low f h = absurd h
 served_reg guard.Sp k (instr.Jump c n) r low f h = absurd h
 
-pub served_memory : (g : GuardKind) (k : Option RelKind) (i : Instr) → ServedForm g k i → WritesMemory i → g ≡ guard.Store
-served_memory guard.Store k i f h = refl
-served_memory (guard.Wide r) k i f h = absurd f
+pub served_memory : (g : GuardKind) (k : Option RelKind) (i : Instr) → ServedForm g k i → WritesMemory i → KeepsStores g
+served_memory guard.Store k i f h = tt
+served_memory (guard.Wide r) k i f h = tt
 served_memory guard.Load k i f h = absurd f
 served_memory guard.Growth k (instr.Two op w s d) f h = absurd f
 served_memory guard.Growth k (instr.One op w s) f h = absurd (not_both op h.0 f.0)
@@ -345,7 +346,10 @@ served_stack guard.Store k (instr.Two op w s d) f h = absurd (f.3.1 h)
 served_stack guard.Store k (instr.One op w s) f h = absurd (at_r4_pops s 1 f.1 h)
 served_stack guard.Store k instr.Reti f h = absurd h
 served_stack guard.Store k (instr.Jump c n) f h = absurd h
-served_stack (guard.Wide r) k i f h = absurd f
+served_stack (guard.Wide r) k (instr.Two op w s d) f h = absurd (f.3.1 h)
+served_stack (guard.Wide r) k (instr.One op w s) f h = absurd f
+served_stack (guard.Wide r) k instr.Reti f h = absurd f
+served_stack (guard.Wide r) k (instr.Jump c n) f h = absurd f
 served_stack guard.Load k i f h = absurd f
 served_stack guard.Growth k (instr.Two op w s d) f h = absurd f
 served_stack guard.Growth k (instr.One op w s) f h = absurd (f.1.1 h)
@@ -362,7 +366,10 @@ served_push guard.Store k (instr.Two op w s d) f h = absurd h
 served_push guard.Store k (instr.One op w s) f h = absurd (not_both op f.0 h)
 served_push guard.Store k instr.Reti f h = absurd h
 served_push guard.Store k (instr.Jump c n) f h = absurd h
-served_push (guard.Wide r) k i f h = absurd f
+served_push (guard.Wide r) k (instr.Two op w s d) f h = absurd h
+served_push (guard.Wide r) k (instr.One op w s) f h = absurd f
+served_push (guard.Wide r) k instr.Reti f h = absurd f
+served_push (guard.Wide r) k (instr.Jump c n) f h = absurd f
 served_push guard.Load k i f h = absurd f
 served_push guard.Pop k (instr.Two op w s d) f h = absurd h
 served_push guard.Pop k (instr.One op w s) f h = absurd f

@@ -1,5 +1,5 @@
 -- Units of clean source instructions are shaped.
-use Rattle.std.proofs.Common.{◌≡◌, ◌≢◌, ℕ, ◌≤◌, ◌<◌, nat_eq, if◌then◌else◌, Bool, true, false, ◌&&◌, List, [], ◌∷◌, ◌++◌, ◌⊎◌, inl, inr, ℤ, pos, Option, None, refl, sym, subst, ap, ◌∙◌, arith, rules, eq-eqb}
+use Rattle.std.proofs.Common.{◌≡◌, ◌≢◌, ℕ, ◌≤◌, ◌<◌, nat_eq, if◌then◌else◌, Bool, true, false, ◌&&◌, List, [], ◌∷◌, ◌++◌, ◌⊎◌, inl, inr, ℤ, Option, None, refl, sym, subst, ap, ◌∙◌, arith, rules, eq-eqb}
 use Rattle.std.proofs.lemmas.Bool.{cases_order, cases_lt}
 use Rattle.msp_encode.specs.declared.instr.Op2.{Op2}
 use Rattle.msp_encode.specs.declared.instr.Op2.TheVariants.{Mov, Add, Addc, Subc, Sub, Cmp, Dadd, Bit, Bic, Bis, Xor, And}
@@ -17,8 +17,8 @@ use Rattle.code_model.specs.declared.object.Object.{Object}
 use Rattle.code_model.specs.declared.parts.RelKind.{RelKind}
 use Rattle.code_model.specs.declared.guards.GuardKind.{GuardKind}
 use Rattle.code_model.specs.declared.guards.GuardKind.TheVariants as guard
-use Rattle.code_model.specs.Guards.{Writes, IsMov, IsWide, DstIs, Pops, IsQuiet, IsPopForm}
-use Rattle.code_model.specs.Rules.{IsReti, WritesReg, IsImmediate, IsBranch, IsMemoryDst, WritesMemory, ReadsStack, IsPushOrCall, IsAlways}
+use Rattle.code_model.specs.Guards.{most_served, least_version, Writes, IsMov, IsWide, DstIs, Pops, IsQuiet, IsPopForm}
+use Rattle.code_model.specs.Rules.{IsReti, WritesReg, IsImmediate, IsBranch, IsMemoryDst, WritesMemory, ReadsStack, IsPushOrCall}
 use Rattle.insert_model.specs.declared.aim.Aim.TheVariants.{ToPc, ToSp, ToMemory, Elsewhere}
 use Rattle.insert_model.specs.declared.line.Line.{Line}
 use Rattle.insert_model.specs.declared.piece.Piece.{Piece}
@@ -29,8 +29,14 @@ use Rattle.insert_model.specs.Faults.{UsesCheck, SrcUsesCheck, ChangesFlags, Set
 use Rattle.insert_laws.specs.Shapes.{saving, IsGuard, IsServed, Shaped, Ends, Free, Guards, IsFreeForm, IsCleanLine}
 use Rattle.kernel_model.specs.declared.entries.TheConstants.{GOES}
 
+-- no rule on forms asks for a guard, and it is no jump
+pub record IsPlainForm (p : Piece) : Type 0 where
+  pub free : IsFreeForm p
+  pub no_jump : (c : Cond) (k : ℤ) → p.instr ≡ instr.Jump c k → ⊥
+
+-- the units of what is no jump, in which each guard serves one instruction and is known to version 1
 abbrev pub Good : List Piece → Type 0
-Good ps = Shaped IsFreeForm ps
+Good ps = Shaped IsPlainForm 1 ps
 
 -- ---- tests
 
@@ -40,7 +46,7 @@ eq_of a b e = search rules
 ne_of : (a b : ℕ) → nat_eq a b ≡ false → a ≢ b
 ne_of a b e f = let g : nat_eq a b ≡ true = eq-eqb a b f in let h : true ≡ false = sym g ∙ e in cc
 
-writes_so : (op : Op2) → writes op ≡ true → Writes op
+pub writes_so : (op : Op2) → writes op ≡ true → Writes op
 writes_so Mov e = tt
 writes_so Add e = tt
 writes_so Addc e = tt
@@ -139,11 +145,19 @@ shaped_if false x y hx hy = hy refl
 pub none : Good []
 none = Ends [] refl
 
-pub free : (p : Piece) (ps : List Piece) → IsFreeForm p → Good ps → Good (p ∷ ps)
+pub free : (p : Piece) (ps : List Piece) → IsPlainForm p → Good ps → Good (p ∷ ps)
 free p ps h rest = Free (p ∷ ps) p ps refl h rest
 
-pub guarded : (g : GuardKind) (gs : List Piece) (p : Piece) (ps : List Piece) → IsGuard g gs → IsServed g p → Good ps → Good (gs ++ p ∷ ps)
-guarded g gs p ps is h rest = Guards (gs ++ p ∷ ps) g gs p ps refl is h rest
+some_served : (g : GuardKind) → 1 ≤ most_served g
+some_served guard.Store = omega arith
+some_served (guard.Wide r) = omega arith
+some_served guard.Load = omega arith
+some_served guard.Growth = omega arith
+some_served guard.Pop = omega arith
+some_served guard.Sp = omega arith
+
+pub guarded : (g : GuardKind) (gs : List Piece) (p : Piece) (ps : List Piece) → least_version g ≡ 1 → IsGuard g gs → IsServed g p → Good ps → Good (gs ++ p ∷ ps)
+guarded g gs p ps known is h rest = Guards (gs ++ p ∷ ps) g gs p [] ps refl (record { known = omega (arith, known); is = is; few = some_served g; each = (h, tt) }) rest
 
 r5_of : Instr → ℕ
 r5_of (instr.Two op w s (dst.Reg n)) = n
@@ -153,56 +167,56 @@ sr_of : Instr → ℕ
 sr_of (instr.Two op w (src.Reg n) d) = n
 sr_of _ = 99
 
-pub free_branch : (x : ℕ) (k : Option RelKind) → IsFreeForm (branch x k)
+pub free_branch : (x : ℕ) (k : Option RelKind) → IsPlainForm (branch x k)
 unfolding r5_of
 free_branch x k = record {
-  no_reti = λ h. h;
-  pc = λ h. (tt, tt, tt, refl);
-  no_sp = λ h. omega (arith, h.1);
-  no_memory = λ h. h.1;
-  no_pop = λ h. h;
-  no_push = λ h. h;
-  no_save = λ e. omega (arith, ap r5_of e);
-  jumps = λ c n e. cc;
-  sr = λ h never. omega (arith, h.1);
+  free = record {
+    no_reti = λ h. h;
+    pc = λ h. (tt, tt, tt, refl);
+    no_sp = λ h. omega (arith, h.1);
+    no_memory = λ h. h.1;
+    no_pop = λ h. h;
+    no_push = λ h. h;
+    no_save = λ e. omega (arith, ap r5_of e);
+    sr = λ h never. omega (arith, h.1);
+  };
+  no_jump = λ c n e. cc;
 }
 
-jump_cond : (c e : Cond) (m n : ℤ) → instr.Jump c m ≡ instr.Jump e n → c ≡ e
-jump_cond c e m n h = cc
-
-jump_by : (c e : Cond) (m n : ℤ) → instr.Jump c m ≡ instr.Jump e n → m ≡ n
-jump_by c e m n h = cc
-
-pub free_jump : (c : Cond) (n : ℕ) → (pos n ≡ pos 1) ⊎ IsAlways c → IsFreeForm (jump c (pos n))
+pub free_jump : (c : Cond) (k : ℤ) → IsFreeForm (jump c k)
 unfolding r5_of
-free_jump c n short = record { no_reti = λ h. h; pc = λ h. absurd h; no_sp = λ h. h; no_memory = λ h. h; no_pop = λ h. h; no_push = λ h. h; no_save = λ e. omega (arith, ap r5_of e); jumps = λ d m e. elim short [ inl a ↦ inl (sym (jump_by c d (pos n) m e) ∙ a) | inr b ↦ inr (subst IsAlways (jump_cond c d (pos n) m e) b) ]; sr = λ h never. h }
+free_jump c k = record { no_reti = λ h. h; pc = λ h. absurd h; no_sp = λ h. h; no_memory = λ h. h; no_pop = λ h. h; no_push = λ h. h; no_save = λ e. omega (arith, ap r5_of e); sr = λ h never. h }
 
-pub free_into : (op : Op2) (w : Width) (s : Src) (k : Option RelKind) → (Pops s 1 → ⊥) → IsFreeForm (into_r4 op w s k)
+pub free_into : (op : Op2) (w : Width) (s : Src) (k : Option RelKind) → (Pops s 1 → ⊥) → IsPlainForm (into_r4 op w s k)
 unfolding r5_of
 free_into op w s k never = record {
-  no_reti = λ h. h;
-  pc = λ h. absurd (omega (arith, h.1));
-  no_sp = λ h. omega (arith, h.1);
-  no_memory = λ h. h.1;
-  no_pop = never;
-  no_push = λ h. h;
-  no_save = λ e. omega (arith, ap r5_of e);
-  jumps = λ c n e. cc;
-  sr = λ h never. omega (arith, h.1);
+  free = record {
+    no_reti = λ h. h;
+    pc = λ h. absurd (omega (arith, h.1));
+    no_sp = λ h. omega (arith, h.1);
+    no_memory = λ h. h.1;
+    no_pop = never;
+    no_push = λ h. h;
+    no_save = λ e. omega (arith, ap r5_of e);
+    sr = λ h never. omega (arith, h.1);
+  };
+  no_jump = λ c n e. cc;
 }
 
-free_from : (op : Op2) (w : Width) (d : Dst) (k : Option RelKind) → (Writes op → DstIs d 0 → ⊥) → (Writes op → DstIs d 1 → ⊥) → (Writes op → IsMemoryDst d → ⊥) → (Writes op → DstIs d 2 → ⊥) → IsFreeForm (from_r4 op w d k)
+free_from : (op : Op2) (w : Width) (d : Dst) (k : Option RelKind) → (Writes op → DstIs d 0 → ⊥) → (Writes op → DstIs d 1 → ⊥) → (Writes op → IsMemoryDst d → ⊥) → (Writes op → DstIs d 2 → ⊥) → IsPlainForm (from_r4 op w d k)
 unfolding sr_of
 free_from op w d k pc sp memory sr = record {
-  no_reti = λ h. h;
-  pc = λ h. absurd (pc h.0 h.1);
-  no_sp = λ h. sp h.0 h.1;
-  no_memory = λ h. memory h.0 h.1;
-  no_pop = λ h. h;
-  no_push = λ h. h;
-  no_save = λ e. omega (arith, ap sr_of e);
-  jumps = λ c n e. cc;
-  sr = λ h never. sr h.0 h.1;
+  free = record {
+    no_reti = λ h. h;
+    pc = λ h. absurd (pc h.0 h.1);
+    no_sp = λ h. sp h.0 h.1;
+    no_memory = λ h. memory h.0 h.1;
+    no_pop = λ h. h;
+    no_push = λ h. h;
+    no_save = λ e. omega (arith, ap sr_of e);
+    sr = λ h never. sr h.0 h.1;
+  };
+  no_jump = λ c n e. cc;
 }
 
 -- ---- facts of clean lines
@@ -271,27 +285,29 @@ module _ (o : Object) (l : Line) (p : Piece) (op : Op2) (w : Width) (s : Src) (d
       is.clean.allowed (inl (inr (inl (g, λ c. never (subst (λ (r : Piece). ChangesFlags r.instr r.source) (sym is.same) (flags_own l.instr l.second l.third c))))))
 
   -- p itself, where nothing asks for a guard
-  own_free : (Pops s 1 → ⊥) → (Writes op → DstIs d 0 → IsBranch (instr.Two op w s d)) → (Writes op → DstIs d 1 → ⊥) → (Writes op → IsMemoryDst d → ⊥) → IsFreeForm p
+  own_free : (Pops s 1 → ⊥) → (Writes op → DstIs d 0 → IsBranch (instr.Two op w s d)) → (Writes op → DstIs d 1 → ⊥) → (Writes op → IsMemoryDst d → ⊥) → IsPlainForm p
   own_free pops pc sp memory = record {
-    no_reti = λ h. subst IsReti is.piece h;
-    pc = λ h. let g : WritesReg (instr.Two op w s d) 0 = subst (λ (i : Instr). WritesReg i 0) is.piece h in subst IsBranch (sym is.piece) (pc g.0 g.1);
-    no_sp = λ h. let g : WritesReg (instr.Two op w s d) 1 = subst (λ (i : Instr). WritesReg i 1) is.piece h in sp g.0 g.1;
-    no_memory = λ h. let g : WritesMemory (instr.Two op w s d) = subst WritesMemory is.piece h in memory g.0 g.1;
-    no_pop = λ h. pops (subst ReadsStack is.piece h);
-    no_push = λ h. subst IsPushOrCall is.piece h;
-    no_save = own_save;
-    jumps = λ c n e. let f : instr.Two op w s d ≡ instr.Jump c n = sym is.piece ∙ e in cc;
-    sr = own_sr;
+    free = record {
+      no_reti = λ h. subst IsReti is.piece h;
+      pc = λ h. let g : WritesReg (instr.Two op w s d) 0 = subst (λ (i : Instr). WritesReg i 0) is.piece h in subst IsBranch (sym is.piece) (pc g.0 g.1);
+      no_sp = λ h. let g : WritesReg (instr.Two op w s d) 1 = subst (λ (i : Instr). WritesReg i 1) is.piece h in sp g.0 g.1;
+      no_memory = λ h. let g : WritesMemory (instr.Two op w s d) = subst WritesMemory is.piece h in memory g.0 g.1;
+      no_pop = λ h. pops (subst ReadsStack is.piece h);
+      no_push = λ h. subst IsPushOrCall is.piece h;
+      no_save = own_save;
+      sr = own_sr;
+    };
+    no_jump = λ c n e. let f : instr.Two op w s d ≡ instr.Jump c n = sym is.piece ∙ e in cc;
   }
 
   popping_shaped : s ≡ src.AutoInc 1 → Good (popping op w d p)
   popping_shaped e =
       let pops : Pops s 1 = subst (λ (x : Src). Pops x 1) (sym e) refl in
       shaped_if (is_pc d) (pop_guard ++ pop_r4 ∷ branch GOES None ∷ []) (if is_plain_pop op w d then pop_guard ++ p ∷ [] else pop_guard ++ pop_r4 ∷ from_r4 op w d p.destination ∷ [])
-      (λ t. guarded guard.Pop pop_guard pop_r4 (branch GOES None ∷ []) refl (search rules) (free (branch GOES None) [] (free_branch GOES None) none))
+      (λ t. guarded guard.Pop pop_guard pop_r4 (branch GOES None ∷ []) refl refl (search rules) (free (branch GOES None) [] (free_branch GOES None) none))
       (λ other. shaped_if (is_plain_pop op w d) (pop_guard ++ p ∷ []) (pop_guard ++ pop_r4 ∷ from_r4 op w d p.destination ∷ [])
-      (λ t. guarded guard.Pop pop_guard p [] refl (plain_pop t) none)
-      (λ t. guarded guard.Pop pop_guard pop_r4 (from_r4 op w d p.destination ∷ []) refl (search rules)
+      (λ t. guarded guard.Pop pop_guard p [] refl refl (plain_pop t) none)
+      (λ t. guarded guard.Pop pop_guard pop_r4 (from_r4 op w d p.destination ∷ []) refl refl (search rules)
       (free (from_r4 op w d p.destination) []
       (free_from op w d p.destination (λ h. pc_not d other) (λ h at. no_pop_target pops h (inl at)) (λ h m. no_pop_target pops h (inr (inr (memory_of d m)))) (λ h at. no_pop_target pops h (inr (inl at)))) none)))
     where
@@ -320,7 +336,7 @@ base_register n below b = elim (cases_lt n 3) [
 ]
 
 stored : (op : Op2) (w : Width) (s : Src) (p : Piece) (n x : ℕ) (k : Option RelKind) → Writes op → IsQuiet s → n < 16 → (n ≡ 1) ⊎ (3 ≤ n) → Good (store_guard n x k ++ through_r4 op w s p.source ∷ [])
-stored op w s p n x k h quiet below register = guarded guard.Store (store_guard n x k) (through_r4 op w s p.source) [] (store_of n x k below register) (through_store op w s p.source h quiet) none
+stored op w s p n x k h quiet below register = guarded guard.Store (store_guard n x k) (through_r4 op w s p.source) [] refl (store_of n x k below register) (through_store op w s p.source h quiet) none
 
 to_pc : (o : Object) (l : Line) (p : Piece) (op : Op2) (w : Width) (s : Src) (n : ℕ) → IsTwo o l p op w s (dst.Reg n) → Writes op → (Pops s 1 → ⊥) → n ≡ 0 → Good (writing op w s p ToPc)
 to_pc o l p op w s n is h pops zero' =
@@ -370,7 +386,7 @@ to_pc o l p op w s n is h pops zero' =
 to_sp : (op : Op2) (w : Width) (s : Src) (k : Option RelKind) → (Pops s 1 → ⊥) → Good (setting_sp op w s k)
 to_sp op w s k pops =
     free take_sp (into_r4 op w s k ∷ (sp_guard ++ give_sp ∷ [])) (free_into Mov Wide (src.Reg 1) None (λ h. h))
-    (free (into_r4 op w s k) (sp_guard ++ give_sp ∷ []) (free_into op w s k pops) (guarded guard.Sp sp_guard give_sp [] refl (search rules) none))
+    (free (into_r4 op w s k) (sp_guard ++ give_sp ∷ []) (free_into op w s k pops) (guarded guard.Sp sp_guard give_sp [] refl refl (search rules) none))
 
 writing_shaped : (o : Object) (l : Line) (p : Piece) (op : Op2) (w : Width) (s : Src) (d : Dst) (size : ℕ) → IsTwo o l p op w s d → Writes op → (Pops s 1 → ⊥) → Good (writing op w s p (aim size d p.destination))
 writing_shaped o l p op w s (dst.Reg n) size is h pops = by (nat_eq n 0) (nat_eq n 1) refl refl

@@ -1,8 +1,8 @@
 -- The lines of a source whose code is spelled: one behind another, each an instruction that stands at its place.
-use Rattle.std.proofs.Common.{◌≡◌, ℕ, suc, ◌+◌, ◌≤◌, ◌<◌, List, [], ◌∷◌, inl, inr, length, drop, refl, sym, subst, ap, ◌∙◌, arith}
+use Rattle.std.proofs.Common.{◌≡◌, ℕ, suc, ◌+◌, ◌≤◌, ◌<◌, List, [], ◌∷◌, ◌++◌, inl, inr, length, drop, refl, sym, subst, ap, ◌∙◌, arith}
 use Rattle.std.specs.List.{AllByRecursion, Contains}
 use Rattle.std.proofs.lemmas.Bool.{cases_lt}
-use Rattle.std.proofs.lemmas.List.{drop_all}
+use Rattle.std.proofs.lemmas.List.{drop_all, length-drop}
 use Rattle.std.proofs.lemmas.List.Elements.{All-from_recursion}
 use Rattle.msp_encode.specs.declared.instr.Instr.{Instr}
 use Rattle.code_laws.specs.Laws.{StartsApart}
@@ -16,10 +16,10 @@ use Rattle.insert_model.specs.Source.{line_at, lines_from, lines}
 use Rattle.insert_model.specs.Laws.{SizeLaw, LineLaw}
 use Rattle.insert_laws.specs.Lines.{IsInstruction, LinesAreSpelled}
 
--- each line has its place just behind the words of the one before
-abbrev pub Consecutive : ℕ → List Line → Type 0
-Consecutive t [] = Unit {0}
-Consecutive t (l ∷ ls) = (l.at ≡ t) × Consecutive (t + count l.instr) ls
+-- each line has its place just behind the words of the one before, and the last ends at a place
+abbrev pub Consecutive : (from : ℕ) → List Line → (to : ℕ) → Type 0
+Consecutive t [] end = t ≡ end
+Consecutive t (l ∷ ls) end = (l.at ≡ t) × Consecutive (t + count l.instr) ls end
 
 heads : (m n : Line) (xs ys : List Line) → m ∷ xs ≡ n ∷ ys → m ≡ n
 heads m n xs ys e = cc
@@ -68,16 +68,29 @@ module _ (size : SizeLaw) (line : LineLaw) (o : Object) (spelled : AllSpelled o)
   none_past : (t : ℕ) (l : Line) (ls : List Line) → length o.code ≤ t → lines_from o.relocs t 0 (drop t o.code) ≡ l ∷ ls → ⊥
   none_past t l ls h e = no_line l ls (sym (from_end t h) ∙ e)
 
-  consecutive : (ls : List Line) (k t : ℕ) → Reached o.code k t → lines_from o.relocs t 0 (drop t o.code) ≡ ls → Consecutive t ls
-  consecutive [] k t r e = tt
-  consecutive (l ∷ ls) k t r e = elim (cases_lt t (length o.code)) [
-    | inl less ↦ let c : Cut o k t l ls = cut_at k t l ls r less e in (c.place, consecutive ls (suc k) (t + count l.instr) c.reached c.rest)
+  -- no line is left only at the code's end
+  none_left : (k t : ℕ) → Reached o.code k t → t < length o.code → lines_from o.relocs t 0 (drop t o.code) ≡ [] → ⊥
+  none_left k t r less e =
+      let s : IsSpelled o.code t = spelled t (record { count = k; reached = r; below = less }) in
+      no_line (line_at o.relocs t s.instr) (lines_from o.relocs (t + s.words) 0 (drop (t + s.words) o.code))
+      (sym e ∙ line o.relocs o.code t s.instr s.words o.form.words_small less s.stands)
+
+  within : (t : ℕ) (i : Instr) (n : ℕ) → Stands o.code t i n → t < length o.code → t + n ≤ length o.code
+  within t i n s b = omega (arith, s.0, length-drop t o.code)
+
+  consecutive : (ls : List Line) (k t : ℕ) → Reached o.code k t → t ≤ length o.code → lines_from o.relocs t 0 (drop t o.code) ≡ ls → Consecutive t ls (length o.code)
+  consecutive [] k t r most e = elim (cases_lt t (length o.code)) [ inl less ↦ absurd (none_left k t r less e) | inr more ↦ omega arith ]
+  consecutive (l ∷ ls) k t r most e = elim (cases_lt t (length o.code)) [
+    | inl less ↦
+        let c : Cut o k t l ls = cut_at k t l ls r less e in
+        let stands : Stands o.code t l.instr (count l.instr) = subst (λ (x : ℕ). Stands o.code x l.instr (count l.instr)) c.place c.is.stands in
+        (c.place, consecutive ls (suc k) (t + count l.instr) c.reached (within t l.instr (count l.instr) stands less) c.rest)
     | inr more ↦ absurd (none_past t l ls more e)
   ]
 
-  pub source_consecutive : Consecutive 0 (lines (fields o))
+  pub source_consecutive : Consecutive 0 (lines (fields o)) (length o.code)
   unfolding lines
-  source_consecutive = consecutive (lines_from o.relocs 0 0 o.code) 0 0 refl refl
+  source_consecutive = consecutive (lines_from o.relocs 0 0 o.code) 0 0 refl (omega arith) refl
 
   instructions : (ls : List Line) (k t : ℕ) → Reached o.code k t → lines_from o.relocs t 0 (drop t o.code) ≡ ls → AllByRecursion (IsInstruction o.code) ls
   instructions [] k t r e = tt
@@ -86,7 +99,7 @@ module _ (size : SizeLaw) (line : LineLaw) (o : Object) (spelled : AllSpelled o)
     | inr more ↦ absurd (none_past t l ls more e)
   ]
 
-  source_instructions : AllByRecursion (IsInstruction o.code) (lines (fields o))
+  pub source_instructions : AllByRecursion (IsInstruction o.code) (lines (fields o))
   unfolding lines
   source_instructions = instructions (lines_from o.relocs 0 0 o.code) 0 0 refl refl
 
@@ -102,15 +115,8 @@ first_line : (l : Line) (ls : List Line) → Contains (l ∷ ls) l
 first_line l ls = (0, omega arith, refl)
 
 module _ (size : SizeLaw) (line : LineLaw) (apart : StartsApart) (o : Object) (spelled : AllSpelled o) (at : ℕ) (start : Start o.code at) where
-  -- no line is left only at the code's end
-  none_left : (k t : ℕ) → Reached o.code k t → t < length o.code → lines_from o.relocs t 0 (drop t o.code) ≡ [] → ⊥
-  none_left k t r less e =
-      let s : IsSpelled o.code t = spelled t (record { count = k; reached = r; below = less }) in
-      no_line (line_at o.relocs t s.instr) (lines_from o.relocs (t + s.words) 0 (drop (t + s.words) o.code))
-      (sym e ∙ line o.relocs o.code t s.instr s.words o.form.words_small less s.stands)
-
   line_from : (ls : List Line) (k t : ℕ) → Reached o.code k t → lines_from o.relocs t 0 (drop t o.code) ≡ ls → t ≤ at → LineOf ls at
-  line_from [] k t r e g = let below : at < length o.code = start.below in absurd (none_left k t r (omega arith) e)
+  line_from [] k t r e g = let below : at < length o.code = start.below in absurd (none_left size line o spelled k t r (omega arith) e)
   line_from (l ∷ ls) k t r e g =
       let below : at < length o.code = start.below in
       let c : Cut o k t l ls = cut_at size line o spelled k t l ls r (omega arith) e in
@@ -132,3 +138,9 @@ lines_stand size line apart o spelled = record {
   are = All-from_recursion (IsInstruction o.code) (lines (fields o)) (source_instructions size line o spelled);
   each = line_of size line apart o spelled;
 }
+
+-- ---- the last line
+
+pub line_end : (t : ℕ) (xs : List Line) (l : Line) (end : ℕ) → Consecutive t (xs ++ l ∷ []) end → l.at + count l.instr ≡ end
+line_end t [] l end c = omega (arith, c.0, c.1)
+line_end t (x ∷ xs) l end c = line_end (t + count x.instr) xs l end c.1

@@ -11,14 +11,16 @@ use Rattle.msp_encode.specs.declared.instr.Instr.{Instr}
 use Rattle.msp_encode.specs.declared.instr.Instr.TheVariants as instr
 use Rattle.msp_encode.specs.Spelling.{op2_code, op1_code, width_code, src_words, dst_words, words_after}
 use Rattle.code_model.specs.declared.parts.RelKind.{RelKind}
-use Rattle.insert_model.specs.declared.line.Line.{Line}
+use Rattle.code_model.specs.Fields.{Fields}
 use Rattle.insert_model.specs.declared.piece.Piece.{Piece}
 use Rattle.insert_model.specs.declared.piece.Word.{Word}
 use Rattle.msp_encode.specs.Spelled.{src_register, src_mode, dst_register, dst_mode, two_word, one_word, first_word, spelling, count}
 use Rattle.insert_model.specs.Words.{with_kind, operand_words, piece_words, unit_words}
-use Rattle.insert_model.specs.Units.{unit}
-use Rattle.insert_model.specs.Inserted.{moved, units}
-use Rattle.insert_laws.specs.Pieces.{pieces_of, moved_src, moved_dst, moved_instr, standing}
+use Rattle.insert_model.specs.Units.{static_bytes}
+use Rattle.insert_model.specs.Groups.{Group, groups}
+use Rattle.insert_model.specs.Layout.{final, final_units, units}
+use Rattle.insert_model.specs.Inserted.{moved}
+use Rattle.insert_laws.specs.Pieces.{unit_of_group, pieces_of, pieces, moved_src, moved_dst, moved_instr, standing}
 
 -- ---- one piece
 
@@ -99,16 +101,13 @@ unfolding unit_words
 unit_same go [] = refl
 unit_same go (p ∷ ps) = map-append (moved go) (piece_words p) (flat_map piece_words ps) ∙ (λ t. piece_same go p t ++ unit_same go ps t)
 
-pub units_same : (go : ℕ → ℕ) (size : ℕ) (ls : List Line) → map (moved go) (units size ls) ≡ flat_map spelling (map (standing go) (pieces_of size ls))
-unfolding units pieces_of
-units_same go size [] = refl
-units_same go size (l ∷ ls) =
-    map-append (moved go) (unit_words (unit size l)) (flat_map (λ m. unit_words (unit size m)) ls) ∙ (λ t. unit_same go (unit size l) t ++ units_same go size ls t)
-    ∙ sym (flat_map-append spelling (map (standing go) (unit size l)) (map (standing go) (flat_map (unit size) ls)))
-    ∙ ap (flat_map spelling) (sym (map-append (standing go) (unit size l) (flat_map (unit size) ls)))
-
 -- the words of units, whatever they name
-pub units_words : (size : ℕ) (ls : List Line) → units size ls ≡ unit_words (pieces_of size ls)
-unfolding units pieces_of unit_words
-units_words size [] = refl
-units_words size (l ∷ ls) = ap (λ (ws : List Word). unit_words (unit size l) ++ ws) (units_words size ls) ∙ sym (flat_map-append piece_words (unit size l) (flat_map (unit size) ls))
+pub units_words : (f : Fields) (gs : List Group) → units (final f) (static_bytes f) gs ≡ unit_words (pieces_of f gs)
+unfolding units pieces_of unit_of_group unit_words
+units_words f [] = refl
+units_words f (g ∷ gs) =
+    ap (λ (ws : List Word). unit_words (unit_of_group f g) ++ ws) (units_words f gs) ∙ sym (flat_map-append piece_words (unit_of_group f g) (flat_map (unit_of_group f) gs))
+
+pub final_words : (f : Fields) → final_units f ≡ unit_words (pieces f)
+unfolding final_units pieces
+final_words f = units_words f (groups f)

@@ -22,12 +22,13 @@ use Rattle.insert_model.specs.declared.piece.Piece.{Piece}
 use Rattle.insert_model.specs.declared.piece.Word.{Word}
 use Rattle.insert_model.specs.Words.{operand_words, piece_words, unit_words}
 use Rattle.insert_model.specs.Units.{static_bytes}
-use Rattle.insert_model.specs.Inserted.{moved_value, place_map, with_word, moved_at, moved_data, with_guards, inserted}
+use Rattle.insert_model.specs.Layout.{place_map}
+use Rattle.insert_model.specs.Inserted.{moved_value, with_word, moved_at, moved_data, with_guards, inserted}
 use Rattle.insert_model.specs.Faults.{IsInserted}
 use Rattle.insert_laws.specs.Pieces.{moved_src, moved_instr}
 use Rattle.insert_laws.specs.Laws.{kind_in}
 use Rattle.insert_laws.proofs.Guarding.{span}
-use Rattle.insert_laws.proofs.UnitStarts.{src_count}
+use Rattle.insert_laws.proofs.ServedForms.{src_count}
 use Rattle.insert_laws.proofs.WordKinds.{piece_kind}
 use Rattle.insert_laws.proofs.Tame.{TameInstr}
 

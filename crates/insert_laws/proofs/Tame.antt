@@ -1,6 +1,5 @@
 -- No piece writes an absolute word outside the static part.
 use Rattle.std.proofs.Common.{◌≡◌, ℕ, ◌<◌, nat_eq, nat_lt, if◌then◌else◌, Bool, true, false, List, [], ◌∷◌, ◌++◌, inr, Option, None, Some, refl, sym, subst, ◌∙◌, rules}
-use Rattle.std.specs.List.{flat_map}
 use Rattle.msp_encode.specs.declared.instr.Op1.{Op1}
 use Rattle.msp_encode.specs.declared.instr.Op1.TheVariants.{Rrc, Swpb, Rra, Sxt, Push, Call}
 use Rattle.msp_encode.specs.declared.instr.Op2.{Op2}
@@ -18,19 +17,23 @@ use Rattle.msp_encode.specs.declared.instr.Instr.TheVariants as instr
 use Rattle.code_model.specs.declared.object.Object.{Object}
 use Rattle.code_model.specs.declared.parts.RelKind.{RelKind}
 use Rattle.code_model.specs.declared.parts.RelKind.TheVariants.{Code, Data, Lo, Hi}
-use Rattle.code_model.specs.Guards.{Writes, Changes, Pops}
+use Rattle.code_model.specs.Fields.{fields}
+use Rattle.code_model.specs.Guards.{high_word, Writes, Changes, Pops}
 use Rattle.insert_model.specs.declared.aim.Aim.TheVariants.{ToPc, ToSp, ToMemory, Elsewhere}
 use Rattle.insert_model.specs.declared.line.Line.{Line}
 use Rattle.insert_model.specs.declared.piece.Piece.{Piece}
 use Rattle.insert_model.specs.Source.{own}
-use Rattle.insert_model.specs.Guards.{plain, branch, take_sp, pop_r4, give_sp, store_guard, growth_guard, pop_guard, sp_guard}
-use Rattle.insert_model.specs.Units.{is_static, aim, aim_one, writes, is_popped, is_immediate, is_pc, is_plain_pop, into_r4, through_r4, from_r4, popping, writing, two_unit, changing, calling_value, one_unit, target_offset, jump_unit, unit_of, unit}
+use Rattle.insert_model.specs.Guards.{plain, branch, take_sp, pop_r4, give_sp, region_guard, store_guard, growth_guard, pop_guard, sp_guard}
+use Rattle.insert_model.specs.Units.{static_bytes, is_static, aim, aim_one, writes, is_popped, is_immediate, is_pc, is_plain_pop, into_r4, through_r4, from_r4, popping, writing, two_unit, changing, calling_value, one_unit, target_offset, jump_unit, unit_of, unit}
+use Rattle.insert_model.specs.Groups.{Cell, cell, Group}
+use Rattle.insert_model.specs.Layout.{difference_of, beside}
 use Rattle.insert_model.specs.Faults.{IsMemory}
 use Rattle.insert_laws.specs.Pieces.{pieces_of}
 use Rattle.insert_laws.specs.Shapes.{IsCleanLine}
 use Rattle.insert_laws.proofs.UnitsFit.{own_instr}
 use Rattle.insert_laws.proofs.Shaping.{IsTwo, popped_so, writes_not, no_pop_target}
-use Rattle.insert_laws.proofs.ShapedUnits.{AllClean}
+use Rattle.insert_laws.proofs.CleanGroups.{AllGroups}
+use Rattle.insert_laws.proofs.GroupUnits.{IsBeside, near_piece, beside_is, all_pieces}
 use Rattle.kernel_model.specs.declared.entries.TheConstants.{CALLS, GOES}
 
 -- the word of an absolute operand that is written is an address in the static part
@@ -78,8 +81,8 @@ pub tame_member : (size : ℕ) (xs : List Piece) (p : Piece) (ys : List Piece) �
 tame_member size [] p ys h = h.0
 tame_member size (x ∷ xs) p ys h = tame_member size xs p ys h.1
 
-store_tame : (size n x : ℕ) (k : Option RelKind) → AllTame size (store_guard n x k)
-store_tame size n x k = (tt, (tt, (tt, (tt, (tt, (tt, (tt, (tt, (tt, tt)))))))))
+region_tame : (size n x high : ℕ) (k : Option RelKind) → AllTame size (region_guard n x high k)
+region_tame size n x high k = (tt, (tt, (tt, (tt, (tt, (tt, (tt, (tt, (tt, tt)))))))))
 
 growth_tame : (size : ℕ) → AllTame size growth_guard
 growth_tame size = (tt, (tt, (tt, (tt, (tt, tt)))))
@@ -128,7 +131,7 @@ to_register size p op w s false true own = tame_append size (take_sp ∷ into_r4
 to_register size p op w s false false own = own
 
 stored_tame : (size : ℕ) (p : Piece) (op : Op2) (w : Width) (s : Src) (n x : ℕ) (k : Option RelKind) → AllTame size (writing op w s p (ToMemory n x k))
-stored_tame size p op w s n x k = tame_append size (store_guard n x k) (through_r4 op w s p.source ∷ []) (store_tame size n x k) (tt, tt)
+stored_tame size p op w s n x k = tame_append size (store_guard n x k) (through_r4 op w s p.source ∷ []) (region_tame size n x 0 k) (tt, tt)
 
 to_absolute : (size : ℕ) (p : Piece) (op : Op2) (w : Width) (s : Src) (x : ℕ) (b : Bool) → (b ≡ true → AllTame size (p ∷ [])) → AllTame size (writing op w s p (if b then Elsewhere else ToMemory 3 x p.destination))
 to_absolute size p op w s x true own = own refl
@@ -150,15 +153,15 @@ two_tame o l p op w s d size is =
 
 one_absolute : (size : ℕ) (op : Op1) (w : Width) (p : Piece) (x : ℕ) (b : Bool) → (b ≡ true → AllTame size (p ∷ [])) → AllTame size (changing op w p (if b then Elsewhere else ToMemory 3 x p.source))
 one_absolute size op w p x true own = own refl
-one_absolute size op w p x false own = tame_append size (store_guard 3 x p.source) (plain (instr.One op w (src.Indirect 4)) ∷ []) (store_tame size 3 x p.source) (tt, tt)
+one_absolute size op w p x false own = tame_append size (store_guard 3 x p.source) (plain (instr.One op w (src.Indirect 4)) ∷ []) (region_tame size 3 x 0 p.source) (tt, tt)
 
 changing_tame : (size : ℕ) (op : Op1) (w : Width) (s : Src) (p : Piece) → p.instr ≡ instr.One op w s → AllTame size (changing op w p (aim_one size s p.source))
 changing_tame size op w (src.Reg n) p e = own_tame size p (instr.One op w (src.Reg n)) e tt
-changing_tame size op w (src.Indexed n x) p e = tame_append size (store_guard n x p.source) (plain (instr.One op w (src.Indirect 4)) ∷ []) (store_tame size n x p.source) (tt, tt)
+changing_tame size op w (src.Indexed n x) p e = tame_append size (store_guard n x p.source) (plain (instr.One op w (src.Indirect 4)) ∷ []) (region_tame size n x 0 p.source) (tt, tt)
 changing_tame size op w (src.Symbolic x) p e = own_tame size p (instr.One op w (src.Symbolic x)) e tt
 changing_tame size op w (src.Absolute x) p e =
     one_absolute size op w p x (is_static size x p.source) (λ t. own_tame size p (instr.One op w (src.Absolute x)) e (λ h. static_so size x p.source t))
-changing_tame size op w (src.Indirect n) p e = tame_append size (store_guard n 0 None) (plain (instr.One op w (src.Indirect 4)) ∷ []) (store_tame size n 0 None) (tt, tt)
+changing_tame size op w (src.Indirect n) p e = tame_append size (store_guard n 0 None) (plain (instr.One op w (src.Indirect 4)) ∷ []) (region_tame size n 0 0 None) (tt, tt)
 changing_tame size op w (src.AutoInc n) p e = own_tame size p (instr.One op w (src.AutoInc n)) e tt
 changing_tame size op w (src.Immediate x) p e = own_tame size p (instr.One op w (src.Immediate x)) e tt
 changing_tame size op w (src.Const c) p e = own_tame size p (instr.One op w (src.Const c)) e tt
@@ -208,7 +211,12 @@ unit_tame : (o : Object) (l : Line) (size : ℕ) → IsCleanLine o l → AllTame
 unfolding unit
 unit_tame o l size c = instr_tame o l size l.instr c refl
 
-pub lines_tame : (o : Object) (size : ℕ) (ls : List Line) → AllClean o ls → AllTame size (pieces_of size ls)
-unfolding pieces_of
-lines_tame o size [] c = tt
-lines_tame o size (l ∷ ls) c = tame_append size (unit size l) (flat_map (unit size) ls) (unit_tame o l size c.0) (lines_tame o size ls c.1)
+near_tame : (o : Object) (size most : ℕ) (c : Cell) (l : Line) → IsBeside o most c l → AllTame size (beside c l ∷ [])
+near_tame o size most c l h =
+    let p : AllTame size (near_piece h.op h.width h.source (difference_of c (cell l)) (own l).source ∷ []) = (tt, tt) in
+    subst (λ (r : Piece). AllTame size (r ∷ [])) (sym (beside_is o most c l h)) p
+
+pub pieces_tame : (o : Object) (gs : List Group) → AllGroups o gs → AllTame (static_bytes (fields o)) (pieces_of (fields o) gs)
+pieces_tame o gs c =
+    let size : ℕ = static_bytes (fields o) in
+    all_pieces o (AllTame size) tt (tame_append size) (λ l h. unit_tame o l size h) (λ l d k e s. (tt, tt)) (λ r d f. region_tame size d.base d.index (high_word r) d.kind) (near_tame o size) gs c

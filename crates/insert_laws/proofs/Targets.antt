@@ -1,8 +1,8 @@
 -- Where the starts of the source go.
-use Rattle.std.proofs.Common.{◌≡◌, ℕ, zero, suc, ◌+◌, ◌-◌, ◌*◌, ◌/◌, ◌≤◌, ◌<◌, nat_lt, nat_le, if◌then◌else◌, Bool, true, false, List, [], ◌∷◌, ◌++◌, inl, inr, length, map, drop, slice_index, slice_index_or, Option, None, Some, refl, sym, subst, ap, ◌∙◌, arith, rules}
-use Rattle.std.specs.List.{Contains}
+use Rattle.std.proofs.Common.{◌≡◌, ℕ, ◌+◌, ◌*◌, ◌≤◌, ◌<◌, if◌then◌else◌, Bool, true, false, List, [], ◌∷◌, ◌++◌, inl, inr, length, map, slice_index_or, None, refl, sym, subst, ap, ◌∙◌, arith}
+use Rattle.std.specs.List.{AllByRecursion, Contains, flat_map}
 use Rattle.std.proofs.lemmas.Bool.{cases_lt}
-use Rattle.std.proofs.lemmas.List.{append_assoc, append-nil, length-drop, length-map, get_or-map, get_or_default}
+use Rattle.std.proofs.lemmas.List.{append_assoc, length-map, get_or-map, get_or_default}
 use Rattle.std.proofs.lemmas.List.Concat.{flat_map-append}
 use Rattle.msp_encode.specs.declared.instr.Op2.{Op2}
 use Rattle.msp_encode.specs.declared.instr.Op2.TheVariants.{Mov}
@@ -16,135 +16,43 @@ use Rattle.msp_encode.specs.declared.instr.Src.{Src}
 use Rattle.msp_encode.specs.declared.instr.Dst.{Dst}
 use Rattle.msp_encode.specs.declared.instr.Instr.{Instr}
 use Rattle.msp_encode.specs.declared.instr.Instr.TheVariants as instr
-use Rattle.msp_encode.specs.Laws.{LegalByCases}
-use Rattle.msp_decode.specs.Function.{reading, ReadingLaw}
 use Rattle.msp_decode.specs.Laws.{OneInstruction, FirstWordDecides}
 use Rattle.code_model.specs.declared.object.Object.{Object}
 use Rattle.code_model.specs.declared.parts.Export.{Export}
-use Rattle.code_model.specs.declared.parts.Reloc.{Reloc}
 use Rattle.code_model.specs.Fields.{Fields, fields}
-use Rattle.code_model.specs.Starts.{Stands, Steps, Reached, Start}
+use Rattle.code_model.specs.Starts.{Start}
 use Rattle.code_model.specs.Guards.{UnitStart}
-use Rattle.code_model.specs.Rules.{IsExported}
-use Rattle.code_laws.specs.Laws.{OneStands, GuardedLeaves}
+use Rattle.code_model.specs.Rules.{WritesMemory, IsExported}
+use Rattle.code_laws.specs.Laws.{GuardsApart, StartsApart}
 use Rattle.insert_model.specs.declared.fault.InsertKind.TheVariants.{BadTarget}
 use Rattle.insert_model.specs.declared.line.Line.{Line}
 use Rattle.insert_model.specs.declared.piece.Piece.{Piece}
-use Rattle.insert_model.specs.declared.piece.Word.{Word}
 use Rattle.msp_encode.specs.Spelled.{count}
-use Rattle.insert_model.specs.Source.{own, line_at, with_line, lines_from, lines}
+use Rattle.insert_model.specs.Source.{own, lines}
 use Rattle.insert_model.specs.declared.aim.Aim.{Aim}
 use Rattle.insert_model.specs.declared.aim.Aim.TheVariants.{ToPc, ToSp, ToMemory, Elsewhere}
 use Rattle.insert_model.specs.Guards.{branch, pop_r4, growth_guard, pop_guard}
-use Rattle.code_model.specs.Verdicts.{AllSpelled}
 use Rattle.insert_model.specs.Units.{static_bytes, aim, aim_one, writes, is_popped, is_immediate, is_pc, is_plain_pop, into_r4, from_r4, popping, writing, changing, calling_value, one_unit, target_offset, jump_unit, unit_of, unit}
-use Rattle.insert_model.specs.Inserted.{units, before, place_in, place_map, moved_export, with_guards, inserted}
+use Rattle.insert_model.specs.Groups.{Group, members, behind, groups}
+use Rattle.insert_model.specs.Layout.{before, place_map}
+use Rattle.insert_model.specs.Inserted.{moved_export, with_guards, inserted}
 use Rattle.insert_model.specs.Faults.{IsStartOffset, ExportsMiss, IsInserted}
-use Rattle.insert_model.specs.Laws.{SizeLaw, LineLaw}
-use Rattle.insert_laws.specs.Pieces.{pieces_of, pieces}
+use Rattle.insert_model.specs.Laws.{SizeLaw, LineLaw, SizedLaw}
+use Rattle.insert_laws.specs.Pieces.{unit_of_group, pieces_of, pieces}
 use Rattle.insert_laws.specs.Laws.{UnitAt, StartsAreUnits, EntryRulePasses}
+use Rattle.insert_laws.specs.Lines.{IsInstruction}
 use Rattle.insert_laws.specs.Shapes.{Shaped, IsFreeForm}
+use Rattle.insert_laws.proofs.CleanGroups.{Premises, IsCleanGroup, clean_of}
+use Rattle.insert_laws.proofs.GroupUnits.{UnitIs, Lone, Short, Several, unit_is}
 use Rattle.insert_laws.proofs.Placed.{pieces_stand}
-use Rattle.insert_laws.proofs.Standing.{units_words}
 use Rattle.insert_laws.proofs.Guarding.{span}
 use Rattle.insert_laws.proofs.UnitStarts.{unit_start}
-use Rattle.insert_laws.proofs.ShapedUnits.{AllClean, all_clean, lines_shaped}
-use Rattle.insert_laws.proofs.FormRules.{free_standing, source_fits, words_are}
+use Rattle.insert_laws.proofs.ShapedUnits.{first_quiet}
+use Rattle.insert_laws.proofs.FormRules.{free_standing, words_are, front_shaped, group_unit_shaped}
+use Rattle.insert_laws.proofs.SourceLines.{source_instructions}
+use Rattle.insert_laws.proofs.GroupOrder.{InRow, source_row, last_group, behind_alone, before_group, before_next, Holds, holds, place_is}
+use Rattle.insert_laws.proofs.LastGroups.{never_stores}
 use Rattle.kernel_model.specs.declared.entries.TheConstants.{GOES}
-
--- ---- lines by their places
-
-abbrev AllBelow : ℕ → List Line → Type 0
-AllBelow k [] = Unit {0}
-AllBelow k (l ∷ ls) = (l.at < k) × AllBelow k ls
-
-abbrev AllFrom : ℕ → List Line → Type 0
-AllFrom k [] = Unit {0}
-AllFrom k (l ∷ ls) = (k ≤ l.at) × AllFrom k ls
-
-below_more : (a b : ℕ) (ls : List Line) → a ≤ b → AllBelow a ls → AllBelow b ls
-below_more a b [] h s = tt
-below_more a b (l ∷ ls) h s = (omega (arith, s.0), below_more a b ls h s.1)
-
-below_push : (k : ℕ) (ls : List Line) (l : Line) → AllBelow k ls → l.at < k → AllBelow k (ls ++ l ∷ [])
-below_push k [] l s h = (h, tt)
-below_push k (m ∷ ls) l s h = (s.0, below_push k ls l s.1 h)
-
-from_less : (a b : ℕ) (ls : List Line) → a ≤ b → AllFrom b ls → AllFrom a ls
-from_less a b [] h s = tt
-from_less a b (l ∷ ls) h s = (omega (arith, s.0), from_less a b ls h s.1)
-
-before_all : (k : ℕ) (ls : List Line) → AllBelow k ls → before k ls ≡ ls
-unfolding before
-before_all k [] s = refl
-before_all k (l ∷ ls) s = let h : l.at < k = s.0 in let e : nat_lt l.at k ≡ true = search rules in rw e (ap (λ (ms : List Line). l ∷ ms) (before_all k ls s.1))
-
-before_none : (k : ℕ) (ls : List Line) → AllFrom k ls → before k ls ≡ []
-unfolding before
-before_none k [] s = refl
-before_none k (l ∷ ls) s = let h : k ≤ l.at = s.0 in let e : nat_lt l.at k ≡ false = search rules in rw e (before_none k ls s.1)
-
-before_append : (k : ℕ) (xs ys : List Line) → before k (xs ++ ys) ≡ before k xs ++ before k ys
-unfolding before
-before_append k [] ys = refl
-before_append k (x ∷ xs) ys = elim (cases_lt x.at k) [
-  | inl less ↦ let e : nat_lt x.at k ≡ true = search rules in rw e (ap (λ (zs : List Line). x ∷ zs) (before_append k xs ys))
-  | inr more ↦ let e : nat_lt x.at k ≡ false = search rules in rw e (before_append k xs ys)
-]
-
-line_place : (relocs : List Reloc) (at : ℕ) (i : Instr) → (line_at relocs at i).at ≡ at
-unfolding line_at
-line_place relocs at i = refl
-
-with_line_from : (relocs : List Reloc) (at have : ℕ) (r : Option (Instr × ℕ)) (after : ℕ → List Line) → ((n : ℕ) → AllFrom at (after n)) → AllFrom at (with_line relocs at have r after)
-with_line_from relocs at have None after rest = tt
-with_line_from relocs at have (Some x) after rest = by (nat_le x.1 have)
-  where
-    by : (b : Bool) → AllFrom at (if b then line_at relocs at x.0 ∷ after (x.1 - 1) else [])
-    by true = (omega (arith, line_place relocs at x.0), rest (x.1 - 1))
-    by false = tt
-
-all_from : (relocs : List Reloc) (ws : List ℕ) (at left : ℕ) → AllFrom at (lines_from relocs at left ws)
-unfolding lines_from
-all_from relocs [] at left = tt
-all_from relocs (w ∷ ws) at (suc left) = from_less at (at + 1) (lines_from relocs (at + 1) left ws) (omega arith) (all_from relocs ws (at + 1) left)
-all_from relocs (w ∷ ws) at zero =
-    with_line_from relocs at (1 + length ws) (reading w (slice_index ws 0) (slice_index ws 1)) (λ left. lines_from relocs (at + 1) left ws)
-    (λ n. from_less at (at + 1) (lines_from relocs (at + 1) n ws) (omega arith) (all_from relocs ws (at + 1) n))
-
--- ---- the lines before a start
-
-record Before (o : Object) (t : ℕ) : Type 0 where
-  pub front : List Line
-  are : lines (fields o) ≡ front ++ lines_from o.relocs t 0 (drop t o.code)
-  below : AllBelow t front
-
-stands_inside : (code : List ℕ) (at : ℕ) (i : Instr) (n : ℕ) → Stands code at i n → at < length code
-stands_inside code at i zero st = absurd st.1
-stands_inside code at i (suc n) st = omega (arith, st.0, length-drop at code)
-
-at_first : (o : Object) → Before o 0
-unfolding lines
-at_first o = record { front = []; are = refl; below = tt }
-
-module _ (size : SizeLaw) (line : LineLaw) (o : Object) where
-  step_on : (from to : ℕ) → Before o from → Steps o.code from to → Before o to
-  step_on from to b s =
-      let cut : lines_from o.relocs from 0 (drop from o.code) ≡ line_at o.relocs from s.instr ∷ lines_from o.relocs (from + s.words) 0 (drop (from + s.words) o.code) =
-      line o.relocs o.code from s.instr s.words o.form.words_small (stands_inside o.code from s.instr s.words s.stands) s.stands in
-      let n : s.words ≡ count s.instr = size o.code from s.instr s.words s.stands in
-      let e : lines (fields o) ≡ (b.front ++ line_at o.relocs from s.instr ∷ []) ++ lines_from o.relocs (from + s.words) 0 (drop (from + s.words) o.code) =
-      b.are ∙ ap (λ (ls : List Line). b.front ++ ls) cut ∙ sym (append_assoc b.front (line_at o.relocs from s.instr ∷ []) (lines_from o.relocs (from + s.words) 0 (drop (from + s.words) o.code))) in
-      let P : ℕ → Type 0 = λ x. lines (fields o) ≡ (b.front ++ line_at o.relocs from s.instr ∷ []) ++ lines_from o.relocs x 0 (drop x o.code) in
-      record {
-        front = b.front ++ line_at o.relocs from s.instr ∷ [];
-        are = subst P (sym s.ends) e;
-        below = below_push to b.front (line_at o.relocs from s.instr) (below_more from to b.front (omega (arith, s.ends)) b.below) (omega (arith, s.ends, n, line_place o.relocs from s.instr));
-      }
-
-  reached_before : (k t : ℕ) → Reached o.code k t → Before o t
-  reached_before zero t r = subst (Before o) (sym r) (at_first o)
-  reached_before (suc k) t (from, r, s) = step_on from t (reached_before k from r) s
 
 -- ---- a unit has a first piece
 
@@ -205,78 +113,97 @@ by_instr_filled size at p (instr.One op w s) = one_filled size op w s p
 by_instr_filled size at p instr.Reti = tt
 by_instr_filled size at p (instr.Jump c k) = jump_filled (target_offset at k) c
 
-pub unit_filled : (size : ℕ) (l : Line) → Filled (unit size l)
+unit_filled : (size : ℕ) (l : Line) → Filled (unit size l)
 unfolding unit
 unit_filled size l = by_instr_filled size l.at (own l) l.instr
 
+group_filled : (o : Object) (g : Group) → UnitIs o g → Filled (unit_of_group (fields o) g)
+unfolding Filled
+group_filled o g (Lone e c u) = subst Filled (sym u) (unit_filled (static_bytes (fields o)) g.head)
+group_filled o g (Short e c d k same s u) = subst Filled (sym u) tt
+group_filled o g (Several w) = subst Filled (sym w.are) tt
+
+pub of_group_filled : (o : Object) (g : Group) → IsCleanGroup o g → Filled (unit_of_group (fields o) g)
+of_group_filled o g c = group_filled o g (unit_is o g c)
+
 -- ---- the unit of a start
 
-pub record Here (o : Object) (t : ℕ) : Type 0 where
-  pub front : List Line
-  pub line : Line
-  pub back : List Line
-  are : lines (fields o) ≡ front ++ line ∷ back
-  earlier : before t (lines (fields o)) ≡ front
+pub pieces_cut : (f : Fields) (front : List Group) (g : Group) (back : List Group) → groups f ≡ front ++ g ∷ back → pieces f ≡ pieces_of f front ++ (unit_of_group f g ++ pieces_of f back)
+unfolding pieces pieces_of
+pieces_cut f front g back e = ap (pieces_of f) e ∙ flat_map-append (unit_of_group f) front (g ∷ back)
 
-place_half : (t : ℕ) → 2 * t / 2 ≡ t
-place_half t = omega arith
+head_instruction : (code : List ℕ) (xs : List Line) (l : Line) → AllByRecursion (IsInstruction code) (xs ++ l ∷ []) → IsInstruction code l
+head_instruction code [] l h = h.0
+head_instruction code (x ∷ xs) l h = head_instruction code xs l h.1
 
-clean_front : (o : Object) (xs ys : List Line) → AllClean o (xs ++ ys) → AllClean o xs
-clean_front o [] ys c = tt
-clean_front o (x ∷ xs) ys c = (c.0, clean_front o xs ys c.1)
+module _ (given : Premises) (unique : OneInstruction) (decides : FirstWordDecides) (apart : GuardsApart) (o q : Object) (i : IsInserted o q) where
+  pub start_at : (a : List Piece) (p : Piece) (b : List Piece) → pieces (fields o) ≡ a ++ p ∷ b → Shaped IsFreeForm q.version a → (WritesMemory p.instr → ⊥) → UnitStart q (span a)
+  start_at a p b e shape quiet =
+      unit_start unique decides IsFreeForm o q (pieces_stand given o q i) (words_are o q i) (free_standing (place_map (fields o))) given.one apart a p b e shape quiet
 
-here : SizeLaw → LineLaw → (o : Object) → AllSpelled o → (t : ℕ) → Start o.code t → Here o t
-here size line o spelled t s =
-    let b : Before o t = reached_before size line o s.count t s.reached in
-    let i = spelled t s in
-    let cut : lines_from o.relocs t 0 (drop t o.code) ≡ line_at o.relocs t i.instr ∷ lines_from o.relocs (t + i.words) 0 (drop (t + i.words) o.code) = line o.relocs o.code t i.instr i.words o.form.words_small s.below i.stands in
-    record {
-      front = b.front;
-      line = line_at o.relocs t i.instr;
-      back = lines_from o.relocs (t + i.words) 0 (drop (t + i.words) o.code);
-      are = b.are ∙ ap (λ (ls : List Line). b.front ++ ls) cut;
-      earlier = ap (before t) b.are ∙ before_append t b.front (lines_from o.relocs t 0 (drop t o.code))
-          ∙ (λ j. before_all t b.front b.below j ++ before_none t (lines_from o.relocs t 0 (drop t o.code)) (all_from o.relocs (drop t o.code) t 0) j)
-          ∙ append-nil b.front;
-    }
-
-module _ (one : OneStands) (reads : ReadingLaw) (legal : LegalByCases) (unique : OneInstruction) (decides : FirstWordDecides) (leaves : GuardedLeaves) (size : SizeLaw) (line : LineLaw) (o q : Object)
-    (i : IsInserted o q) where
-  abbrev pub bytes : ℕ
-  bytes = static_bytes (fields o)
-
-  pub pieces_cut : (front : List Line) (l : Line) (back : List Line) → lines (fields o) ≡ front ++ l ∷ back → pieces (fields o) ≡ pieces_of bytes front ++ (unit bytes l ++ pieces_of bytes back)
-  unfolding pieces pieces_of
-  pieces_cut front l back e = ap (pieces_of (static_bytes (fields o))) e ∙ flat_map-append (unit (static_bytes (fields o))) front (l ∷ back)
-
-  pub front_shaped : (front rest : List Line) → lines (fields o) ≡ front ++ rest → Shaped IsFreeForm (pieces_of bytes front)
-  front_shaped front rest e =
-      lines_shaped o bytes front (clean_front o front rest (subst (AllClean o) e (all_clean o i.clean (source_fits o reads legal))))
-
-  map_place : (t : ℕ) (front : List Line) → before t (lines (fields o)) ≡ front → place_map (fields o) (2 * t) ≡ 2 * span (pieces_of bytes front)
-  unfolding place_map place_in span
-  map_place t front e =
-      ap (λ (n : ℕ). 2 * length (units (static_bytes (fields o)) (before n (lines (fields o))))) (place_half t)
-      ∙ ap (λ (ls : List Line). 2 * length (units (static_bytes (fields o)) ls)) e
-      ∙ ap (λ (ws : List Word). 2 * length ws) (units_words (static_bytes (fields o)) front)
-
-  pub first_start : (a us rest : List Piece) → Filled us → pieces (fields o) ≡ a ++ (us ++ rest) → Shaped IsFreeForm a → UnitStart q (span a)
+  first_start : (a us rest : List Piece) → Filled us → Shaped IsFreeForm q.version us → pieces (fields o) ≡ a ++ (us ++ rest) → Shaped IsFreeForm q.version a → UnitStart q (span a)
   unfolding Filled
-  first_start a [] rest f e shape = absurd f
-  first_start a (p ∷ us) rest f e shape =
-      unit_start unique decides IsFreeForm o q (pieces_stand one reads legal o q i) (words_are o q i) (free_standing (place_map (fields o))) leaves a p (us ++ rest) e shape
+  first_start a [] rest f own e shape = absurd f
+  first_start a (p ∷ us) rest f own e shape = start_at a p (us ++ rest) e shape (first_quiet q.version p us own)
 
-  unit_at : (t : ℕ) → Start o.code t → UnitAt o q t
-  unit_at t s =
-      let h : Here o t = here size line o i.spelled t s in
-      record {
-        place = span (pieces_of bytes h.front);
-        unit = first_start (pieces_of bytes h.front) (unit bytes h.line) (pieces_of bytes h.back) (unit_filled bytes h.line) (pieces_cut h.front h.line h.back h.are) (front_shaped h.front (h.line ∷ h.back) h.are);
-        is = map_place t h.front h.earlier;
-      }
+  -- a unit starts where those of the groups in front end
+  pub group_start : (front : List Group) (g : Group) (back : List Group) → groups (fields o) ≡ front ++ g ∷ back → UnitStart q (span (pieces_of (fields o) front))
+  group_start front g back e =
+      let c : IsCleanGroup o g = clean_of given o q i front g back e in
+      first_start (pieces_of (fields o) front) (unit_of_group (fields o) g) (pieces_of (fields o) back) (of_group_filled o g c) (group_unit_shaped o q i g c) (pieces_cut (fields o) front g back e)
+      (front_shaped given o q i front (g ∷ back) e)
 
-pub starts_units : OneStands → ReadingLaw → LegalByCases → OneInstruction → FirstWordDecides → GuardedLeaves → SizeLaw → LineLaw → StartsAreUnits
-starts_units one reads legal unique decides leaves size line o q i t s = unit_at one reads legal unique decides leaves size line o q i t s
+  module _ (starts : StartsApart) (size : SizeLaw) (line : LineLaw) (sizes : SizedLaw) where
+    row : InRow 0 (groups (fields o)) (length o.code)
+    row = source_row size line given.groups o i.spelled
+
+    -- no start lies within the last group, which is one line
+    none_within : (t : ℕ) → Start o.code t → (front : List Group) (g : Group) → groups (fields o) ≡ front ++ g ∷ [] → g.head.at < t → t < behind g → ⊥
+    none_within t s front g e less most = by (unit_is o g (clean_of given o q i front g [] e))
+      where
+        alone : g.rest ≡ [] → ⊥
+        alone none =
+            let all : lines (fields o) ≡ flat_map members front ++ g.head ∷ [] = last_group given.groups (fields o) front g e ∙ ap (λ (ls : List Line). flat_map members front ++ g.head ∷ ls) none in
+            let h : IsInstruction o.code g.head =
+            head_instruction o.code (flat_map members front) g.head (subst (AllByRecursion (IsInstruction o.code)) all (source_instructions size line o i.spelled)) in
+            let past : g.head.at + count g.head.instr ≤ t = starts o.code g.head.at t g.head.instr (count g.head.instr) h.start h.stands s less in
+            omega (arith, past, most, behind_alone g none)
+
+        by : UnitIs o g → ⊥
+        by (Lone none c u) = alone none
+        by (Short none c d k same h u) = alone none
+        by (Several w) = never_stores size line given.groups o i.spelled front g e w
+
+    -- behind a group that isn't the last a unit starts
+    behind_start : (t : ℕ) → Start o.code t → (front : List Group) (g : Group) (back : List Group) → groups (fields o) ≡ front ++ g ∷ back → g.head.at < t → t < behind g
+        → UnitStart q (span (pieces_of (fields o) (front ++ g ∷ [])))
+    behind_start t s front g [] e less most = absurd (none_within t s front g e less most)
+    behind_start t s front g (k ∷ back) e less most = group_start (front ++ g ∷ []) k back (e ∙ sym (append_assoc front (g ∷ []) (k ∷ back)))
+
+    unit_at : (t : ℕ) → Start o.code t → UnitAt o q t
+    unit_at t s = by (holds t 0 (groups (fields o)) (length o.code) row (omega arith) s.below)
+      where
+        here : (h : Holds (groups (fields o)) t) → h.group.head.at ≡ t → UnitAt o q t
+        here h e =
+            let whole : InRow 0 (h.front ++ h.group ∷ h.back) (length o.code) = subst (λ (gs : List Group). InRow 0 gs (length o.code)) h.are row in
+            let first : before t (groups (fields o)) ≡ h.front = ap (before t) h.are ∙ ap (λ (n : ℕ). before n (h.front ++ h.group ∷ h.back)) (sym e) ∙ before_group 0 h.front h.group h.back (length o.code) whole in
+            record { place = span (pieces_of (fields o) h.front); unit = group_start h.front h.group h.back h.are; is = place_is sizes (fields o) t h.front first }
+
+        past : (h : Holds (groups (fields o)) t) → h.group.head.at < t → UnitAt o q t
+        past h less =
+            let whole : InRow 0 (h.front ++ h.group ∷ h.back) (length o.code) = subst (λ (gs : List Group). InRow 0 gs (length o.code)) h.are row in
+            let upto : before t (groups (fields o)) ≡ h.front ++ h.group ∷ [] = ap (before t) h.are ∙ before_next t 0 h.front h.group h.back (length o.code) whole less (omega (arith, h.to)) in
+            record {
+              place = span (pieces_of (fields o) (h.front ++ h.group ∷ []));
+              unit = behind_start t s h.front h.group h.back h.are less h.to;
+              is = place_is sizes (fields o) t (h.front ++ h.group ∷ []) upto;
+            }
+
+        by : Holds (groups (fields o)) t → UnitAt o q t
+        by h = elim (cases_lt h.group.head.at t) [ inl less ↦ past h less | inr more ↦ here h (omega (arith, more, h.from)) ]
+
+pub starts_units : Premises → OneInstruction → FirstWordDecides → GuardsApart → StartsApart → SizeLaw → LineLaw → SizedLaw → StartsAreUnits
+starts_units given unique decides apart starts size line sizes o q i t s = unit_at given unique decides apart o q i starts size line sizes t s
 
 -- ---- the entry and the exports
 

@@ -1,7 +1,7 @@
 -- Where units start no guard lies over the place; what a guard stands before is guarded.
 use Rattle.std.proofs.Common.{◌≡◌, ℕ, zero, suc, ◌+◌, ◌<◌, ◌≤◌, List, [], ◌∷◌, ◌++◌, length, take, drop, get_or, slice_index, Option, None, refl, sym, subst, ap, ◌∙◌, arith}
-use Rattle.std.specs.List.{flat_map}
-use Rattle.std.proofs.lemmas.List.{append_assoc, length-append, drop_more}
+use Rattle.std.specs.List.{AllByRecursion, flat_map}
+use Rattle.std.proofs.lemmas.List.{append_assoc, append-nil, length-append, drop_more}
 use Rattle.std.proofs.lemmas.List.Concat.{flat_map-append}
 use Rattle.msp_encode.specs.declared.instr.Op2.{Op2}
 use Rattle.msp_encode.specs.declared.instr.Width.{Width}
@@ -20,29 +20,27 @@ use Rattle.code_model.specs.declared.guards.GuardKind.{GuardKind}
 use Rattle.code_model.specs.declared.guards.GuardKind.TheVariants as guard
 use Rattle.code_model.specs.Starts.{Begins, Stands, Start}
 use Rattle.code_model.specs.Relocs.{Unrelocated}
-use Rattle.code_model.specs.Guards.{guard_words, FitAll, IsQuiet, Pops, IsAtR4, IsPlainStore, IsStoreForm, IsGrowthForm, IsPopForm, IsSpForm, Serves, most_served, least_version, Guarded, CoversBy, Covers, Covered, OwnBy, Own, UnitStart}
-use Rattle.code_laws.specs.Laws.{GuardedLeaves}
+use Rattle.code_model.specs.Rules.{WritesMemory}
+use Rattle.code_model.specs.Guards.{reach_bytes, guard_words, FitAll, ServesAt, Run, Guarded, CoversBy, Covers, Covered, OwnBy, Own, UnitStart}
+use Rattle.code_laws.specs.Laws.{IsSame, OneStands, IsOneGuard, GuardsApart}
 use Rattle.code_laws.proofs.Begins.{guard_begins}
+use Rattle.code_laws.proofs.Runs.{first_before, served_alone, AlsoGuarded, also_guarded}
 use Rattle.insert_model.specs.declared.piece.Piece.{Piece}
 use Rattle.insert_model.specs.declared.piece.Word.{Word}
 use Rattle.msp_encode.specs.Spelled.{count}
 use Rattle.insert_model.specs.Words.{piece_words, unit_words}
-use Rattle.insert_model.specs.Inserted.{place_map}
+use Rattle.insert_model.specs.Layout.{place_map}
 use Rattle.insert_model.specs.Guards.{save}
-use Rattle.insert_laws.specs.Pieces.{pieces, moved_src, moved_dst, moved_instr, standing, PieceAt}
+use Rattle.insert_laws.specs.Pieces.{pieces, standing, PieceAt}
 use Rattle.insert_laws.specs.Laws.{kind_in, PiecesStand}
-use Rattle.insert_laws.specs.Shapes.{saving, IsGuard, IsThroughR4, IsServed, Shaped}
+use Rattle.insert_laws.specs.Shapes.{saving, IsGuard, IsServed, Shaped}
 use Rattle.insert_laws.proofs.GuardWords.{guard_fits, guard_length, IsWordsOf, no_reloc, fit_all}
 use Rattle.insert_laws.proofs.Standing.{count_piece}
-use Rattle.insert_laws.proofs.Guarding.{HasTail, guard_tail, unit_words_append, span, span_append, span_cons, span_none, piece_least, size_span, Found, save_found}
+use Rattle.insert_laws.proofs.Guarding.{heads, tails, HasTail, guard_tail, unit_words_append, span, span_append, span_cons, span_none, piece_least, size_span, Found, save_found, IsServedBy, first_served}
+use Rattle.insert_laws.proofs.Roles.{memory_back}
+use Rattle.insert_laws.proofs.ServedForms.{LastPlain, IsStoreTo, serves_at, wide_memory}
 
 -- ---- two cuts of one list
-
-heads : (m n : Piece) (xs ys : List Piece) → m ∷ xs ≡ n ∷ ys → m ≡ n
-heads m n xs ys e = cc
-
-tails : (m n : Piece) (xs ys : List Piece) → m ∷ xs ≡ n ∷ ys → xs ≡ ys
-tails m n xs ys e = cc
 
 record Within (a x : List Piece) (r : Piece) : Type 0 where
   more : List Piece
@@ -56,25 +54,6 @@ within (m ∷ a) c (n ∷ x) r y e less =
     let same : length (piece_words m) ≡ length (piece_words n) = ap (λ (p : Piece). length (piece_words p)) h in
     let w : Within a x r = within a c x r y (tails m n (a ++ c) (x ++ r ∷ y) e) (omega (arith, span_cons m a, span_cons n x, same)) in
     record { more = w.more; are = λ j. h j ∷ w.are j }
-
--- ---- guards
-
--- a unit's guards serve one instruction each, and are known to each version
-pub serves_one : (g : GuardKind) (gs : List Piece) → IsGuard g gs → most_served g ≡ 1
-serves_one guard.Store gs h = refl
-serves_one (guard.Wide r) gs h = absurd h
-serves_one guard.Load gs h = absurd h
-serves_one guard.Growth gs h = refl
-serves_one guard.Pop gs h = refl
-serves_one guard.Sp gs h = refl
-
-pub known_first : (g : GuardKind) (gs : List Piece) → IsGuard g gs → least_version g ≡ 1
-known_first guard.Store gs h = refl
-known_first (guard.Wide r) gs h = absurd h
-known_first guard.Load gs h = absurd h
-known_first guard.Growth gs h = refl
-known_first guard.Pop gs h = refl
-known_first guard.Sp gs h = refl
 
 -- ---- the instruction 4205
 
@@ -104,115 +83,6 @@ stands_saving one decides code at i n inside h e =
     by zero b = absurd b.1
     by (suc n) b = is_saving one decides i (get_or code at 0) (take n (drop (at + 1) code)) b.1 e
 
--- ---- in an object with guards
-
-src_quiet : (go : ℕ → ℕ) (k : Option RelKind) (s : Src) → IsQuiet s → IsQuiet (moved_src go k s)
-src_quiet go k (src.Reg n) h = h
-src_quiet go k (src.Indexed n x) h = h
-src_quiet go k (src.Symbolic x) h = h
-src_quiet go k (src.Absolute x) h = h
-src_quiet go k (src.Indirect n) h = h
-src_quiet go k (src.AutoInc n) h = h
-src_quiet go k (src.Immediate x) h = h
-src_quiet go k (src.Const c) h = h
-
-pub src_count : (go : ℕ → ℕ) (k : Option RelKind) (s : Src) → length (src_words (moved_src go k s)) ≡ length (src_words s)
-src_count go k (src.Reg n) = refl
-src_count go k (src.Indexed n x) = refl
-src_count go k (src.Symbolic x) = refl
-src_count go k (src.Absolute x) = refl
-src_count go k (src.Indirect n) = refl
-src_count go k (src.AutoInc n) = refl
-src_count go k (src.Immediate x) = refl
-src_count go k (src.Const c) = refl
-
-src_at : (go : ℕ → ℕ) (k : Option RelKind) (s : Src) (n : ℕ) → (let P : Src → Type 0 = λ x. Pops x n in P s → P (moved_src go k s))
-src_at go k (src.Reg m) n h = h
-src_at go k (src.Indexed m x) n h = h
-src_at go k (src.Symbolic x) n h = h
-src_at go k (src.Absolute x) n h = h
-src_at go k (src.Indirect m) n h = h
-src_at go k (src.AutoInc m) n h = h
-src_at go k (src.Immediate x) n h = h
-src_at go k (src.Const c) n h = h
-
-growth_serves : (o : Object) (at : ℕ) (go : ℕ → ℕ) (j k : Option RelKind) (i : Instr) → IsGrowthForm i → IsGrowthForm (moved_instr go j k i)
-growth_serves o at go j k (instr.Two op w s d) h = h
-growth_serves o at go j k (instr.One op w s) h = (h.0, src_quiet go j s h.1)
-growth_serves o at go j k instr.Reti h = h
-growth_serves o at go j k (instr.Jump c n) h = h
-
-pop_serves : (go : ℕ → ℕ) (j k : Option RelKind) (i : Instr) → IsPopForm i → IsPopForm (moved_instr go j k i)
-pop_serves go j k (instr.Two op w (src.AutoInc n) (dst.Reg m)) h = h
-pop_serves go j k (instr.Two op w (src.AutoInc n) (dst.Indexed m x)) h = h
-pop_serves go j k (instr.Two op w (src.AutoInc n) (dst.Symbolic x)) h = h
-pop_serves go j k (instr.Two op w (src.AutoInc n) (dst.Absolute x)) h = h
-pop_serves go j k (instr.Two op w (src.Reg n) d) h = absurd h.2
-pop_serves go j k (instr.Two op w (src.Indexed n x) d) h = absurd h.2
-pop_serves go j k (instr.Two op w (src.Symbolic x) d) h = absurd h.2
-pop_serves go j k (instr.Two op w (src.Absolute x) d) h = absurd h.2
-pop_serves go j k (instr.Two op w (src.Indirect n) d) h = absurd h.2
-pop_serves go j k (instr.Two op w (src.Immediate x) d) h = absurd h.2
-pop_serves go j k (instr.Two op w (src.Const c) d) h = absurd h.2
-pop_serves go j k (instr.One op w s) h = h
-pop_serves go j k instr.Reti h = h
-pop_serves go j k (instr.Jump c n) h = h
-
-sp_serves : (go : ℕ → ℕ) (j k : Option RelKind) (i : Instr) → IsSpForm i → IsSpForm (moved_instr go j k i)
-sp_serves go j k (instr.Two op w (src.Reg n) (dst.Reg m)) h = h
-sp_serves go j k (instr.Two op w (src.Reg n) (dst.Indexed m x)) h = h
-sp_serves go j k (instr.Two op w (src.Reg n) (dst.Symbolic x)) h = h
-sp_serves go j k (instr.Two op w (src.Reg n) (dst.Absolute x)) h = h
-sp_serves go j k (instr.Two op w (src.AutoInc n) d) h = absurd h.2
-sp_serves go j k (instr.Two op w (src.Indexed n x) d) h = absurd h.2
-sp_serves go j k (instr.Two op w (src.Symbolic x) d) h = absurd h.2
-sp_serves go j k (instr.Two op w (src.Absolute x) d) h = absurd h.2
-sp_serves go j k (instr.Two op w (src.Indirect n) d) h = absurd h.2
-sp_serves go j k (instr.Two op w (src.Immediate x) d) h = absurd h.2
-sp_serves go j k (instr.Two op w (src.Const c) d) h = absurd h.2
-sp_serves go j k (instr.One op w s) h = h
-sp_serves go j k instr.Reti h = h
-sp_serves go j k (instr.Jump c n) h = h
-
-store_dst : (q : Object) (at : ℕ) (go : ℕ → ℕ) (k : Option RelKind) (d : Dst) → d ≡ dst.Indexed 4 0 → k ≡ None → Unrelocated q.relocs at → IsPlainStore q at (moved_dst go k d)
-store_dst q at go k d e f un =
-    let g : moved_dst go k d ≡ dst.Indexed 4 0 = (λ t. moved_dst go (f t) (e t)) in
-    subst (IsPlainStore q at) (sym g) (refl, refl, un)
-
-at_r4_moved : (go : ℕ → ℕ) (j : Option RelKind) (s : Src) → IsAtR4 s → IsAtR4 (moved_src go j s)
-at_r4_moved go j (src.Reg n) h = h
-at_r4_moved go j (src.Indexed n x) h = h
-at_r4_moved go j (src.Symbolic x) h = h
-at_r4_moved go j (src.Absolute x) h = h
-at_r4_moved go j (src.Indirect n) h = h
-at_r4_moved go j (src.AutoInc n) h = h
-at_r4_moved go j (src.Immediate x) h = h
-at_r4_moved go j (src.Const c) h = h
-
--- the word behind the source's has no relocation
-abbrev LastPlain : Object → ℕ → Instr → Type 0
-LastPlain q at (instr.Two op w s d) = Unrelocated q.relocs (at + 1 + length (src_words s))
-LastPlain q at (instr.One op w s) = Unit {0}
-LastPlain q at instr.Reti = Unit {0}
-LastPlain q at (instr.Jump c n) = Unit {0}
-
-store_serves : (q : Object) (at : ℕ) (go : ℕ → ℕ) (j k : Option RelKind) (i : Instr) → IsThroughR4 k i → LastPlain q at i → IsStoreForm q at (moved_instr go j k i)
-store_serves q at go j k (instr.Two op w s d) h un =
-    let un' : Unrelocated q.relocs (at + 1 + length (src_words (moved_src go j s))) = subst (λ (n : ℕ). Unrelocated q.relocs (at + 1 + n)) (sym (src_count go j s)) un in
-    (h.0, store_dst q (at + 1 + length (src_words (moved_src go j s))) go k d h.1 h.2 un', src_quiet go j s h.3)
-store_serves q at go j k (instr.One op w s) h un = (h.0, at_r4_moved go j s h.1)
-store_serves q at go j k instr.Reti h un = h
-store_serves q at go j k (instr.Jump c n) h un = h
-
-serves_at : (q : Object) (first at : ℕ) (go : ℕ → ℕ) (g : GuardKind) (p : Piece) → IsServed g p → (IsThroughR4 p.destination p.instr → LastPlain q at p.instr) → Serves g q first at (standing go p)
-unfolding standing
-serves_at q first at go guard.Store p h un = store_serves q at go p.source p.destination p.instr h (un h)
-serves_at q first at go (guard.Wide r) p h un = absurd h
-serves_at q first at go guard.Load p h un = absurd h
-serves_at q first at go guard.Growth p h un = growth_serves q at go p.source p.destination p.instr h
-serves_at q first at go guard.Pop p h un = pop_serves go p.source p.destination p.instr h
-serves_at q first at go guard.Sp p h un = sp_serves go p.source p.destination p.instr h
-
 -- ---- the relocations of a piece's words
 
 kind_past : (us vs : List Word) (m : ℕ) → kind_in (us ++ vs) (length us + m) ≡ kind_in vs m
@@ -230,29 +100,29 @@ kind_of_piece a p b m h =
     ap (λ (ws : List Word). kind_in ws (length (flat_map piece_words a) + m)) (flat_map-append piece_words a (p ∷ b))
     ∙ kind_past (flat_map piece_words a) (piece_words p ++ flat_map piece_words b) m ∙ kind_front (piece_words p) (flat_map piece_words b) m h
 
-index_kind : (op : Op2) (w : Width) (s : Src) (j k : Option RelKind)
-    → kind_in (piece_words (record { instr = instr.Two op w s (dst.Indexed 4 0); source = j; destination = k })) (1 + length (src_words s)) ≡ k
+index_kind : (op : Op2) (w : Width) (s : Src) (x : ℕ) (j k : Option RelKind)
+    → kind_in (piece_words (record { instr = instr.Two op w s (dst.Indexed 4 x); source = j; destination = k })) (1 + length (src_words s)) ≡ k
 unfolding piece_words
-index_kind op w (src.Reg n) j k = refl
-index_kind op w (src.Indexed n x) j k = refl
-index_kind op w (src.Symbolic x) j k = refl
-index_kind op w (src.Absolute x) j k = refl
-index_kind op w (src.Indirect n) j k = refl
-index_kind op w (src.AutoInc n) j k = refl
-index_kind op w (src.Immediate x) j k = refl
-index_kind op w (src.Const c) j k = refl
+index_kind op w (src.Reg n) x j k = refl
+index_kind op w (src.Indexed n y) x j k = refl
+index_kind op w (src.Symbolic y) x j k = refl
+index_kind op w (src.Absolute y) x j k = refl
+index_kind op w (src.Indirect n) x j k = refl
+index_kind op w (src.AutoInc n) x j k = refl
+index_kind op w (src.Immediate y) x j k = refl
+index_kind op w (src.Const c) x j k = refl
 
-index_inside : (op : Op2) (w : Width) (s : Src) (j k : Option RelKind)
-    → 1 + length (src_words s) < length (piece_words (record { instr = instr.Two op w s (dst.Indexed 4 0); source = j; destination = k }))
+index_inside : (op : Op2) (w : Width) (s : Src) (x : ℕ) (j k : Option RelKind)
+    → 1 + length (src_words s) < length (piece_words (record { instr = instr.Two op w s (dst.Indexed 4 x); source = j; destination = k }))
 unfolding piece_words
-index_inside op w (src.Reg n) j k = omega arith
-index_inside op w (src.Indexed n x) j k = omega arith
-index_inside op w (src.Symbolic x) j k = omega arith
-index_inside op w (src.Absolute x) j k = omega arith
-index_inside op w (src.Indirect n) j k = omega arith
-index_inside op w (src.AutoInc n) j k = omega arith
-index_inside op w (src.Immediate x) j k = omega arith
-index_inside op w (src.Const c) j k = omega arith
+index_inside op w (src.Reg n) x j k = omega arith
+index_inside op w (src.Indexed n y) x j k = omega arith
+index_inside op w (src.Symbolic y) x j k = omega arith
+index_inside op w (src.Absolute y) x j k = omega arith
+index_inside op w (src.Indirect n) x j k = omega arith
+index_inside op w (src.AutoInc n) x j k = omega arith
+index_inside op w (src.Immediate y) x j k = omega arith
+index_inside op w (src.Const c) x j k = omega arith
 
 module _ (one : OneInstruction) (decides : FirstWordDecides) (F : Piece → Type 0) (o q : Object) (stand : PiecesStand o q) (words : IsWordsOf o q (unit_words (pieces (fields o))))
     (free_not : (p : Piece) → F p → standing (place_map (fields o)) p ≡ saving → ⊥) where
@@ -274,19 +144,18 @@ module _ (one : OneInstruction) (decides : FirstWordDecides) (F : Piece → Type
       ap unit_words e ∙ unit_words_append a (gs ++ b) ∙ ap (λ (ws : List Word). unit_words a ++ ws) (unit_words_append gs b) in
       fit_all o q (unit_words (pieces (fields o))) words (unit_words a) (unit_words gs) (unit_words b) (guard_words g) f (guard_fits g gs is)
 
-  last_plain : (a : List Piece) (i : Instr) (j k : Option RelKind) (b : List Piece) → pieces (fields o) ≡ a ++ record { instr = i; source = j; destination = k } ∷ b → IsThroughR4 k i → LastPlain q (span a) i
-  last_plain a (instr.Two op w s d) j k b e h =
-      let p : Piece = record { instr = instr.Two op w s (dst.Indexed 4 0); source = j; destination = k } in
-      let f : pieces (fields o) ≡ a ++ record { instr = instr.Two op w s (dst.Indexed 4 0); source = j; destination = k } ∷ b =
-      e ∙ ap (λ (x : Dst). a ++ record { instr = instr.Two op w s x; source = j; destination = k } ∷ b) h.1 in
+  last_plain : (a : List Piece) (i : Instr) (j k : Option RelKind) (b : List Piece) → pieces (fields o) ≡ a ++ record { instr = i; source = j; destination = k } ∷ b → (x : ℕ) → IsStoreTo x k i → LastPlain q (span a) i
+  last_plain a (instr.Two op w s d) j k b e x h =
+      let f : pieces (fields o) ≡ a ++ record { instr = instr.Two op w s (dst.Indexed 4 x); source = j; destination = k } ∷ b =
+      e ∙ ap (λ (y : Dst). a ++ record { instr = instr.Two op w s y; source = j; destination = k } ∷ b) h.0 in
       let n : span a + (1 + length (src_words s)) ≡ span a + 1 + length (src_words s) = omega arith in
       let g : kind_in (unit_words (pieces (fields o))) (span a + (1 + length (src_words s))) ≡ None =
       ap (λ (ps : List Piece). kind_in (unit_words ps) (span a + (1 + length (src_words s)))) f
-      ∙ kind_of_piece a (record { instr = instr.Two op w s (dst.Indexed 4 0); source = j; destination = k }) b (1 + length (src_words s)) (index_inside op w s j k) ∙ index_kind op w s j k ∙ h.2 in
+      ∙ kind_of_piece a (record { instr = instr.Two op w s (dst.Indexed 4 x); source = j; destination = k }) b (1 + length (src_words s)) (index_inside op w s x j k) ∙ index_kind op w s x j k ∙ h.1 in
       subst (Unrelocated q.relocs) n (no_reloc o q (unit_words (pieces (fields o))) words (span a + (1 + length (src_words s))) g)
-  last_plain a (instr.One op w s) j k b e h = tt
-  last_plain a instr.Reti j k b e h = tt
-  last_plain a (instr.Jump c n) j k b e h = tt
+  last_plain a (instr.One op w s) j k b e x h = tt
+  last_plain a instr.Reti j k b e x h = tt
+  last_plain a (instr.Jump c n) j k b e x h = tt
 
   guard_starts : (a : List Piece) (g : GuardKind) (gs : List Piece) (b : List Piece) → IsGuard g gs → pieces (fields o) ≡ a ++ (gs ++ b) → Start q.code (span a)
   guard_starts a g gs b is e =
@@ -297,74 +166,157 @@ module _ (one : OneInstruction) (decides : FirstWordDecides) (F : Piece → Type
   unfolding span
   guard_end a g gs is = omega (arith, ap length (unit_words_append a gs), length-append (unit_words a) (unit_words gs), guard_length g gs is)
 
-  -- what a guard stands before is guarded
-  pub served_guarded : (a : List Piece) (g : GuardKind) (gs : List Piece) (p : Piece) (b : List Piece) → IsGuard g gs → IsServed g p → pieces (fields o) ≡ a ++ (gs ++ p ∷ b) → Guarded q (span (a ++ gs)) g
-  served_guarded a g gs p b is serves e =
-      let f : pieces (fields o) ≡ (a ++ gs) ++ p ∷ b = e ∙ sym (append_assoc a gs (p ∷ b)) in
+  -- a piece that a guard serves, where it stands
+  serves_here : (g : GuardKind) (first : ℕ) (x : List Piece) (p : Piece) (b : List Piece) → IsServed g p → pieces (fields o) ≡ x ++ p ∷ b → ServesAt g q first (span x)
+  serves_here g first x p b h e = record {
+    instr = standing (place_map (fields o)) p;
+    words = count (standing (place_map (fields o)) p);
+    stands = stands_at x p b e;
+    serves = serves_at q first (span x) (place_map (fields o)) g p h (last_plain x p.instr p.source p.destination b e);
+  }
+
+  -- those that it serves are a run
+  run_on : (g : GuardKind) (first base n : ℕ) (x post rest : List Piece) → AllByRecursion (IsServed g) post → pieces (fields o) ≡ (x ++ post) ++ rest → Run g q first base n (span x)
+      → Run g q first base (n + length post) (span (x ++ post))
+  unfolding serves_here
+  run_on g first base n x [] rest h e r =
+      let m : n ≡ n + 0 = omega arith in
+      subst (λ (ys : List Piece). Run g q first base (n + 0) (span ys)) (sym (append-nil x)) (subst (λ (k : ℕ). Run g q first base k (span x)) m r)
+  run_on g first base n x (p ∷ post) rest h e r =
+      let cut : (x ++ p ∷ []) ++ post ≡ x ++ p ∷ post = append_assoc x (p ∷ []) post in
+      let at : pieces (fields o) ≡ x ++ p ∷ (post ++ rest) = e ∙ append_assoc x (p ∷ post) rest in
+      let s : ServesAt g q first (span x) = serves_here g first x p (post ++ rest) h.0 at in
+      let ends : span (x ++ p ∷ []) ≡ span x + count (standing (place_map (fields o)) p) =
+      omega (arith, span_append x (p ∷ []), span_cons p [], span_none, count_piece (place_map (fields o)) p) in
+      let next : Run g q first base (suc n + length post) (span ((x ++ p ∷ []) ++ post)) =
+      run_on g first base (suc n) (x ++ p ∷ []) post rest h.1 (e ∙ ap (λ (ys : List Piece). ys ++ rest) (sym cut)) (on g first base n x p (post ++ rest) h.0 at ends r) in
+      let m : suc n + length post ≡ n + length (p ∷ post) = omega arith in
+      subst (λ (ys : List Piece). Run g q first base (n + length (p ∷ post)) (span ys)) cut (subst (λ (k : ℕ). Run g q first base k (span ((x ++ p ∷ []) ++ post))) m next)
+    where
+      on : (g : GuardKind) (first base n : ℕ) (x : List Piece) (p : Piece) (b : List Piece) (h : IsServed g p) (e : pieces (fields o) ≡ x ++ p ∷ b) → span (x ++ p ∷ []) ≡ span x + count (standing (place_map (fields o)) p)
+          → Run g q first base n (span x) → Run g q first base (suc n) (span (x ++ p ∷ []))
+      on g first base n x p b h e ends r = (span x, r, (serves_here g first x p b h e, ends))
+
+  -- what a guard serves is guarded
+  pub served_guarded : (x a : List Piece) (g : GuardKind) (gs done : List Piece) (p : Piece) (b : List Piece) → IsServedBy q.version g gs done p → pieces (fields o) ≡ x ++ p ∷ b → x ≡ a ++ (gs ++ done)
+      → Guarded q (span x) g
+  served_guarded x a g gs done p b h e ex =
+      let behind : pieces (fields o) ≡ ((a ++ gs) ++ done) ++ p ∷ b = e ∙ ap (λ (ys : List Piece). ys ++ p ∷ b) (ex ∙ sym (append_assoc a gs done)) in
+      let whole : pieces (fields o) ≡ a ++ (gs ++ (done ++ p ∷ b)) = behind ∙ append_assoc (a ++ gs) done (p ∷ b) ∙ append_assoc a gs (done ++ p ∷ b) in
+      let run : Run g q (span a) (span (a ++ gs)) (0 + length done) (span ((a ++ gs) ++ done)) = run_on g (span a) (span (a ++ gs)) 0 (a ++ gs) done (p ∷ b) h.before behind refl in
+      let n : 0 + length done ≡ length done = omega arith in
       record {
-        start = starts_at (a ++ gs) p b f;
+        start = starts_at x p b e;
         first = span a;
         base = span (a ++ gs);
-        ends = guard_end a g gs is;
-        begins = guard_starts a g gs (p ∷ b) is e;
-        fit = guard_fit a g gs (p ∷ b) is e;
-        known = omega (arith, known_first g gs is, q.form.version_least);
-        before = 0;
-        few = omega (arith, serves_one g gs is);
-        run = refl;
+        ends = guard_end a g gs h.is;
+        begins = guard_starts a g gs (done ++ p ∷ b) h.is whole;
+        fit = guard_fit a g gs (done ++ p ∷ b) h.is whole;
+        known = h.known;
+        before = length done;
+        few = h.few;
+        run = subst (λ (ys : List Piece). Run g q (span a) (span (a ++ gs)) (length done) (span ys)) (append_assoc a gs done ∙ sym ex)
+            (subst (λ (k : ℕ). Run g q (span a) (span (a ++ gs)) k (span ((a ++ gs) ++ done))) n run);
         instr = standing (place_map (fields o)) p;
         words = count (standing (place_map (fields o)) p);
-        stands = stands_at (a ++ gs) p b f;
-        serves = serves_at q (span a) (span (a ++ gs)) (place_map (fields o)) g p serves (last_plain (a ++ gs) p.instr p.source p.destination b f);
+        stands = stands_at x p b e;
+        serves = serves_at q (span a) (span x) (place_map (fields o)) g p h.serves (last_plain x p.instr p.source p.destination b e);
       }
 
-  pub served_first : (a : List Piece) (g : GuardKind) (gs : List Piece) (p : Piece) (b : List Piece) (is : IsGuard g gs) (serves : IsServed g p) (e : pieces (fields o) ≡ a ++ (gs ++ p ∷ b))
-      → (served_guarded a g gs p b is serves e).first ≡ span a
+  served_first : (x a : List Piece) (g : GuardKind) (gs done : List Piece) (p : Piece) (b : List Piece) (h : IsServedBy q.version g gs done p) (e : pieces (fields o) ≡ x ++ p ∷ b) (ex : x ≡ a ++ (gs ++ done))
+      → (served_guarded x a g gs done p b h e ex).first ≡ span a
   unfolding served_guarded
-  served_first a g gs p b is serves e = refl
+  served_first x a g gs done p b h e ex = refl
+
+  served_base : (x a : List Piece) (g : GuardKind) (gs done : List Piece) (p : Piece) (b : List Piece) (h : IsServedBy q.version g gs done p) (e : pieces (fields o) ≡ x ++ p ∷ b) (ex : x ≡ a ++ (gs ++ done))
+      → (served_guarded x a g gs done p b h e ex).base ≡ span (a ++ gs)
+  unfolding served_guarded
+  served_base x a g gs done p b h e ex = refl
+
+  -- what stands directly behind a guard
+  behind_guard : (a gs : List Piece) → a ++ gs ≡ a ++ (gs ++ [])
+  behind_guard a gs = ap (λ (ys : List Piece). a ++ ys) (sym (append-nil gs))
+
+  pub next_guarded : (a : List Piece) (g : GuardKind) (gs : List Piece) (p : Piece) (b : List Piece) → IsServedBy q.version g gs [] p → pieces (fields o) ≡ a ++ (gs ++ p ∷ b) → Guarded q (span (a ++ gs)) g
+  next_guarded a g gs p b h e = served_guarded (a ++ gs) a g gs [] p b h (e ∙ sym (append_assoc a gs (p ∷ b))) (behind_guard a gs)
+
+  pub next_first : (a : List Piece) (g : GuardKind) (gs : List Piece) (p : Piece) (b : List Piece) (h : IsServedBy q.version g gs [] p) (e : pieces (fields o) ≡ a ++ (gs ++ p ∷ b)) → (next_guarded a g gs p b h e).first ≡ span a
+  unfolding next_guarded
+  next_first a g gs p b h e = served_first (a ++ gs) a g gs [] p b h (e ∙ sym (append_assoc a gs (p ∷ b))) (behind_guard a gs)
+
+  next_base : (a : List Piece) (g : GuardKind) (gs : List Piece) (p : Piece) (b : List Piece) (h : IsServedBy q.version g gs [] p) (e : pieces (fields o) ≡ a ++ (gs ++ p ∷ b)) → (next_guarded a g gs p b h e).base ≡ span (a ++ gs)
+  unfolding next_guarded
+  next_base a g gs p b h e = served_base (a ++ gs) a g gs [] p b h (e ∙ sym (append_assoc a gs (p ∷ b))) (behind_guard a gs)
 
   -- a guard's own words are its own
-  pub own_covered : (a : List Piece) (g : GuardKind) (x : List Piece) (m : Piece) (y : List Piece) (p : Piece) (b : List Piece) → IsGuard g (x ++ m ∷ y) → IsServed g p
+  pub own_covered : (a : List Piece) (g : GuardKind) (x : List Piece) (m : Piece) (y : List Piece) (p : Piece) (b : List Piece) → IsServedBy q.version g (x ++ m ∷ y) [] p
       → pieces (fields o) ≡ a ++ ((x ++ m ∷ y) ++ p ∷ b) → Own q (span (a ++ x))
-  unfolding Own OwnBy served_guarded
-  own_covered a g x m y p b is serves e = (
-    span (a ++ (x ++ m ∷ y)),
-    (
-      g,
-      (
-        served_guarded a g (x ++ m ∷ y) p b is serves e,
-        (
-          omega (arith, span_append a x),
-          omega (arith, span_append a (x ++ m ∷ y), span_append x (m ∷ y), span_cons m y, piece_least m, span_append a x),
-        ),
-      ),
-    ),
-  )
+  unfolding Own OwnBy
+  own_covered a g x m y p b h e =
+      let s : Guarded q (span (a ++ (x ++ m ∷ y))) g = next_guarded a g (x ++ m ∷ y) p b h e in
+      let first : s.first ≡ span a = next_first a g (x ++ m ∷ y) p b h e in
+      let base : s.base ≡ span (a ++ (x ++ m ∷ y)) = next_base a g (x ++ m ∷ y) p b h e in (
+        span (a ++ (x ++ m ∷ y)),
+        (g, (s, (omega (arith, first, span_append a x), omega (arith, base, span_append a (x ++ m ∷ y), span_append x (m ∷ y), span_cons m y, piece_least m, span_append a x)))),
+      )
 
   -- the piece where a guard begins saves the status
   pub saves_at : (at : ℕ) (g : GuardKind) (h : Guarded q at g) (p : PieceAt (fields o) h.first) → standing (place_map (fields o)) p.piece ≡ saving
   saves_at at g h p =
       stands_saving one decides q.code h.first (standing (place_map (fields o)) p.piece) (count (standing (place_map (fields o)) p.piece)) h.begins.below (stand.stands h.first p) (guard_begins q h.first g h.fit)
 
-  -- where shaped pieces end no guard lies over the place: those that begin before it serve what stands before it
-  not_covered : GuardedLeaves → (a c : List Piece) → pieces (fields o) ≡ a ++ c → Shaped F a → Covered q (span a) → ⊥
-  unfolding Covered Covers CoversBy served_guarded
-  not_covered leaves a c e shape (guarded, late, (g, (h, early))) =
-      let pa : PieceAt (fields o) h.first = stand.starts h.first h.begins in
-      let place : h.first ≡ span pa.before = pa.place ∙ size_span (place_map (fields o)) pa.before in
-      let w : Within a pa.before pa.piece = within a c pa.before pa.piece pa.after (sym e ∙ pa.are) (omega (arith, place, early)) in
-      let f : Found a pa.before = save_found (place_map (fields o)) F free_not a pa.before pa.piece w.more shape w.are (saves_at guarded g h pa) in
-      let whole : pieces (fields o) ≡ pa.before ++ (f.guards ++ (f.piece ∷ (f.rest ++ c))) =
-      e ∙ ap (λ (ys : List Piece). ys ++ c) f.are ∙ append_assoc pa.before (f.guards ++ f.piece ∷ f.rest) c ∙ ap (λ (ys : List Piece). pa.before ++ ys) (append_assoc f.guards (f.piece ∷ f.rest) c) in
-      let served : Guarded q (span (pa.before ++ f.guards)) f.kind = served_guarded pa.before f.kind f.guards f.piece (f.rest ++ c) f.is f.serves whole in
-      let words : served.words ≡ length (piece_words f.piece) = count_piece (place_map (fields o)) f.piece in
-      let begins : span a ≡ span pa.before + span (f.guards ++ f.piece ∷ f.rest) = ap span f.are ∙ span_append pa.before (f.guards ++ f.piece ∷ f.rest) in
-      let ends : span (pa.before ++ f.guards) + served.words ≤ span a =
-      omega (arith, words, begins, span_append pa.before f.guards, span_append f.guards (f.piece ∷ f.rest), span_cons f.piece f.rest) in
-      let behind : UnitStart q (span (pa.before ++ f.guards) + served.words) =
-      leaves q (span (pa.before ++ f.guards)) f.kind served (serves_one f.kind f.guards f.is) (omega (arith, ends, late, h.start.below)) in
-      behind.1 (behind.0, (guarded, omega (arith, ends, late), (g, (h, omega (arith, place, span_append pa.before f.guards, words, piece_least f.piece)))))
+  module _ (same : OneStands) (apart : GuardsApart) where
+    -- a guard of another kind than a wide one serves what stands directly behind it, and a wide one only what writes memory
+    not_served : (at : ℕ) (p : Piece) (k : GuardKind) (gs : List Piece) → IsGuard k gs → (WritesMemory p.instr → ⊥) → Stands q.code at (standing (place_map (fields o)) p) (count (standing (place_map (fields o)) p))
+        → (j : Guarded q at k) → j.base < at → ⊥
+    not_served at p guard.Store gs is quiet st j less = omega (arith, less, served_alone q at guard.Store j refl)
+    not_served at p (guard.Wide r) gs is quiet st j less =
+        let s : IsSame j.instr (standing (place_map (fields o)) p) j.words (count (standing (place_map (fields o)) p)) =
+        same q.code at j.instr (standing (place_map (fields o)) p) j.words (count (standing (place_map (fields o)) p)) j.stands st in
+        quiet (memory_back (place_map (fields o)) p (subst WritesMemory s.instr (wide_memory (reach_bytes r) q at j.instr j.serves)))
+    not_served at p guard.Load gs is quiet st j less = is
+    not_served at p guard.Growth gs is quiet st j less = omega (arith, less, served_alone q at guard.Growth j refl)
+    not_served at p guard.Pop gs is quiet st j less = omega (arith, less, served_alone q at guard.Pop j refl)
+    not_served at p guard.Sp gs is quiet st j less = omega (arith, less, served_alone q at guard.Sp j refl)
 
-  -- and a unit starts there
-  pub unit_start : GuardedLeaves → (a : List Piece) (p : Piece) (b : List Piece) → pieces (fields o) ≡ a ++ p ∷ b → Shaped F a → UnitStart q (span a)
-  unit_start leaves a p b e shape = (starts_at a p b e, λ i. not_covered leaves a (p ∷ b) e shape i.1)
+    -- a guard that begins in front of a place, where shaped pieces end, serves nothing there or behind, if what stands there doesn't write memory
+    over_found : (a : List Piece) (p : Piece) (b x : List Piece) → pieces (fields o) ≡ a ++ p ∷ b → (WritesMemory p.instr → ⊥) → Found q.version a x → (guarded : ℕ) (g : GuardKind) (h : Guarded q guarded g) → h.first ≡ span x
+        → span a ≤ guarded → ⊥
+    over_found a p b x e quiet f guarded g h place late =
+        let served : List Piece = f.piece ∷ f.more in
+        let whole : pieces (fields o) ≡ x ++ (f.guards ++ (f.piece ∷ ((f.more ++ f.rest) ++ p ∷ b))) =
+        e ∙ ap (λ (ys : List Piece). ys ++ p ∷ b) f.are ∙ append_assoc x (f.guards ++ (f.piece ∷ (f.more ++ f.rest))) (p ∷ b)
+        ∙ ap (λ (ys : List Piece). x ++ ys) (append_assoc f.guards (f.piece ∷ (f.more ++ f.rest)) (p ∷ b)) in
+        let by : IsServedBy q.version f.kind f.guards [] f.piece = first_served q.version f.kind f.guards f.piece f.more f.serves in
+        let s : Guarded q (span (x ++ f.guards)) f.kind = next_guarded x f.kind f.guards f.piece ((f.more ++ f.rest) ++ p ∷ b) by whole in
+        let first : s.first ≡ span x = next_first x f.kind f.guards f.piece ((f.more ++ f.rest) ++ p ∷ b) by whole in
+        let is : IsOneGuard q guarded (span (x ++ f.guards)) g f.kind h s =
+        apart q guarded (span (x ++ f.guards)) h.first g f.kind h s (omega arith) (omega (arith, first_before q guarded g h)) (omega (arith, first, place)) (omega (arith, place, span_append x f.guards)) in
+        let long : span a ≡ span x + (span f.guards + (length (piece_words f.piece) + span (f.more ++ f.rest))) =
+        ap span f.are ∙ span_append x (f.guards ++ (f.piece ∷ (f.more ++ f.rest)))
+        ∙ ap (λ (n : ℕ). span x + n) (span_append f.guards (f.piece ∷ (f.more ++ f.rest)) ∙ ap (λ (n : ℕ). span f.guards + n) (span_cons f.piece (f.more ++ f.rest))) in
+        by_kind f.kind is.kind (guard_end x f.kind f.guards by.is) by.is (omega (arith, long, span_append x f.guards, piece_least f.piece))
+      where
+        served_not : (k : GuardKind) → g ≡ k → IsGuard k f.guards → (j : Guarded q (span a) g) → j.base < span a → ⊥
+        served_not k same' is j less = not_served (span a) p g f.guards (subst (λ (c : GuardKind). IsGuard c f.guards) (sym same') is) quiet (stands_at a p b e) j less
+
+        by_kind : (k : GuardKind) → g ≡ k → span x + length (guard_words k) ≡ span (x ++ f.guards) → IsGuard k f.guards → span (x ++ f.guards) < span a → ⊥
+        by_kind k same' ends is less =
+            let words : length (guard_words g) ≡ length (guard_words k) = ap (λ (c : GuardKind). length (guard_words c)) same' in
+            let base : h.base ≡ span (x ++ f.guards) = omega (arith, h.ends, words, place, ends) in
+            let also : AlsoGuarded q guarded (span a) g h = also_guarded q guarded (span a) g h (starts_at a p b e) (omega (arith, base, less)) late in
+            let ends' : also.guarded.first + length (guard_words g) ≡ also.guarded.base = also.guarded.ends in
+            served_not k same' is also.guarded (omega (arith, ends', also.first, h.ends, base, less))
+
+    not_covered : (a : List Piece) (p : Piece) (b : List Piece) → pieces (fields o) ≡ a ++ p ∷ b → Shaped F q.version a → (WritesMemory p.instr → ⊥) → Covered q (span a) → ⊥
+    unfolding Covered Covers CoversBy
+    not_covered a p b e shape quiet (guarded, late, (g, (h, early))) =
+        let pa : PieceAt (fields o) h.first = stand.starts h.first h.begins in
+        let place : h.first ≡ span pa.before = pa.place ∙ size_span (place_map (fields o)) pa.before in
+        let w : Within a pa.before pa.piece = within a (p ∷ b) pa.before pa.piece pa.after (sym e ∙ pa.are) (omega (arith, place, early)) in
+        let f : Found q.version a pa.before = save_found (place_map (fields o)) q.version F free_not a pa.before pa.piece w.more shape w.are (saves_at guarded g h pa) in
+        over_found a p b pa.before e quiet f guarded g h place late
+
+    -- so a unit starts there
+    pub unit_start : (a : List Piece) (p : Piece) (b : List Piece) → pieces (fields o) ≡ a ++ p ∷ b → Shaped F q.version a → (WritesMemory p.instr → ⊥) → UnitStart q (span a)
+    unit_start a p b e shape quiet = (starts_at a p b e, λ i. not_covered a p b e shape quiet i.1)

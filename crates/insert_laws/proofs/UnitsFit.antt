@@ -1,6 +1,6 @@
 -- Units of legal instructions are legal.
 use Rattle.std.proofs.Common.{◌≡◌, ℕ, zero, suc, ◌+◌, ◌-◌, ◌≤◌, ◌<◌, nat_le, if◌then◌else◌, Bool, true, false, List, [], ◌∷◌, ◌++◌, length, map, nat_eq, eq-eqb, rules, take, slice_index, Option, None, Some, MatchOption, pos, refl, sym, subst, ◌∙◌, arith}
-use Rattle.std.specs.List.{flat_map}
+use Rattle.std.specs.List.{AllByRecursion}
 use Rattle.std.proofs.lemmas.Int.{ints}
 use Rattle.msp_encode.specs.declared.instr.Op1.{Op1}
 use Rattle.msp_encode.specs.declared.instr.Op1.TheVariants.{Rrc, Swpb, Rra, Sxt, Push, Call}
@@ -21,16 +21,20 @@ use Rattle.msp_encode.specs.Spelling.{src_words, Spells, SrcFits, DstFits, Instr
 use Rattle.msp_encode.specs.Laws.{LegalByCases}
 use Rattle.msp_decode.specs.Reading.{NoneBegins}
 use Rattle.msp_decode.specs.Function.{reading, ReadingLaw}
+use Rattle.code_model.specs.declared.object.Object.{Object}
 use Rattle.code_model.specs.declared.parts.Reloc.{Reloc}
+use Rattle.code_model.specs.Fields.{fields}
 use Rattle.code_model.specs.declared.parts.RelKind.{RelKind}
+use Rattle.code_model.specs.declared.guards.Reach.{Reach}
+use Rattle.code_model.specs.Guards.{high_word}
 use Rattle.insert_model.specs.declared.aim.Aim.{Aim}
 use Rattle.insert_model.specs.declared.aim.Aim.TheVariants.{ToPc, ToSp, ToMemory, Elsewhere}
 use Rattle.insert_model.specs.declared.line.Line.{Line}
 use Rattle.insert_model.specs.declared.piece.Piece.{Piece}
-use Rattle.insert_model.specs.Source.{own, own_piece, line_at, with_line, lines_from}
-use Rattle.insert_model.specs.Guards.{plain, branch, pop_r4, base, store_guard, growth_guard, pop_guard, sp_guard}
+use Rattle.insert_model.specs.Source.{own, own_piece, line_at, with_line, lines_from, lines}
+use Rattle.insert_model.specs.Guards.{plain, branch, pop_r4, base, region_guard, store_guard, wide_guard, growth_guard, pop_guard, sp_guard}
 use Rattle.insert_model.specs.Units.{is_static, aim, aim_one, writes, is_popped, is_immediate, is_pc, is_plain_pop, into_r4, through_r4, from_r4, popping, setting_sp, writing, changing, calling_value, calling, one_unit, jump_unit, target_offset, unit_of, unit}
-use Rattle.insert_laws.specs.Pieces.{pieces_of, moved_src, moved_dst, moved_instr, standing}
+use Rattle.insert_laws.specs.Pieces.{moved_src, moved_dst, moved_instr, standing}
 use Rattle.insert_laws.proofs.Streams.{FitEach}
 use Rattle.kernel_model.specs.declared.entries.TheConstants.{GOES}
 
@@ -38,7 +42,7 @@ abbrev pub AllFit : List Piece → Type 0
 AllFit [] = Unit {0}
 AllFit (p ∷ ps) = InstrFits p.instr × AllFit ps
 
-fit_append : (xs ys : List Piece) → AllFit xs → AllFit ys → AllFit (xs ++ ys)
+pub fit_append : (xs ys : List Piece) → AllFit xs → AllFit ys → AllFit (xs ++ ys)
 fit_append [] ys a b = b
 fit_append (x ∷ xs) ys a b = (a.0, fit_append xs ys a.1 b)
 
@@ -55,8 +59,14 @@ base_fits n h = by (nat_eq n 3) refl
     by true e = tt
     by false e = (h, λ same. let f : nat_eq n 3 ≡ true = eq-eqb n 3 same in let g : true ≡ false = sym f ∙ e in cc)
 
+region_fits : (n x high : ℕ) (k : Option RelKind) → n < 16 → AllFit (region_guard n x high k)
+region_fits n x high k h = search (rules, base_fits n h)
+
 store_fits : (n x : ℕ) (k : Option RelKind) → n < 16 → AllFit (store_guard n x k)
-store_fits n x k h = search (rules, base_fits n h)
+store_fits n x k h = region_fits n x 0 k h
+
+pub wide_fits : (r : Reach) (n x : ℕ) (k : Option RelKind) → n < 16 → AllFit (wide_guard r n x k)
+wide_fits r n x k h = region_fits n x (high_word r) k h
 
 growth_fits : AllFit growth_guard
 growth_fits = search rules
@@ -186,40 +196,77 @@ unit_fits size l h = of_fits size l.at (own l) l.instr h (subst InstrFits (sym (
 
 -- ---- lines
 
+-- the index of an indexed destination is a word
+abbrev pub HasSmallIndex : Instr → Type 0
+HasSmallIndex (instr.Two op w s (dst.Indexed n x)) = x < 65536
+HasSmallIndex (instr.Two op w s (dst.Reg n)) = Unit {0}
+HasSmallIndex (instr.Two op w s (dst.Symbolic x)) = Unit {0}
+HasSmallIndex (instr.Two op w s (dst.Absolute x)) = Unit {0}
+HasSmallIndex (instr.One op w s) = Unit {0}
+HasSmallIndex instr.Reti = Unit {0}
+HasSmallIndex (instr.Jump c k) = Unit {0}
+
+-- an instruction as it is read
+abbrev pub IsRead : Instr → Type 0
+IsRead i = InstrFits i × HasSmallIndex i
+
 abbrev pub LinesFit : List Line → Type 0
 LinesFit [] = Unit {0}
-LinesFit (l ∷ ls) = InstrFits l.instr × LinesFit ls
+LinesFit (l ∷ ls) = IsRead l.instr × LinesFit ls
 
 line_instr : (relocs : List Reloc) (at : ℕ) (i : Instr) → (line_at relocs at i).instr ≡ i
 unfolding line_at
 line_instr relocs at i = refl
 
-with_line_fits : (relocs : List Reloc) (at have : ℕ) (r : Option (Instr × ℕ)) (after : ℕ → List Line) → MatchOption r (Unit {0}) (λ x. InstrFits x.0) → ((n : ℕ) → LinesFit (after n))
+with_line_fits : (relocs : List Reloc) (at have : ℕ) (r : Option (Instr × ℕ)) (after : ℕ → List Line) → MatchOption r (Unit {0}) (λ x. IsRead x.0) → ((n : ℕ) → LinesFit (after n))
     → LinesFit (with_line relocs at have r after)
 with_line_fits relocs at have None after h rest = tt
 with_line_fits relocs at have (Some x) after h rest = by (nat_le x.1 have)
   where
     by : (b : Bool) → LinesFit (if b then line_at relocs at x.0 ∷ after (x.1 - 1) else [])
-    by true = (subst InstrFits (sym (line_instr relocs at x.0)) h, rest (x.1 - 1))
+    by true = (subst IsRead (sym (line_instr relocs at x.0)) h, rest (x.1 - 1))
     by false = tt
 
-legal_read : (w : ℕ) (ws : List ℕ) (r : Option (Instr × ℕ)) → LegalByCases → MatchOption r (NoneBegins w) (λ x. (x.1 ≤ 3) × Spells x.0 (take x.1 ws)) → MatchOption r (Unit {0}) (λ x. InstrFits x.0)
-legal_read w ws None legal h = tt
-legal_read w ws (Some x) legal h = (legal x.0).0 (take x.1 ws, h.1)
+abbrev AllWords : List ℕ → Type 0
+AllWords xs = AllByRecursion (λ x. x < 65536) xs
 
-pub lines_fit : ReadingLaw → LegalByCases → (relocs : List Reloc) (ws : List ℕ) (at left : ℕ) → ((k : ℕ) → slice_index ws k < 65536) → LinesFit (lines_from relocs at left ws)
+words_taken : (n : ℕ) (xs : List ℕ) → AllWords xs → AllWords (take n xs)
+words_taken zero xs h = tt
+words_taken (suc n) [] h = tt
+words_taken (suc n) (x ∷ xs) h = (h.0, words_taken n xs h.1)
+
+last_word : (xs : List ℕ) (x : ℕ) → AllWords (xs ++ x ∷ []) → x < 65536
+last_word [] x h = h.0
+last_word (y ∷ xs) x h = last_word xs x h.1
+
+-- the words behind the first are its own
+index_read : (i : Instr) (ws : List ℕ) → AllWords ws → Spells i ws → HasSmallIndex i
+index_read (instr.Two op w s (dst.Indexed n x)) [] small h = absurd h
+index_read (instr.Two op w s (dst.Indexed n x)) (v ∷ ws) small h = last_word (src_words s) x (subst AllWords h.1 small.1)
+index_read (instr.Two op w s (dst.Reg n)) ws small h = tt
+index_read (instr.Two op w s (dst.Symbolic x)) ws small h = tt
+index_read (instr.Two op w s (dst.Absolute x)) ws small h = tt
+index_read (instr.One op w s) ws small h = tt
+index_read instr.Reti ws small h = tt
+index_read (instr.Jump c k) ws small h = tt
+
+legal_read : (w : ℕ) (ws : List ℕ) (r : Option (Instr × ℕ)) → LegalByCases → AllWords ws → MatchOption r (NoneBegins w) (λ x. (x.1 ≤ 3) × Spells x.0 (take x.1 ws))
+    → MatchOption r (Unit {0}) (λ x. IsRead x.0)
+legal_read w ws None legal small h = tt
+legal_read w ws (Some x) legal small h = ((legal x.0).0 (take x.1 ws, h.1), index_read x.0 (take x.1 ws) (words_taken x.1 ws small) h.1)
+
+lines_fit : ReadingLaw → LegalByCases → (relocs : List Reloc) (ws : List ℕ) (at left : ℕ) → ((k : ℕ) → slice_index ws k < 65536) → LinesFit (lines_from relocs at left ws)
 unfolding lines_from
 lines_fit reads legal relocs [] at left small = tt
 lines_fit reads legal relocs (w ∷ ws) at (suc left) small = lines_fit reads legal relocs ws (at + 1) left (λ k. small (suc k))
 lines_fit reads legal relocs (w ∷ ws) at zero small =
     with_line_fits relocs at (1 + length ws) (reading w (slice_index ws 0) (slice_index ws 1)) (λ left. lines_from relocs (at + 1) left ws)
-    (legal_read w (w ∷ slice_index ws 0 ∷ slice_index ws 1 ∷ []) _ legal (reads w (slice_index ws 0) (slice_index ws 1) (small 0)))
+    (legal_read w (w ∷ slice_index ws 0 ∷ slice_index ws 1 ∷ []) _ legal (small 0, (small 1, (small 2, tt))) (reads w (slice_index ws 0) (slice_index ws 1) (small 0)))
     (λ left. lines_fit reads legal relocs ws (at + 1) left (λ k. small (suc k)))
 
-pub pieces_fit : (size : ℕ) (ls : List Line) → LinesFit ls → AllFit (pieces_of size ls)
-unfolding pieces_of
-pieces_fit size [] h = tt
-pieces_fit size (l ∷ ls) h = fit_append (unit size l) (flat_map (unit size) ls) (unit_fits size l h.0) (pieces_fit size ls h.1)
+pub source_fits : (o : Object) → ReadingLaw → LegalByCases → LinesFit (lines (fields o))
+unfolding lines
+source_fits o reads legal = lines_fit reads legal o.relocs o.code 0 0 o.form.words_small
 
 -- ---- and they stay legal
 

@@ -1,8 +1,8 @@
 -- The shape of the pieces of an object with guards: free pieces, and guards with what they guard.
-use Rattle.std.specs.Prelude.{◌≡◌, ℕ, ◌%◌, ◌<◌, ◌≤◌, ◌⊎◌, List, [], ◌∷◌, ◌++◌, Option, None, ℤ, pos}
+use Rattle.std.specs.Prelude.{◌≡◌, ℕ, ◌%◌, ◌<◌, ◌≤◌, ◌⊎◌, List, [], ◌∷◌, ◌++◌, length, Option, None}
+use Rattle.std.specs.List.{AllByRecursion}
 use Rattle.msp_encode.specs.declared.instr.Op2.TheVariants.{Mov}
 use Rattle.msp_encode.specs.declared.instr.Width.TheVariants.{Wide}
-use Rattle.msp_encode.specs.declared.instr.Cond.{Cond}
 use Rattle.msp_encode.specs.declared.instr.Src.TheVariants as src
 use Rattle.msp_encode.specs.declared.instr.Dst.TheVariants as dst
 use Rattle.msp_encode.specs.declared.instr.Instr.{Instr}
@@ -11,10 +11,10 @@ use Rattle.code_model.specs.declared.parts.RelKind.{RelKind}
 use Rattle.code_model.specs.declared.guards.Reach.{Reach}
 use Rattle.code_model.specs.declared.guards.GuardKind.{GuardKind}
 use Rattle.code_model.specs.declared.guards.GuardKind.TheVariants as guard
-use Rattle.code_model.specs.Guards.{reach_bytes, Writes, Changes, IsQuiet, IsAtR4, IsGrowthForm, IsPopForm, IsSpForm}
+use Rattle.code_model.specs.Guards.{reach_bytes, Writes, Changes, IsQuiet, IsAtR4, IsGrowthForm, IsPopForm, IsSpForm, most_served, least_version}
 use Rattle.msp_encode.specs.Spelling.{InstrFits}
 use Rattle.code_model.specs.declared.object.Object.{Object}
-use Rattle.code_model.specs.Rules.{IsReti, WritesReg, IsBranch, WritesMemory, ReadsStack, IsPushOrCall, IsAlways}
+use Rattle.code_model.specs.Rules.{IsReti, WritesReg, IsBranch, WritesMemory, ReadsStack, IsPushOrCall}
 use Rattle.insert_model.specs.declared.line.Line.{Line}
 use Rattle.insert_model.specs.declared.piece.Piece.{Piece}
 use Rattle.insert_model.specs.Faults.{UsesCheck, ChangesFlags, IsForbidden, GoesWrong}
@@ -72,11 +72,19 @@ IsServed guard.Growth p = IsGrowthForm p.instr
 IsServed guard.Pop p = IsPopForm p.instr
 IsServed guard.Sp p = IsSpForm p.instr
 
--- guards with what they guard, and pieces that meet a fact
-pub data Shaped (F : Piece → Type 0) : List Piece → Type 0 where
-  Ends : (xs : List Piece) → xs ≡ [] → Shaped F xs
-  Free : (xs : List Piece) (p : Piece) (ps : List Piece) → xs ≡ p ∷ ps → F p → Shaped F ps → Shaped F xs
-  Guards : (xs : List Piece) (g : GuardKind) (gs : List Piece) (p : Piece) (ps : List Piece) → xs ≡ gs ++ p ∷ ps → IsGuard g gs → IsServed g p → Shaped F ps → Shaped F xs
+-- a guard that a version knows, and pieces that it serves, one behind another
+pub record IsGuarding (version : ℕ) (g : GuardKind) (gs ss : List Piece) : Type 0 where
+  pub known : least_version g ≤ version
+  pub is : IsGuard g gs
+  pub few : length ss ≤ most_served g
+  pub each : AllByRecursion (IsServed g) ss
+
+-- guards with what they guard, one piece at least, and pieces that meet a fact
+pub data Shaped (F : Piece → Type 0) (version : ℕ) : List Piece → Type 0 where
+  Ends : (xs : List Piece) → xs ≡ [] → Shaped F version xs
+  Free : (xs : List Piece) (p : Piece) (ps : List Piece) → xs ≡ p ∷ ps → F p → Shaped F version ps → Shaped F version xs
+  Guards : (xs : List Piece) (g : GuardKind) (gs : List Piece) (p : Piece) (more ps : List Piece) → xs ≡ gs ++ (p ∷ (more ++ ps)) → IsGuarding version g gs (p ∷ more) → Shaped F version ps
+      → Shaped F version xs
 
 -- no rule on forms asks for a guard
 pub record IsFreeForm (p : Piece) : Type 0 where
@@ -87,8 +95,6 @@ pub record IsFreeForm (p : Piece) : Type 0 where
   pub no_pop : ReadsStack p.instr → ⊥
   pub no_push : IsPushOrCall p.instr → ⊥
   pub no_save : p.instr ≡ saving → ⊥
-  -- it is no jump of a guard
-  pub jumps : (c : Cond) (k : ℤ) → p.instr ≡ instr.Jump c k → (k ≡ pos 1) ⊎ IsAlways c
   -- SR is written by flags alone, which aren't relocated
   pub sr : WritesReg p.instr 2 → (ChangesFlags p.instr p.source → ⊥) → ⊥
 

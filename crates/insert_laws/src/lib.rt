@@ -5,8 +5,10 @@ ghost use Rattle.insert_laws.specs.Laws.{StartsArePieces, RelocsArePieces, FormR
 ghost use Rattle.insert_laws.specs.Source.{StartsDecided};
 ghost use Rattle.insert_laws.specs.Lines.{CodeIsPieces, LinesAreClean, LinesAreSpelled, GroupsHaveUnits, PlacesWithin};
 
-use code_laws::{guarded_leaves, guards_apart, next_start, one_stands, starts_apart};
-use insert_model::laws::{instruction_size, line_stands};
+use code_laws::{guards_apart, next_start, one_stands, starts_apart};
+use insert_model::laws::{
+    groups_stand, instruction_size, line_stands, short_jumps_fit, sizes_alike,
+};
 use msp_decode::laws::{first_word_decides, one_instruction, reading_law};
 use msp_encode::laws::legal_by_cases;
 
@@ -17,6 +19,8 @@ pub fn starts_are_pieces()
     one_stands();
     reading_law();
     legal_by_cases();
+    groups_stand();
+    short_jumps_fit();
 }
 
 /// The relocations of the code of an object with guards are those of the words of its pieces.
@@ -33,6 +37,8 @@ pub fn form_rules_pass()
     one_stands();
     reading_law();
     legal_by_cases();
+    groups_stand();
+    short_jumps_fit();
     one_instruction();
     first_word_decides();
 }
@@ -44,11 +50,15 @@ pub fn starts_are_units()
     one_stands();
     reading_law();
     legal_by_cases();
+    groups_stand();
+    short_jumps_fit();
     one_instruction();
     first_word_decides();
-    guarded_leaves();
+    guards_apart();
+    starts_apart();
     instruction_size();
     line_stands();
+    sizes_alike();
 }
 
 /// The rule on the entry and the exports refuses no object with guards.
@@ -65,6 +75,8 @@ pub fn target_rule_passes()
     one_stands();
     reading_law();
     legal_by_cases();
+    groups_stand();
+    short_jumps_fit();
     starts_are_units();
 }
 
@@ -75,22 +87,29 @@ pub fn end_rule_passes()
     one_stands();
     reading_law();
     legal_by_cases();
+    groups_stand();
+    short_jumps_fit();
     instruction_size();
     line_stands();
 }
 
-/// The rule on jumps refuses no object with guards: outside guards, jumps stand in the units of conditional jumps alone.
+/// The rule on jumps refuses no object with guards: outside guards, jumps stand in the units of jumps alone. One that is its unit goes
+/// to the unit of what the source's jump went to.
 pub fn jump_rule_passes()
     ensures { JumpRulePasses }
 {
     one_stands();
     reading_law();
     legal_by_cases();
+    groups_stand();
+    short_jumps_fit();
     one_instruction();
     first_word_decides();
-    guarded_leaves();
+    guards_apart();
     instruction_size();
     line_stands();
+    sizes_alike();
+    starts_are_units();
 }
 
 /// No rule of the checker refuses an object with guards.
@@ -119,9 +138,11 @@ pub fn inserted_is_accepted()
     one_stands();
     reading_law();
     legal_by_cases();
+    groups_stand();
+    short_jumps_fit();
     one_instruction();
     first_word_decides();
-    guarded_leaves();
+    guards_apart();
     next_start();
     starts_apart();
     nothing_refused();
@@ -134,6 +155,8 @@ pub fn no_load_guards()
     one_stands();
     reading_law();
     legal_by_cases();
+    groups_stand();
+    short_jumps_fit();
     one_instruction();
     first_word_decides();
     guards_apart();
@@ -177,6 +200,8 @@ pub fn groups_have_units()
 {
     instruction_size();
     line_stands();
+    groups_stand();
+    sizes_alike();
 }
 
 /// The place map sends each offset to a word of the code, or behind its last one.
@@ -184,4 +209,5 @@ pub fn places_within()
     ensures { PlacesWithin }
 {
     code_is_pieces();
+    sizes_alike();
 }

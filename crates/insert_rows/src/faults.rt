@@ -1,9 +1,9 @@
 //! Faults of small objects, and the unit that passes the most words.
 
-use crate::faulty::{BAD_TARGETS, CHECK_REGISTERS, FIRST_FAULTS, FORBIDDEN, UNDECODED};
 use crate::answers::{Answer, inserted};
-use code_rows::object_parts::{CODE, Parts, code};
+use crate::faulty::{BAD_TARGETS, CHECK_REGISTERS, FIRST_FAULTS, FORBIDDEN, UNDECODED};
 use check_inserter::InsertKind;
+use code_rows::object_parts::{CODE, Parts, code};
 use std::alloc::{AllocError, Global};
 use std::test::*;
 

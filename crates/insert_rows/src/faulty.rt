@@ -1,8 +1,8 @@
 //! Source objects with a fault.
 
 use crate::faults::Faulty;
-use code_rows::object_parts::{CODE, DATA, HI, LO};
 use check_inserter::InsertKind;
+use code_rows::object_parts::{CODE, DATA, HI, LO};
 
 pub(crate) const UNDECODED: [Faulty; 3] = [
     (&[0x4303, 0x0000], &[], InsertKind::NotDecoded, 2),

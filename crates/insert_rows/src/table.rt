@@ -1,9 +1,9 @@
 //! Units of small objects: each row of the table, and what moves with a unit.
 
-use crate::rows::{GUARDED_STORE, GUARDED_STORE_RELOCS, STACKS, STORE, STORES, TARGETS};
 use crate::answers::{Answer, inserted, inserted_in};
-use code_rows::object_parts::{CODE, DATA, HI, LO, Parts, code};
+use crate::rows::{GUARDED_STORE, GUARDED_STORE_RELOCS, STACKS, STORE, STORES, TARGETS};
 use check_inserter::InsertKind;
+use code_rows::object_parts::{CODE, DATA, HI, LO, Parts, code};
 use std::alloc::Global;
 use std::test::*;
 

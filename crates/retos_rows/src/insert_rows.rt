@@ -1,8 +1,8 @@
 //! Worked rows of `insert`: what it writes and prints, what it refuses, and calls that fail.
 
 use crate::test_support::{
-    Case, CodeReloc, Failing, SELF_JUMP, UNGUARDED, application, application_of, compare_held, no_command,
-    try_case, try_stored, with_files, writable,
+    Case, CodeReloc, Failing, SELF_JUMP, Stored, UNGUARDED, application, application_of,
+    compare_held, no_command, try_case, try_stored, try_stored_pieces, with_files, writable,
 };
 use edge_io::lists::Bytes;
 use std::alloc::Global;
@@ -102,6 +102,71 @@ fn two_stores_of_version_2_have_one_guard(rt: HostRuntime) -> Result<(), Fail> {
     for case in &OF_TWO_STORES {
         try_case(&rt, alloc, &mut files, NONE.out, case)?;
         compare_held(&rt, &files, b"g.o", Some(guarded.as_slice()), case.line)?;
+    }
+    Ok(())
+}
+
+/// An address from the end of the region, four stores through it, and a jump to itself.
+fn four_stores(alloc: Global, from_end: u16) -> Result<Bytes, Fail> {
+    let code = [
+        0x4036, from_end, 0x4396, 0, 0x43A6, 2, 0x42A6, 4, 0x42B6, 6, 0x3FFF,
+    ];
+    application_of(alloc, 2, &code, &[(4, 0x02)])
+}
+
+/// The same with their guard.
+fn four_guarded(alloc: Global, from_end: u16) -> Result<Bytes, Fail> {
+    let code = [
+        0x4036, from_end, 0x4205, 0x4604, 0x5034, 0, 0x9034, 0, 0x2803, 0x9034, 0xFFFA, 0x2802,
+        0x4030, 0xF000, 0x4502, 0x4394, 0, 0x43A4, 2, 0x42A4, 4, 0x42B4, 6, 0x3FFF,
+    ];
+    application_of(alloc, 2, &code, &[(4, 0x02), (3, 0x0E), (4, 0x14)])
+}
+
+/// What is added to the end, a piece of the trace, and the status: all four are in the region, or the last one isn't.
+const FOUR_AT_THE_END: [(u16, &str, u8); 2] = [
+    (
+        0xFFF8,
+        "\n10 a0.t0 601E 4394 2008:01 2009:00\n11 a0.t0 6022 43A4 200A:02 200B:00\n12 a0.t0 6026 42A4 200C:04 200D:00\n13 a0.t0 602A 42B4 200E:08 200F:00\n",
+        0,
+    ),
+    (
+        0xFFFA,
+        "\n10 a0.t0 fault store 200A\nend quiet 10 emits 0 faults 1\n",
+        6,
+    ),
+];
+
+#[test]
+fn a_group_of_four_writes_all_or_nothing(rt: HostRuntime) -> Result<(), Fail> {
+    let case = Case {
+        line: "insert s.o g.o",
+        out: "g.o: inserted 24 words\n",
+        err: "",
+        status: 0,
+    };
+    for (from_end, piece, status) in &FOUR_AT_THE_END {
+        let plain = four_stores(rt.alloc(), *from_end)?;
+        let guarded = four_guarded(rt.alloc(), *from_end)?;
+        let text = plain.as_slice();
+        try_insert(
+            &rt,
+            rt.alloc(),
+            text,
+            100,
+            &NONE,
+            &case,
+            Some(guarded.as_slice()),
+        )?;
+        let stored: [Stored; 1] = [(b"x.o", guarded.as_slice())];
+        try_stored_pieces(
+            &rt,
+            rt.alloc(),
+            &stored,
+            "solo --all x.o 14",
+            &[*piece],
+            *status,
+        )?;
     }
     Ok(())
 }

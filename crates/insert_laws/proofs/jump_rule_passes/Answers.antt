@@ -2,4 +2,6 @@ use Rattle.insert_laws.proofs.Jumping.{jump_passes}
 use Rattle.insert_laws.proofs.jump_rule_passes.Goals as goal
 
 pub returns : goal.returns
-returns c = jump_passes c.one_stands.ensures c.reading_law.ensures c.legal_by_cases.ensures c.one_instruction.ensures c.first_word_decides.ensures c.guarded_leaves.ensures c.instruction_size.ensures c.line_stands.ensures
+returns c =
+    jump_passes (record { one = c.one_stands.ensures; reads = c.reading_law.ensures; legal = c.legal_by_cases.ensures; groups = c.groups_stand.ensures; short = c.short_jumps_fit.ensures })
+    c.one_instruction.ensures c.first_word_decides.ensures c.guards_apart.ensures c.instruction_size.ensures c.line_stands.ensures c.sizes_alike.ensures c.starts_are_units.ensures

@@ -1,5 +1,0 @@
-use Rattle.insert_laws.proofs.LineUnits.{units_lie}
-use Rattle.insert_laws.proofs.lines_have_units.Goals as goal
-
-pub returns : goal.returns
-returns c = units_lie c.instruction_size.ensures c.line_stands.ensures
