@@ -66,22 +66,14 @@ fn put_line(
 }
 
 /// Appends a guard of the stores of a line and the lines behind it, and then these.
-fn put_wide(
-    out: &mut Vec<Word>,
-    cell: &Cell,
-    line: &Line,
-    rest: &[Line],
-) -> Result<(), AllocError>
+fn put_wide(out: &mut Vec<Word>, cell: &Cell, line: &Line, rest: &[Line]) -> Result<(), AllocError>
     requires base { cell.now.base < 16 }
     requires line { InstrFits line.now.instr }
     requires rest { AreLegalLines rest.now }
     ensures { OnOk result (out.new.items ≡ out.old.items ++ unit_words (wide_unit (as_cell cell.now) (line.now ∷ rest.now))) }
 {
     let reach = reach_of(greatest(cell, line, rest));
-    put_pieces(
-        out,
-        &wide_guard(reach, cell.base, cell.index, cell.kind),
-    )?;
+    put_pieces(out, &wide_guard(reach, cell.base, cell.index, cell.kind))?;
     put_pieces(out, &[beside(cell, line)])?;
     for other in rest {
         put_pieces(out, &[beside(cell, other)])?;

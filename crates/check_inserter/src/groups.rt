@@ -53,7 +53,7 @@ fn kept(run: Run) -> usize
 fn run_behind(o: &Object, targets: &Marks, cell: &Cell, behind: &[Line]) -> Run
     requires targets { AreTargets o.now targets.now }
     requires behind { AreLegalLines behind.now }
-    ensures are { Counts (run (fields o.now) (as_cell cell.now) LATER_MOST behind.now) result }
+    ensures are { Counts (run (fields o.now) (as_cell cell.now) 3 behind.now) result }
     ensures most { result.count ≤ length behind.now }
 {
     let mut run = Run {

@@ -40,7 +40,8 @@ use std::alloc::Global;
 /// there the unit's run, without an interrupt, ends in one of three ways: at the next unit, the target's or a named entry, with
 /// all but R4 and R5 as the source instruction leaves it; at the entry that takes a return, a computed jump or a computed call
 /// over; or, exactly where its check fails, at the entry for that, with nothing written. A call pushes the address of the next
-/// unit.
+/// unit. The unit of a group of stores does what they do in order, or, exactly where the check of one of them fails, ends at the
+/// entry for that with nothing written. No guard is a load guard. In version 1 each source instruction has a unit of its own.
 ///
 /// What is computed is what is spelled. Where all of the source is spelled, its lines are its instructions: each starts and
 /// stands where its line says, and each start has a line. In the object with guards the starts are the places of the units'
