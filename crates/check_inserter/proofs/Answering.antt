@@ -13,7 +13,8 @@ use Rattle.insert_model.specs.declared.fault.InsertFault.{InsertFault}
 use Rattle.insert_model.specs.declared.fault.InsertFault.TheVariants.{At, Memory}
 use Rattle.insert_model.specs.declared.line.Line.{Line}
 use Rattle.insert_model.specs.Units.{static_bytes}
-use Rattle.insert_model.specs.Inserted.{units}
+use Rattle.insert_model.specs.Groups.{Group}
+use Rattle.insert_model.specs.Layout.{Jumps, units, final, final_units}
 use Rattle.insert_model.specs.Faults.{number, LinesHave, LineHas, Hits, Precedes, most_words, Passes, IsUndecoded, IsFirstFault, IsTooLarge, IsFault, IsInserted, IsAnswer, SameAnswer}
 use Rattle.check_inserter.specs.declared.faults.Fault.{Fault}
 use Rattle.check_inserter.specs.Found.{IsFirstOf}
@@ -48,19 +49,19 @@ same_bad o x y one u v =
     (one o (Refused 1 x) (Refused 1 y) a b).1
 
 -- two ways to cut a list at an element
-abbrev Longer : (b c : List Line) (l : Line) → Type 0
-Longer b c l = (d : List Line) × (c ≡ (b ++ l ∷ []) ++ d)
+abbrev Longer : (b c : List Group) (l : Group) → Type 0
+Longer b c l = (d : List Group) × (c ≡ (b ++ l ∷ []) ++ d)
 
-head_same : (x y : Line) (xs ys : List Line) → x ∷ xs ≡ y ∷ ys → x ≡ y
+head_same : (x y : Group) (xs ys : List Group) → x ∷ xs ≡ y ∷ ys → x ≡ y
 head_same x y xs ys e = cc
 
-tail_same : (x y : Line) (xs ys : List Line) → x ∷ xs ≡ y ∷ ys → xs ≡ ys
+tail_same : (x y : Group) (xs ys : List Group) → x ∷ xs ≡ y ∷ ys → xs ≡ ys
 tail_same x y xs ys e = cc
 
-two_cuts : (b c : List Line) (l m : Line) (p q : List Line) → b ++ l ∷ p ≡ c ++ m ∷ q → (l ≡ m) ⊎ (Longer b c l ⊎ Longer c b m)
+two_cuts : (b c : List Group) (l m : Group) (p q : List Group) → b ++ l ∷ p ≡ c ++ m ∷ q → (l ≡ m) ⊎ (Longer b c l ⊎ Longer c b m)
 two_cuts [] [] l m p q e = inl (head_same l m p q e)
-two_cuts [] (y ∷ c) l m p q e = inr (inl (c, ap (λ (z : Line). z ∷ c) (sym (head_same l y p (c ++ m ∷ q) e))))
-two_cuts (x ∷ b) [] l m p q e = inr (inr (b, ap (λ (z : Line). z ∷ b) (head_same x m (b ++ l ∷ p) q e)))
+two_cuts [] (y ∷ c) l m p q e = inr (inl (c, ap (λ (z : Group). z ∷ c) (sym (head_same l y p (c ++ m ∷ q) e))))
+two_cuts (x ∷ b) [] l m p q e = inr (inr (b, ap (λ (z : Group). z ∷ b) (head_same x m (b ++ l ∷ p) q e)))
 two_cuts (x ∷ b) (y ∷ c) l m p q e =
     let h : x ≡ y = head_same x y (b ++ l ∷ p) (c ++ m ∷ q) e in
     elim (two_cuts b c l m p q (tail_same x y (b ++ l ∷ p) (c ++ m ∷ q) e)) [
@@ -69,25 +70,25 @@ two_cuts (x ∷ b) (y ∷ c) l m p q e =
       | inr (inr (d, f)) ↦ inr (inr (d, λ j. h j ∷ f j))
     ]
 
-grows : (size : ℕ) (xs ys : List Line) → length (units size xs) ≤ length (units size (xs ++ ys))
-grows size xs ys = omega (arith, ap length (units_append size xs ys), length-append (units size xs) (units size ys))
+grows : (js : Jumps) (size : ℕ) (xs ys : List Group) → length (units js size xs) ≤ length (units js size (xs ++ ys))
+grows js size xs ys = omega (arith, ap length (units_append js size xs ys), length-append (units js size xs) (units js size ys))
 
-too_long : (size : ℕ) (b c : List Line) (l : Line) → Longer b c l → most_words < length (units size (b ++ l ∷ [])) → length (units size c) ≤ most_words → ⊥
-too_long size b c l (d, e) big small = omega (arith, ap (λ (ms : List Line). length (units size ms)) e, grows size (b ++ l ∷ []) d)
+too_long : (js : Jumps) (size : ℕ) (b c : List Group) (l : Group) → Longer b c l → most_words < length (units js size (b ++ l ∷ [])) → length (units js size c) ≤ most_words → ⊥
+too_long js size b c l (d, e) big small = omega (arith, ap (λ (gs : List Group). length (units js size gs)) e, grows js size (b ++ l ∷ []) d)
 
 same_passes : (o : Object) (x y : ℕ) → Passes o x → Passes o y → x ≡ y
 same_passes o x y p q =
-    elim (two_cuts p.before q.before p.line q.line p.after q.after (sym p.are ∙ q.are)) [
-      | inl same ↦ p.is ∙ ap (λ (l : Line). 2 * l.at) same ∙ sym q.is
-      | inr (inl h) ↦ absurd (too_long (static_bytes (fields o)) p.before q.before p.line h p.passes q.fits)
-      | inr (inr h) ↦ absurd (too_long (static_bytes (fields o)) q.before p.before q.line h q.passes p.fits)
+    elim (two_cuts p.before q.before p.group q.group p.after q.after (sym p.are ∙ q.are)) [
+      | inl same ↦ p.is ∙ ap (λ (g : Group). 2 * g.head.at) same ∙ sym q.is
+      | inr (inl h) ↦ absurd (too_long (final (fields o)) (static_bytes (fields o)) p.before q.before p.group h p.passes q.fits)
+      | inr (inr h) ↦ absurd (too_long (final (fields o)) (static_bytes (fields o)) q.before p.before q.group h q.passes p.fits)
     ]
 
 not_both : (o q : Object) (x : ℕ) → IsInserted o q → Passes o x → ⊥
+unfolding final_units
 not_both o q x i p =
-    let size : ℕ = static_bytes (fields o) in
-    let e : p.before ++ p.line ∷ p.after ≡ (p.before ++ p.line ∷ []) ++ p.after = sym (append_assoc p.before (p.line ∷ []) p.after) in
-    omega (arith, grows (static_bytes (fields o)) (p.before ++ p.line ∷ []) p.after, ap (λ (ms : List Line). length (units (static_bytes (fields o)) ms)) (p.are ∙ e), i.fits, p.passes)
+    let e : p.before ++ p.group ∷ p.after ≡ (p.before ++ p.group ∷ []) ++ p.after = sym (append_assoc p.before (p.group ∷ []) p.after) in
+    omega (arith, grows (final (fields o)) (static_bytes (fields o)) (p.before ++ p.group ∷ []) p.after, ap (λ (gs : List Group). length (units (final (fields o)) (static_bytes (fields o)) gs)) (p.are ∙ e), i.fits, p.passes)
 
 -- ---- first faults
 

@@ -1,5 +1,5 @@
 -- An element of a list with a property, where the list grows at its end.
-use Rattle.std.proofs.Common.{◌≡◌, ◌↔◌, ℕ, ◌+◌, ◌<◌, List, [], ◌∷◌, ◌++◌, ◌⊎◌, inl, inr, length, take, get_or, sym, subst, ◌∙◌, arith}
+use Rattle.std.proofs.Common.{◌≡◌, ◌↔◌, ℕ, zero, suc, refl, ◌+◌, ◌<◌, List, [], ◌∷◌, ◌++◌, ◌⊎◌, inl, inr, length, take, get_or, sym, subst, ◌∙◌, arith}
 use Rattle.std.specs.List.{Any}
 use Rattle.std.proofs.lemmas.Bool.{cases_lt}
 use Rattle.std.proofs.lemmas.List.{get_or_append_left, get_or_at, length-append, length_push, take_more}
@@ -29,3 +29,13 @@ any_more P xs i d inside = subst (λ l. (Any P (take i xs) ⊎ P (get_or xs i d)
 
 pub any_none : {X : Type 0} (P : X → Type 0) → Any P [] → ⊥
 any_none P (k, x, inside, is, h) = omega (arith, inside)
+
+pub any_cons : {X : Type 0} (P : X → Type 0) (x : X) (xs : List X) → Any P (x ∷ xs) → P x ⊎ Any P xs
+any_cons P x xs (zero, y, inside, is, h) = inl (subst P (sym is) h)
+any_cons P x xs (suc k, y, inside, is, h) = inr (k, y, omega arith, is, h)
+
+pub any_first : {X : Type 0} (P : X → Type 0) (x : X) (xs : List X) → P x → Any P (x ∷ xs)
+any_first P x xs h = (0, x, omega arith, refl, h)
+
+pub any_behind : {X : Type 0} (P : X → Type 0) (x : X) (xs : List X) → Any P xs → Any P (x ∷ xs)
+any_behind P x xs (k, y, inside, is, h) = (suc k, y, omega arith, is, h)

@@ -1,14 +1,13 @@
 -- The object with guards meets the form.
-use Rattle.std.proofs.Common.{◌≡◌, ℕ, zero, suc, ◌+◌, ◌-◌, ◌*◌, ◌/◌, ◌%◌, ◌≤◌, ◌<◌, nat_lt, if◌then◌else◌, Bool, true, false, not, List, [], ◌∷◌, ◌++◌, inl, inr, length, map, fold, slice_index, slice_index_or, slice_set, Option, None, Some, sym, subst, refl, ap, ◌∙◌, arith, rules}
+use Rattle.std.proofs.Common.{◌≡◌, ℕ, zero, suc, ◌+◌, ◌-◌, ◌*◌, ◌/◌, ◌%◌, ◌≤◌, ◌<◌, nat_lt, if◌then◌else◌, Bool, true, false, not, List, [], ◌∷◌, ◌++◌, inl, inr, length, map, fold, flat_map, slice_index, slice_index_or, Option, None, Some, sym, subst, refl, ap, ◌∙◌, arith, rules}
 use Rattle.std.proofs.lemmas.Bool.{cases_lt}
-use Rattle.std.proofs.lemmas.List.{length-append, length-map, length-set, get_or-map, get_or_default}
+use Rattle.std.proofs.lemmas.List.{length-append, length-map, get_or-map, get_or_default}
 use Rattle.code_model.specs.declared.object.TheConstants.{CODE_WORDS_MAX, RELOCS_MAX, STATIC_BYTES_MAX}
 use Rattle.code_model.specs.declared.object.Object.{Object}
 use Rattle.kernel_model.specs.declared.kinds.Kind.TheVariants.{App, Module}
 use Rattle.code_model.specs.declared.parts.Reloc.{Reloc}
 use Rattle.code_model.specs.declared.parts.Export.{Export}
 use Rattle.code_model.specs.declared.parts.RelKind.{RelKind}
-use Rattle.code_model.specs.declared.parts.RelKind.TheVariants.{Code, Data, Lo, Hi}
 use Rattle.code_model.specs.Fields.{fields, fields_by}
 use Rattle.code_model.specs.Form.{key, InOrder, IsInCode, RelocFits, AppForm, ModuleForm, MeetsForm}
 use Rattle.code_model.specs.Starts.{Start}
@@ -17,12 +16,16 @@ use Rattle.insert_model.specs.declared.line.Line.{Line}
 use Rattle.insert_model.specs.declared.piece.Word.{Word}
 use Rattle.insert_model.specs.Source.{lines}
 use Rattle.insert_model.specs.Units.{static_bytes}
-use Rattle.insert_model.specs.Inserted.{units, before, place_in, place_map, moved, with_reloc, relocs_from, with_word, moved_at, moved_data, of_data, moved_export, with_guards, inserted}
+use Rattle.insert_model.specs.Inserted.{moved, with_reloc, relocs_from, moved_data, of_data, moved_export, with_guards, inserted}
+use Rattle.insert_model.specs.Groups.{is_target, Group, members, groups}
+use Rattle.insert_model.specs.Layout.{units, before, words_before, sized, final_units, place_map}
+use Rattle.insert_model.specs.Laws.{GroupsStand}
 use Rattle.insert_model.specs.Faults.{NoHit, IsStartOffset, ExportsMiss, most_words, IsInserted}
 use Rattle.check_inserter.specs.declared.laying.Laid.{Laid}
-use Rattle.check_inserter.specs.Read.{IsSource}
+use Rattle.check_inserter.specs.Read.{StartsIn, IsSource}
 use Rattle.check_inserter.specs.Places.{IsLaid}
-use Rattle.check_inserter.proofs.UnitSizes.{start_moves}
+use Rattle.check_inserter.proofs.Naming.{entry_named, export_named}
+use Rattle.check_inserter.proofs.UnitSizes.{head_moves, target_begins, some_units}
 use Rattle.insert_laws.proofs.Static.{init_length}
 
 pub source_of : (o : Object) (ls : List Line) → IsSource o ls → IsSource o (lines (fields o))
@@ -175,26 +178,32 @@ even_count (x ∷ rs) low top even all r =
 
 -- ---- places
 
-no_before : (ls : List Line) → before 0 ls ≡ []
+no_before : (gs : List Group) → before 0 gs ≡ []
 unfolding before
 no_before [] = refl
-no_before (l ∷ ls) = let e : nat_lt l.at 0 ≡ false = search rules in rw e (no_before ls)
+no_before (g ∷ gs) = let e : nat_lt g.head.at 0 ≡ false = search rules in rw e (no_before gs)
 
 first_place : (o : Object) → place_map (fields o) 0 ≡ 0
-unfolding place_map place_in units
+unfolding place_map words_before units
 first_place o = rw no_before refl
 
 place_even : (o : Object) (x : ℕ) → place_map (fields o) x % 2 ≡ 0
-unfolding place_map place_in
+unfolding place_map
 place_even o x = omega arith
 
-place_below : (o : Object) (x : ℕ) → IsSource o (lines (fields o)) → IsStartOffset o.code x → place_map (fields o) x < 2 * length (units (static_bytes (fields o)) (lines (fields o)))
-unfolding place_map place_in IsStartOffset
-place_below o x source (t, start, e) =
+line_starts : (o : Object) (t : ℕ) → GroupsStand (fields o) → IsSource o (lines (fields o)) → Start o.code t → StartsIn (flat_map members (groups (fields o))) t
+line_starts o t stand source start = subst (λ (ls : List Line). StartsIn ls t) (sym stand.are) ((source.starts t).0 start)
+
+-- a target that is a start begins a group
+place_below : (o : Object) (x : ℕ) → GroupsStand (fields o) → IsSource o (lines (fields o)) → is_target (fields o) x ≡ true → IsStartOffset o.code x
+    → place_map (fields o) x < 2 * length (units (sized (fields o)) (static_bytes (fields o)) (groups (fields o)))
+unfolding place_map words_before IsStartOffset
+place_below o x stand source target (t, start, e) =
     let half : x / 2 ≡ t = omega arith in
-    let less : length (units (static_bytes (fields o)) (before t (lines (fields o)))) < length (units (static_bytes (fields o)) (lines (fields o))) =
-    start_moves (static_bytes (fields o)) t (lines (fields o)) ((source.starts t).0 start) in
-    subst (λ (k : ℕ). 2 * length (units (static_bytes (fields o)) (before k (lines (fields o)))) < 2 * length (units (static_bytes (fields o)) (lines (fields o)))) (sym half) (omega arith)
+    let aimed : is_target (fields o) (2 * t) ≡ true = ap (is_target (fields o)) (sym e) ∙ target in
+    let less : length (units (sized (fields o)) (static_bytes (fields o)) (before t (groups (fields o)))) < length (units (sized (fields o)) (static_bytes (fields o)) (groups (fields o))) =
+    head_moves (fields o) (sized (fields o)) (static_bytes (fields o)) t (groups (fields o)) stand.each (target_begins (fields o) t (groups (fields o)) stand.each aimed (line_starts o t stand source start)) in
+    subst (λ (k : ℕ). 2 * length (units (sized (fields o)) (static_bytes (fields o)) (before k (groups (fields o)))) < 2 * length (units (sized (fields o)) (static_bytes (fields o)) (groups (fields o)))) (sym half) (omega arith)
 
 -- where it can't fail, it holds
 below_sure : (a b : ℕ) (P : Type 0) → ((P → ⊥) → ⊥) → (P → a < b) → a < b
@@ -204,12 +213,9 @@ export_hit : (o : Object) (k : ℕ) (d : Export) → k < length o.exports → (I
 unfolding ExportsMiss
 export_hit o k d h never = (k, slice_index_or o.exports k d, h, get_or_default o.exports k (slice_index_or o.exports k d) d h, (never, refl))
 
-module _ (o : Object) (laid : Laid) (is : IsLaid o laid) (source : IsSource o (lines (fields o))) (clean : NoHit o) where
-  size : ℕ
-  size = length (units (static_bytes (fields o)) (lines (fields o)))
-
-  words_length : length laid.words.items ≡ length (units (static_bytes (fields o)) (lines (fields o)))
-  words_length = ap length is.words
+module _ (o : Object) (laid : Laid) (is : IsLaid o laid) (stand : GroupsStand (fields o)) (source : IsSource o (lines (fields o))) (clean : NoHit o) where
+  words_length : length laid.words.items ≡ length (units (sized (fields o)) (static_bytes (fields o)) (groups (fields o)))
+  words_length = is.final.size
 
   words_most : length laid.words.items ≤ CODE_WORDS_MAX
   unfolding most_words
@@ -218,21 +224,19 @@ module _ (o : Object) (laid : Laid) (is : IsLaid o laid) (source : IsSource o (l
   words_least : 1 ≤ length laid.words.items
   words_least =
       let start : Start o.code 0 = record { count = 0; reached = refl; below = omega (arith, o.form.code_least) } in
-      let less : length (units (static_bytes (fields o)) (before 0 (lines (fields o)))) < length (units (static_bytes (fields o)) (lines (fields o))) =
-      start_moves (static_bytes (fields o)) 0 (lines (fields o)) ((source.starts 0).0 start) in
-      omega (arith, words_length)
+      omega (arith, words_length, some_units (fields o) (sized (fields o)) (static_bytes (fields o)) 0 (groups (fields o)) stand.each (line_starts o 0 stand source start))
 
   entry_below : o.kind ≡ App → place_map (fields o) o.entry < 2 * length laid.words.items
   entry_below app =
       below_sure (place_map (fields o) o.entry) (2 * length laid.words.items) (IsStartOffset o.code o.entry)
       (λ never. clean BadTarget o.entry (inr (refl, inl (app, never, refl))))
-      (λ start. omega (arith, place_below o o.entry source start, words_length))
+      (λ start. omega (arith, place_below o o.entry stand source (entry_named (fields o)) start, words_length))
 
   export_below : (k : ℕ) (d : Export) → k < length o.exports → place_map (fields o) (slice_index_or o.exports k d).offset < 2 * length laid.words.items
   export_below k d h =
       below_sure (place_map (fields o) (slice_index_or o.exports k d).offset) (2 * length laid.words.items) (IsStartOffset o.code (slice_index_or o.exports k d).offset)
       (λ never. clean BadTarget (slice_index_or o.exports k d).offset (inr (refl, inr (inl (export_hit o k d h never)))))
-      (λ start. omega (arith, place_below o (slice_index_or o.exports k d).offset source start, words_length))
+      (λ start. omega (arith, place_below o (slice_index_or o.exports k d).offset stand source (export_named (fields o) k d h) start, words_length))
 
   module _ (code init : List ℕ) (entry : ℕ) (relocs : List Reloc) (exports : List Export)
       (ecode : code ≡ map (moved (place_map (fields o))) laid.words.items) (small : (k : ℕ) → slice_index code k < 65536)
@@ -372,14 +376,14 @@ module _ (o : Object) (laid : Laid) (is : IsLaid o laid) (source : IsSource o (l
     pub fields_are : fields_by o.kind o.version code init o.zeroed o.stack o.threads entry relocs exports ≡ inserted o
     unfolding inserted with_guards
     fields_are =
-        let ec : code ≡ map (moved (place_map (fields o))) (units (static_bytes (fields o)) (lines (fields o))) = ecode ∙ ap (map (moved (place_map (fields o)))) is.words in
-        let er : relocs ≡ relocs_from 0 (units (static_bytes (fields o)) (lines (fields o))) ++ of_data o.relocs = erelocs ∙ ap (λ (ws : List Word). relocs_from 0 ws ++ of_data o.relocs) is.words in
+        let ec : code ≡ map (moved (place_map (fields o))) (final_units (fields o)) = ecode ∙ ap (map (moved (place_map (fields o)))) is.final.words in
+        let er : relocs ≡ relocs_from 0 (final_units (fields o)) ++ of_data o.relocs = erelocs ∙ ap (λ (ws : List Word). relocs_from 0 ws ++ of_data o.relocs) is.final.words in
         λ i. fields_by o.kind o.version (ec i) (einit i) o.zeroed o.stack o.threads (eentry i) (er i) (eexports i)
 
     pub answer_is : (q : Object) → fields q ≡ fields_by o.kind o.version code init o.zeroed o.stack o.threads entry relocs exports → IsInserted o q
     answer_is q e = record {
       spelled = source.spelled;
       clean = clean;
-      fits = subst (λ (ws : List Word). length ws ≤ most_words) is.words is.fits;
+      fits = subst (λ (ws : List Word). length ws ≤ most_words) is.final.words is.fits;
       is = e ∙ fields_are;
     }

@@ -11,3 +11,8 @@ pub mod Joins
 pub mod Answering
 pub mod UnitSizes
 pub mod Forming
+pub mod Runs
+pub mod Naming
+pub mod Jumping
+pub mod Grouping
+pub mod Limits

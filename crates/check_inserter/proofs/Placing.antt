@@ -1,74 +1,64 @@
 -- New places.
-use Rattle.std.proofs.Common.{◌≡◌, ℕ, ◌+◌, ◌*◌, ◌/◌, ◌≤◌, ◌<◌, min, nat_lt, true, false, List, [], ◌∷◌, ◌++◌, inl, inr, length, get_or, slice_index, sym, subst, refl, ap, ◌∙◌, arith, rules}
+use Rattle.std.proofs.Common.{◌≡◌, ℕ, ◌+◌, ◌*◌, ◌/◌, ◌≤◌, ◌<◌, min, List, [], ◌∷◌, ◌++◌, inl, inr, length, slice_index, sym, subst, ap, ◌∙◌, arith}
 use Rattle.std.proofs.lemmas.Bool.{cases_lt}
-use Rattle.std.proofs.lemmas.List.{length-append, get_or_read}
+use Rattle.std.proofs.lemmas.List.{length-append}
 use Rattle.code_model.specs.declared.object.TheConstants.{CODE_WORDS_MAX}
 use Rattle.code_model.specs.declared.object.Object.{Object}
-use Rattle.code_model.specs.Fields.{fields}
-use Rattle.insert_model.specs.declared.line.Line.{Line}
+use Rattle.code_model.specs.Fields.{Fields, fields}
 use Rattle.insert_model.specs.Words.{unit_words}
-use Rattle.insert_model.specs.Source.{lines}
-use Rattle.insert_model.specs.Units.{static_bytes, unit}
-use Rattle.insert_model.specs.Inserted.{units, before, place_in, place_map}
+use Rattle.insert_model.specs.Units.{static_bytes}
+use Rattle.insert_model.specs.Groups.{Group, groups}
+use Rattle.insert_model.specs.Layout.{Jumps, unit_in, units, before, words_before, sized, place_map}
 use Rattle.insert_model.specs.Faults.{most_words}
 use Rattle.check_inserter.specs.declared.laying.Laid.{Laid}
-use Rattle.check_inserter.specs.Places.{IsLaid}
-use Rattle.check_inserter.proofs.LaidUnits.{units_append, units_one}
+use Rattle.check_inserter.specs.Places.{ArePlaces, IsLaid}
+use Rattle.check_inserter.proofs.LaidUnits.{units_append, units_one, before_in, before_out}
 
--- one line's unit and those behind
-pub units_cons : (size : ℕ) (l : Line) (ls : List Line) → length (units size (l ∷ ls)) ≡ length (unit_words (unit size l)) + length (units size ls)
-units_cons size l ls =
-    let e : units size (l ∷ ls) ≡ units size (l ∷ []) ++ units size ls = units_append size (l ∷ []) ls in
-    omega (arith, ap length e, length-append (units size (l ∷ [])) (units size ls), ap length (units_one size l))
+-- one group's unit and those behind
+pub units_cons : (js : Jumps) (size : ℕ) (g : Group) (gs : List Group) → length (units js size (g ∷ gs)) ≡ length (unit_words (unit_in js size g)) + length (units js size gs)
+units_cons js size g gs =
+    let e : units js size (g ∷ gs) ≡ units js size (g ∷ []) ++ units js size gs = units_append js size (g ∷ []) gs in
+    omega (arith, ap length e, length-append (units js size (g ∷ [])) (units js size gs), ap length (units_one js size g))
 
-pub before_cons_in : (k : ℕ) (l : Line) (ls : List Line) → l.at < k → before k (l ∷ ls) ≡ l ∷ before k ls
+pub units_before : (js : Jumps) (size k : ℕ) (gs : List Group) → length (units js size (before k gs)) ≤ length (units js size gs)
 unfolding before
-before_cons_in k l ls h = let e : nat_lt l.at k ≡ true = search rules in rw e refl
-
-pub before_cons_out : (k : ℕ) (l : Line) (ls : List Line) → k ≤ l.at → before k (l ∷ ls) ≡ before k ls
-unfolding before
-before_cons_out k l ls h = let e : nat_lt l.at k ≡ false = search rules in rw e refl
-
-pub units_before : (size k : ℕ) (ls : List Line) → length (units size (before k ls)) ≤ length (units size ls)
-unfolding before
-units_before size k [] = omega arith
-units_before size k (l ∷ ls) =
-    let less : length (units size (before k ls)) ≤ length (units size ls) = units_before size k ls in
-    elim (cases_lt l.at k) [
-      | inl early ↦ omega (arith, ap (λ (ms : List Line). length (units size ms)) (before_cons_in k l ls early), units_cons size l (before k ls), units_cons size l ls)
-      | inr late ↦ omega (arith, ap (λ (ms : List Line). length (units size ms)) (before_cons_out k l ls late), units_cons size l ls)
+units_before js size k [] = omega arith
+units_before js size k (g ∷ gs) =
+    let less : length (units js size (before k gs)) ≤ length (units js size gs) = units_before js size k gs in
+    elim (cases_lt g.head.at k) [
+      | inl early ↦ omega (arith, ap (λ (hs : List Group). length (units js size hs)) (before_in k g gs early), units_cons js size g (before k gs), units_cons js size g gs)
+      | inr late ↦ omega (arith, ap (λ (hs : List Group). length (units js size hs)) (before_out k g gs late), units_cons js size g gs)
     ]
 
-module _ (o : Object) (laid : Laid) (is : IsLaid o laid) where
-  at_place : (k : ℕ) → k ≤ length o.code → slice_index laid.places.items k ≡ length (units (static_bytes (fields o)) (before k (lines (fields o))))
-  at_place k h = is.places.each k (omega arith)
+-- what lies behind the last place has gone behind the last unit
+at_last : (js : Jumps) (f : Fields) (places : List ℕ) → ArePlaces js f places → (k : ℕ) → slice_index places (min k (length f.code)) ≡ length (units js (static_bytes f) (before k (groups f)))
+at_last js f places are k = elim (cases_lt k (length f.code)) [
+  | inl inside ↦ let e : min k (length f.code) ≡ k = omega arith in
+      subst (λ (x : ℕ). slice_index places x ≡ length (units js (static_bytes f) (before k (groups f)))) (sym e) (are.each k (omega arith))
+  | inr past ↦
+      let e : min k (length f.code) ≡ length f.code = omega arith in
+      let same : before (length f.code) (groups f) ≡ before k (groups f) = are.past (length f.code) (omega arith) ∙ sym (are.past k past) in
+      subst (λ (x : ℕ). slice_index places x ≡ length (units js (static_bytes f) (before k (groups f)))) (sym e)
+      (are.each (length f.code) (omega arith) ∙ ap (λ (gs : List Group). length (units js (static_bytes f) gs)) same)
+]
 
-  pub place_small : (k : ℕ) → k ≤ length o.code → slice_index laid.places.items k ≤ CODE_WORDS_MAX
-  unfolding most_words
-  place_small k h = omega (arith, at_place k h, units_before (static_bytes (fields o)) k (lines (fields o)), is.fits, ap length is.words)
+pub value_before : (js : Jumps) (f : Fields) (places : List ℕ) (x k : ℕ) → ArePlaces js f places → k ≡ min (x / 2) (length f.code) → slice_index places k ≡ words_before js f x
+unfolding words_before
+value_before js f places x k are e = ap (slice_index places) e ∙ at_last js f places are (x / 2)
 
-  -- what lies behind the last place has gone behind the last unit
-  at_last : (k : ℕ) → slice_index laid.places.items (min k (length o.code)) ≡ length (units (static_bytes (fields o)) (before k (lines (fields o))))
-  at_last k = elim (cases_lt k (length o.code)) [
-    | inl inside ↦ let e : min k (length o.code) ≡ k = omega arith in
-        subst (λ (x : ℕ). slice_index laid.places.items x ≡ length (units (static_bytes (fields o)) (before k (lines (fields o))))) (sym e) (at_place k (omega arith))
-    | inr past ↦
-        let e : min k (length o.code) ≡ length o.code = omega arith in
-        let f : before (length o.code) (lines (fields o)) ≡ before k (lines (fields o)) = is.past (length o.code) (omega arith) ∙ sym (is.past k past) in
-        subst (λ (x : ℕ). slice_index laid.places.items x ≡ length (units (static_bytes (fields o)) (before k (lines (fields o))))) (sym e)
-        (at_place (length o.code) (omega arith) ∙ ap (λ (ms : List Line). length (units (static_bytes (fields o)) ms)) f)
-  ]
+-- the place of a line
+pub value_at : (js : Jumps) (f : Fields) (places : List ℕ) (at : ℕ) → ArePlaces js f places → at < length f.code → slice_index places at ≡ words_before js f (2 * at)
+value_at js f places at are h = value_before js f places (2 * at) at are (omega arith)
 
-  pub place_is : (x : ℕ) → 2 * slice_index laid.places.items (min (x / 2) (length o.code)) ≡ place_map (fields o) x
-  unfolding place_map place_in
-  place_is x = ap (λ (n : ℕ). 2 * n) (at_last (x / 2))
+-- all of a layout's words
+pub all_words : (js : Jumps) (f : Fields) (places : List ℕ) → ArePlaces js f places → slice_index places (length f.code) ≡ length (units js (static_bytes f) (groups f))
+all_words js f places are = are.each (length f.code) (omega arith) ∙ ap (λ (gs : List Group). length (units js (static_bytes f) gs)) (are.past (length f.code) (omega arith))
 
-  pub read_small : (k y : ℕ) → k ≤ length o.code → y ≡ get_or laid.places.items k y → y ≤ CODE_WORDS_MAX
-  read_small k y h e =
-      let f : y ≡ slice_index laid.places.items k = get_or_read laid.places.items k y (omega (arith, is.places.count)) e 0 in
-      omega (arith, place_small k h)
+pub before_small : (o : Object) (laid : Laid) (x y : ℕ) → IsLaid o laid → y ≡ words_before (sized (fields o)) (fields o) x → y ≤ CODE_WORDS_MAX
+unfolding most_words words_before
+before_small o laid x y is e =
+    omega (arith, e, units_before (sized (fields o)) (static_bytes (fields o)) (x / 2) (groups (fields o)), is.fits, is.final.size)
 
-  pub read_is : (x k y : ℕ) → k ≡ min (x / 2) (length o.code) → y ≡ get_or laid.places.items k y → 2 * y ≡ place_map (fields o) x
-  read_is x k y ek e =
-      let f : y ≡ slice_index laid.places.items k = get_or_read laid.places.items k y (omega (arith, is.places.count)) e 0 in
-      ap (λ (n : ℕ). 2 * n) (f ∙ ap (slice_index laid.places.items) ek) ∙ place_is x
+pub map_is : (o : Object) (x y : ℕ) → y ≡ words_before (sized (fields o)) (fields o) x → 2 * y ≡ place_map (fields o) x
+unfolding place_map
+map_is o x y e = ap (λ (n : ℕ). 2 * n) e

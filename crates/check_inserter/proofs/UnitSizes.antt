@@ -1,6 +1,6 @@
--- A line's unit has words, so what stands before it goes to a lesser place.
-use Rattle.std.proofs.Common.{◌≡◌, ℕ, zero, suc, ◌≤◌, ◌<◌, if◌then◌else◌, Bool, true, false, List, [], ◌∷◌, ◌⊎◌, inl, inr, length, sym, subst, ap, arith}
-use Rattle.std.specs.List.{Any}
+-- A group's unit has words, so what stands before it goes to a lesser place.
+use Rattle.std.proofs.Common.{◌≡◌, ℕ, suc, ◌*◌, ◌≤◌, ◌<◌, if◌then◌else◌, Bool, true, false, List, [], ◌∷◌, ◌++◌, ◌⊎◌, inl, inr, length, ℤ, Option, None, Some, sym, subst, ap, ◌∙◌, arith}
+use Rattle.std.specs.List.{All, Any, flat_map}
 use Rattle.std.proofs.lemmas.Bool.{cases_lt}
 use Rattle.msp_encode.specs.declared.instr.Op1.{Op1}
 use Rattle.msp_encode.specs.declared.instr.Op1.TheVariants.{Rrc, Swpb, Rra, Sxt, Push, Call}
@@ -19,9 +19,14 @@ use Rattle.insert_model.specs.declared.piece.Piece.{Piece}
 use Rattle.insert_model.specs.Words.{piece_words, unit_words}
 use Rattle.insert_model.specs.Source.{own}
 use Rattle.insert_model.specs.Units.{aim, aim_one, writes, is_popped, is_immediate, is_pc, is_plain_pop, popping, writing, changing, one_unit, jump_unit, target_offset, unit_of, unit}
-use Rattle.insert_model.specs.Inserted.{units, before}
+use Rattle.code_model.specs.Fields.{Fields}
+use Rattle.insert_model.specs.Groups.{Cell, cell, is_target, if_near, joins, Group, members}
+use Rattle.insert_model.specs.Layout.{Jumps, jump_by, line_unit_of, line_unit, wide_unit, wide_unit_of, unit_of_lines, unit_in, units, before}
+use Rattle.insert_model.specs.Laws.{Joins, IsGroup}
 use Rattle.check_inserter.specs.Read.{StartsIn}
-use Rattle.check_inserter.proofs.Placing.{units_cons, before_cons_in, before_cons_out, units_before}
+use Rattle.check_inserter.proofs.Anys.{any_cons, any_first, any_behind, any_none}
+use Rattle.check_inserter.proofs.LaidUnits.{before_in, before_out}
+use Rattle.check_inserter.proofs.Placing.{units_cons, units_before}
 
 -- ---- a unit has a word
 
@@ -75,27 +80,91 @@ some_of size at p (instr.One op w s) = some_one size op w s p
 some_of size at p instr.Reti = some_cons _ _
 some_of size at p (instr.Jump c k) = some_jump (target_offset at k) c
 
-pub unit_some : (size : ℕ) (l : Line) → 1 ≤ length (unit_words (unit size l))
+unit_some : (size : ℕ) (l : Line) → 1 ≤ length (unit_words (unit size l))
 unfolding unit
 unit_some size l = some_of size l.at (own l) l.instr
 
--- ---- what starts goes below the end
+-- ---- so has the unit of a group
 
-any_cons : (P : Line → Type 0) (l : Line) (ls : List Line) → Any P (l ∷ ls) → P l ⊎ Any P ls
-any_cons P l ls (zero, x, inside, is, h) = inl (subst P (sym is) h)
-any_cons P l ls (suc k, x, inside, is, h) = inr (k, x, omega arith, is, h)
+some_jump_by : (j : Option ℤ) (c : Cond) (ps : List Piece) → Some_words ps → Some_words (jump_by j c ps)
+some_jump_by None c ps h = h
+some_jump_by (Some k) c ps h = some_cons _ _
 
-pub start_moves : (size k : ℕ) (ls : List Line) → StartsIn ls k → length (units size (before k ls)) < length (units size ls)
-unfolding StartsIn
-start_moves size k [] (i, x, inside, is, h) = absurd (omega arith)
-start_moves size k (l ∷ ls) s =
-    elim (any_cons (λ (m : Line). m.at ≡ k) l ls s) [
+some_line_by : (js : Jumps) (size : ℕ) (l : Line) (i : Instr) → Some_words (line_unit_of js size l i)
+some_line_by js size l (instr.Two op w s d) = unit_some size l
+some_line_by js size l (instr.One op w s) = unit_some size l
+some_line_by js size l instr.Reti = unit_some size l
+some_line_by js size l (instr.Jump c k) = some_jump_by (js l) c (unit size l) (unit_some size l)
+
+some_line : (js : Jumps) (size : ℕ) (l : Line) → Some_words (line_unit js size l)
+unfolding line_unit
+some_line js size l = some_line_by js size l l.instr
+
+some_wide : (c : Cell) (o : Option Cell) (ls : List Line) → o ≡ Some c → Some_words (wide_unit_of o ls)
+unfolding wide_unit
+some_wide c None ls e = absurd (cc)
+some_wide c (Some d) ls e = some_cons _ _
+
+some_lines : (f : Fields) (js : Jumps) (size : ℕ) (l : Line) (ks : List Line) → IsGroup f (record { head = l; rest = ks }) → Some_words (unit_of_lines js size l ks)
+some_lines f js size l [] g = some_line js size l
+some_lines f js size l (k ∷ ks) (inl e) = absurd (cc)
+some_lines f js size l (k ∷ ks) (inr r) = some_wide r.from (cell l) (l ∷ k ∷ ks) r.begins
+
+some_group : (f : Fields) (js : Jumps) (size : ℕ) (g : Group) → IsGroup f g → 1 ≤ length (unit_words (unit_in js size g))
+unfolding unit_in
+some_group f js size g is = some_lines f js size g.head g.rest is
+
+all_rest : (P : Group → Type 0) (g : Group) (gs : List Group) → All P (g ∷ gs) → All P gs
+all_rest P g gs h = λ k d less. h (suc k) d (omega arith)
+
+-- ---- what a group begins at goes below the end
+
+pub head_moves : (f : Fields) (js : Jumps) (size k : ℕ) (gs : List Group) → All (IsGroup f) gs → Any (λ (g : Group). g.head.at ≡ k) gs → length (units js size (before k gs)) < length (units js size gs)
+head_moves f js size k [] all s = absurd (any_none (λ (g : Group). g.head.at ≡ k) s)
+head_moves f js size k (g ∷ gs) all s =
+    elim (any_cons (λ (h : Group). h.head.at ≡ k) g gs s) [
       | inl here ↦
-          omega (arith, ap (λ (ms : List Line). length (units size ms)) (before_cons_out k l ls (omega arith)), units_before size k ls, units_cons size l ls, unit_some size l)
+          omega (arith, ap (λ (hs : List Group). length (units js size hs)) (before_out k g gs (omega arith)), units_before js size k gs, units_cons js size g gs, some_group f js size g (all 0 g (omega arith)))
       | inr behind ↦
-          let less : length (units size (before k ls)) < length (units size ls) = start_moves size k ls behind in
-          elim (cases_lt l.at k) [
-            | inl early ↦ omega (arith, ap (λ (ms : List Line). length (units size ms)) (before_cons_in k l ls early), units_cons size l (before k ls), units_cons size l ls)
-            | inr late ↦ omega (arith, ap (λ (ms : List Line). length (units size ms)) (before_cons_out k l ls late), units_cons size l ls)
+          let less : length (units js size (before k gs)) < length (units js size gs) = head_moves f js size k gs (all_rest (IsGroup f) g gs all) behind in
+          elim (cases_lt g.head.at k) [
+            | inl early ↦ omega (arith, ap (λ (hs : List Group). length (units js size hs)) (before_in k g gs early), units_cons js size g (before k gs), units_cons js size g gs)
+            | inr late ↦ omega (arith, ap (λ (hs : List Group). length (units js size hs)) (before_out k g gs late), units_cons js size g gs)
           ]
     ]
+
+-- where there are lines, there are words
+pub some_units : (f : Fields) (js : Jumps) (size k : ℕ) (gs : List Group) → All (IsGroup f) gs → StartsIn (flat_map members gs) k → 1 ≤ length (units js size gs)
+unfolding StartsIn
+some_units f js size k [] all s = absurd (any_none (λ (l : Line). l.at ≡ k) s)
+some_units f js size k (g ∷ gs) all s = omega (arith, units_cons js size g gs, some_group f js size g (all 0 g (omega arith)))
+
+-- ---- a target begins a group
+
+any_split : (P : Line → Type 0) (xs ys : List Line) → Any P (xs ++ ys) → Any P xs ⊎ Any P ys
+any_split P [] ys s = inr s
+any_split P (x ∷ xs) ys s = elim (any_cons P x (xs ++ ys) s) [
+  | inl h ↦ inl (any_first P x xs h)
+  | inr t ↦ elim (any_split P xs ys t) [ inl a ↦ inl (any_behind P x xs a) | inr b ↦ inr b ]
+]
+
+not_joined : (f : Fields) (c : Cell) (l : Line) (t : ℕ) → l.at ≡ t → is_target f (2 * t) ≡ true → Joins f c l → ⊥
+not_joined f c l t at is (d, e) =
+    let here : is_target f (2 * l.at) ≡ true = ap (λ (n : ℕ). is_target f (2 * n)) at ∙ is in
+    let none : joins f c l ≡ None = ap (λ (b : Bool). if b then None else if_near c (cell l)) here in
+    let never : None ≡ Some d = sym none ∙ e in cc
+
+not_later : (f : Fields) (g : Group) (t : ℕ) → IsGroup f g → is_target f (2 * t) ≡ true → Any (λ (l : Line). l.at ≡ t) g.rest → ⊥
+not_later f g t (inl e) is s = any_none (λ (l : Line). l.at ≡ t) (subst (Any (λ (l : Line). l.at ≡ t)) e s)
+not_later f g t (inr r) is (k, l, inside, same, at) = not_joined f r.from l t at is (subst (Joins f r.from) same (r.others k l inside))
+
+pub target_begins : (f : Fields) (t : ℕ) (gs : List Group) → All (IsGroup f) gs → is_target f (2 * t) ≡ true → StartsIn (flat_map members gs) t → Any (λ (g : Group). g.head.at ≡ t) gs
+unfolding StartsIn
+target_begins f t [] all is s = absurd (any_none (λ (l : Line). l.at ≡ t) s)
+target_begins f t (g ∷ gs) all is s = elim (any_split (λ (l : Line). l.at ≡ t) (members g) (flat_map members gs) s) [
+  | inl here ↦ elim (any_cons (λ (l : Line). l.at ≡ t) g.head g.rest here) [
+    | inl h ↦ any_first (λ (h : Group). h.head.at ≡ t) g gs h
+    | inr later ↦ absurd (not_later f g t (all 0 g (omega arith)) is later)
+  ]
+  | inr behind ↦ any_behind (λ (h : Group). h.head.at ≡ t) g gs (target_begins f t gs (all_rest (IsGroup f) g gs all) is behind)
+]

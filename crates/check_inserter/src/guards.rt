@@ -2,9 +2,11 @@
 
 ghost use Rattle.std.specs.Prelude.{◌≡◌, ◌<◌, ℕ};
 ghost use Rattle.msp_encode.specs.Spelling.{SrcFits, DstFits};
-ghost use Rattle.insert_model.specs.Guards.{plain, mov, cmp, jump, on_r4, branch, save, restore, take_sp, pop_r4, give_sp, base, store_guard, growth_guard, pop_guard, sp_guard};
+ghost use Rattle.insert_model.specs.Guards.{plain, mov, cmp, jump, on_r4, branch, save, restore, take_sp, pop_r4, give_sp, base, region_guard, store_guard, wide_guard, growth_guard, pop_guard, sp_guard};
+ghost use Rattle.code_model.specs.Guards.{high_word};
 ghost use Rattle.check_inserter.specs.Fitting.{AllFit};
 
+use code_model::guards::Reach;
 use code_model::parts::RelKind;
 use insert_model::piece::Piece;
 use kernel_model::entries::{STACK_FAULT, STORE_FAULT};
@@ -134,10 +136,10 @@ fn base(register: u8) -> Src
     }
 }
 
-/// Keeps a store at an index from a base in the region.
-pub(crate) fn store_guard(register: u8, index: u16, kind: Option<RelKind>) -> [Piece; 9]
+/// Keeps an address at an index from a base in the region, whose end is added to a word.
+fn region_guard(register: u8, index: u16, high: u16, kind: Option<RelKind>) -> [Piece; 9]
     requires { register < 16 }
-    ensures is { result ≡ store_guard register index kind }
+    ensures is { result ≡ region_guard register index high kind }
     ensures fit { AllFit result }
 {
     [
@@ -146,11 +148,45 @@ pub(crate) fn store_guard(register: u8, index: u16, kind: Option<RelKind>) -> [P
         on_r4(Op2::Add, index, kind),
         on_r4(Op2::Cmp, 0, Some(RelKind::Lo)),
         jump(Cond::Nc, 3),
-        on_r4(Op2::Cmp, 0, Some(RelKind::Hi)),
+        on_r4(Op2::Cmp, high, Some(RelKind::Hi)),
         jump(Cond::Nc, 2),
         branch(STORE_FAULT, None),
         restore(),
     ]
+}
+
+/// Keeps a store at an index from a base in the region.
+pub(crate) fn store_guard(register: u8, index: u16, kind: Option<RelKind>) -> [Piece; 9]
+    requires { register < 16 }
+    ensures is { result ≡ store_guard register index kind }
+    ensures fit { AllFit result }
+{
+    region_guard(register, index, 0, kind)
+}
+
+/// Keeps stores in the region that reach so far from an index from a base.
+pub(crate) fn wide_guard(
+    reach: Reach,
+    register: u8,
+    index: u16,
+    kind: Option<RelKind>,
+) -> [Piece; 9]
+    requires { register < 16 }
+    ensures is { result ≡ wide_guard reach register index kind }
+    ensures fit { AllFit result }
+{
+    region_guard(register, index, high_word(reach), kind)
+}
+
+/// The word that the region's end is added to.
+fn high_word(reach: Reach) -> u16
+    ensures { result ≡ high_word reach }
+{
+    match reach {
+        Reach::Two => 0xFFFE,
+        Reach::Four => 0xFFFC,
+        Reach::Six => 0xFFFA,
+    }
 }
 
 /// Keeps a push in the stack.

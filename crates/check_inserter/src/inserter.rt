@@ -1,6 +1,6 @@
 //! The object with its guards.
 
-ghost use Rattle.std.specs.Prelude.{Result, MatchResult, IfOk};
+ghost use Rattle.std.specs.Prelude.{◌<◌, Result, MatchResult, IfOk};
 ghost use Rattle.code_model.specs.declared.verdict.Verdict.{Verdict};
 ghost use Rattle.code_model.specs.Verdicts.{AllSpelled, IsAcceptance, IsVerdict};
 ghost use Rattle.code_model.specs.declared.object.Object.{Object};
@@ -8,9 +8,10 @@ ghost use Rattle.insert_model.specs.declared.fault.InsertFault.{InsertFault};
 ghost use Rattle.insert_model.specs.Faults.{NoHit, IsAnswer, SameAnswer};
 ghost use Rattle.code_model.specs.Fields.{fields};
 ghost use Rattle.insert_model.specs.Source.{lines};
-ghost use Rattle.insert_laws.specs.Laws.{IsAcceptable, PiecesStand};
+ghost use Rattle.insert_model.specs.Laws.{StandsAlone};
+ghost use Rattle.insert_laws.specs.Laws.{IsAcceptable, HasNoLoads, PiecesStand};
 ghost use Rattle.insert_laws.specs.Lines.{LinesStand};
-ghost use Rattle.placed_unit_laws.specs.Ends.{UnitsEnd, CallsPush, UnitsStand, SourcesHide};
+ghost use Rattle.placed_unit_laws.specs.Ends.{UnitsEnd, GroupsEnd, CallsPush, UnitsStand, SourcesHide};
 ghost use Rattle.check_inserter.specs.Read.{IsSource};
 ghost use Rattle.check_inserter.specs.Places.{IsLaid};
 
@@ -21,10 +22,13 @@ use crate::moving::{all_relocs, moved_bytes, moved_exports, moved_words, place_o
 use crate::source::read_lines;
 use crate::starts::starts;
 use code_model::object::Object;
-use insert_laws::{inserted_is_accepted, lines_are_spelled, starts_are_pieces, verdict_accepts};
+use insert_laws::{
+    inserted_is_accepted, lines_are_spelled, no_load_guards, starts_are_pieces, verdict_accepts,
+};
 use insert_model::fault::InsertFault;
+use insert_model::laws::{first_version, groups_stand};
 use insert_model::line::Line;
-use placed_unit_laws::{call_pushes, source_place_hidden, unit_ends, unit_stands};
+use placed_unit_laws::{call_pushes, group_ends, source_place_hidden, unit_ends, unit_stands};
 use std::alloc::Global;
 
 /// The object with guards for an object without, or the first fault of the source object: where an instruction isn't spelled
@@ -36,7 +40,8 @@ use std::alloc::Global;
 /// there the unit's run, without an interrupt, ends in one of three ways: at the next unit, the target's or a named entry, with
 /// all but R4 and R5 as the source instruction leaves it; at the entry that takes a return, a computed jump or a computed call
 /// over; or, exactly where its check fails, at the entry for that, with nothing written. A call pushes the address of the next
-/// unit.
+/// unit. The unit of a group of stores does what they do in order, or, exactly where the check of one of them fails, ends at the
+/// entry for that with nothing written. No guard is a load guard. In version 1 each source instruction has a unit of its own.
 ///
 /// What is computed is what is spelled. Where all of the source is spelled, its lines are its instructions: each starts and
 /// stands where its line says, and each start has a line. In the object with guards the starts are the places of the units'
@@ -59,7 +64,10 @@ pub fn insert(alloc: Global, o: &Object) -> Result<Object, InsertFault>
     one_answer();
     inserted_is_accepted();
     verdict_accepts();
+    no_load_guards();
+    first_version();
     unit_ends();
+    group_ends();
     call_pushes();
     unit_stands();
     source_place_hidden();
@@ -105,6 +113,7 @@ fn assembled(alloc: Global, o: &Object, laid: &Laid) -> Result<Object, InsertFau
     requires clean { NoHit o.now }
     ensures { IsAnswer o.now result }
 {
+    groups_stand();
     let code = moved_words(alloc, o, laid)?;
     let init = moved_bytes(alloc, o, laid)?;
     let relocs = all_relocs(alloc, o, laid)?;

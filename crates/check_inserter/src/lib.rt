@@ -7,18 +7,25 @@
 //!
 //! The inserter reads the instructions once as lines (`source`), looks for the first fault (`faults`), lays the units of the
 //! lines one after another and keeps where each source word's unit stands (`laying`), and then gives the words, the
-//! relocations, the initialised bytes, the entry and the exports their new places (`moving`). It looks at each word a
-//! bounded number of times.
+//! relocations, the initialised bytes, the entry and the exports their new places (`moving`). In version 2 up to four stores
+//! near each other are a group with one unit (`named`, `groups`, `group_units`), and the units are laid three times: with each
+//! jump in its longest unit, whose places tell which jumps are one word (`jumps`), with a word for each of these, whose places
+//! are the final ones, and with their offsets. It looks at each word a bounded number of times.
 #![tactic(auto)]
 
+mod cells;
 mod faults;
 mod forbidden;
 mod forms;
+mod group_units;
+mod groups;
 mod guards;
 mod inserter;
+mod jumps;
 pub mod laws;
 mod laying;
 mod moving;
+mod named;
 mod operands;
 mod size;
 mod source;

@@ -7,9 +7,12 @@ ghost use Rattle.code_model.specs.declared.parts.Reloc.{Reloc};
 ghost use Rattle.code_model.specs.declared.parts.Export.{Export};
 ghost use Rattle.code_model.specs.Fields.{fields};
 ghost use Rattle.insert_model.specs.declared.piece.Word.{Word};
-ghost use Rattle.insert_model.specs.Inserted.{place_map, moved_value, moved, with_reloc, relocs_from, word_in, with_word, moved_at, moved_data, of_data, moved_export};
+ghost use Rattle.insert_model.specs.Inserted.{moved_value, moved, with_reloc, relocs_from, with_word, moved_at, moved_data, of_data, moved_export};
+ghost use Rattle.insert_model.specs.Layout.{place_map};
+ghost use Rattle.insert_model.specs.Source.{word_in};
 ghost use Rattle.check_inserter.specs.Places.{IsLaid};
 
+use crate::jumps::words_before;
 use crate::laying::Laid;
 use code_model::lists::{CodeWords, Exports, Relocs};
 use code_model::object::Object;
@@ -23,8 +26,7 @@ pub(crate) fn place_of(o: &Object, laid: &Laid, offset: u16) -> u16
     requires { IsLaid o.now laid.now }
     ensures { result ≡ place_map (fields o.now) offset }
 {
-    let place = usize::min(usize::from(offset / 2), o.code.len());
-    2 * laid.places[place] as u16
+    2 * words_before(o, &laid.places, offset) as u16
 }
 
 /// The new code words.

@@ -256,7 +256,7 @@ fn put_jump(out: &mut Vec<Word>, offset: u16, cond: Cond) -> Result<(), AllocErr
 }
 
 /// The offset that a jump at a place names, or 0 for one before the code.
-fn target_offset(at: usize, offset: i16) -> u16
+pub(crate) fn target_offset(at: usize, offset: i16) -> u16
     requires place { at < CODE_WORDS_MAX }
     requires range { offset <ℤ pos 512 }
     ensures { result ≡ target_offset at offset }

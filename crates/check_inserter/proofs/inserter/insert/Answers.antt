@@ -1,5 +1,6 @@
-use Rattle.insert_laws.specs.Laws.{IsAcceptable, PiecesStand}
-use Rattle.placed_unit_laws.specs.Ends.{UnitsEnd, CallsPush, UnitsStand, SourcesHide}
+use Rattle.code_model.specs.Fields.{fields}
+use Rattle.insert_laws.specs.Laws.{IsAcceptable, HasNoLoads, PiecesStand}
+use Rattle.placed_unit_laws.specs.Ends.{UnitsEnd, GroupsEnd, CallsPush, UnitsStand, SourcesHide}
 use Rattle.check_inserter.proofs.Answering.{of_answer}
 use Rattle.check_inserter.proofs.inserter.insert.Goals as goal
 
@@ -26,3 +27,12 @@ returns-clause-lines c = c.lines_are_spelled.ensures c.args.o.now
 
 pub returns-clause-pieces : goal.returns-clause-pieces
 returns-clause-pieces c = of_answer c.args.o.now (PiecesStand c.args.o.now) (c.starts_are_pieces.ensures c.args.o.now) c.inserted.result c.inserted.ensures
+
+pub returns-clause-loads : goal.returns-clause-loads
+returns-clause-loads c = of_answer c.args.o.now HasNoLoads (c.no_load_guards.ensures c.args.o.now) c.inserted.result c.inserted.ensures
+
+pub returns-clause-first : goal.returns-clause-first
+returns-clause-first c = c.first_version.ensures (fields c.args.o.now)
+
+pub returns-clause-groups : goal.returns-clause-groups
+returns-clause-groups c = of_answer c.args.o.now (GroupsEnd c.args.o.now) (c.group_ends.ensures c.args.o.now) c.inserted.result c.inserted.ensures

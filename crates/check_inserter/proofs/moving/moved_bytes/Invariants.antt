@@ -1,6 +1,7 @@
 use Rattle.std.proofs.Common.{◌≡◌, take, fold}
 use Rattle.code_model.specs.Fields.{fields}
-use Rattle.insert_model.specs.Inserted.{place_map, moved_data}
+use Rattle.insert_model.specs.Inserted.{moved_data}
+use Rattle.insert_model.specs.Layout.{place_map}
 use Rattle.check_inserter.proofs.moving.moved_bytes.Given as goal
 
 abbrev pub invariant-loop-reloc : goal.invariant-loop-reloc

@@ -1,6 +1,7 @@
 use Rattle.std.proofs.Common.{◌≡◌, map, take}
 use Rattle.code_model.specs.Fields.{fields}
-use Rattle.insert_model.specs.Inserted.{place_map, moved_export}
+use Rattle.insert_model.specs.Inserted.{moved_export}
+use Rattle.insert_model.specs.Layout.{place_map}
 use Rattle.check_inserter.proofs.moving.moved_exports.Given as goal
 
 abbrev pub invariant-loop-export : goal.invariant-loop-export

@@ -1,6 +1,7 @@
 use Rattle.std.proofs.Common.{◌≡◌, ◌<◌, ℕ, map, take, slice_index}
 use Rattle.code_model.specs.Fields.{fields}
-use Rattle.insert_model.specs.Inserted.{place_map, moved}
+use Rattle.insert_model.specs.Inserted.{moved}
+use Rattle.insert_model.specs.Layout.{place_map}
 use Rattle.check_inserter.proofs.moving.moved_words.Given as goal
 
 abbrev pub invariant-loop-word : goal.invariant-loop-word
