@@ -2,7 +2,7 @@
 
 ghost use Rattle.std.specs.Prelude.{ℕ, ◌<◌, ◌↔◌, IsTrue};
 ghost use Rattle.code_model.specs.Rules.{WritesReg};
-ghost use Rattle.insert_model.specs.Faults.{IsCheck, SrcUsesCheck, DstUsesCheck, UsesCheck, NamesFlags, ChangesFlags, SetsPc, ReadsPc, HasSymbolic, IsSpecial, HasBadOperand, IsNoPopTarget, PopsAmiss, StepsBase, StoresAmiss, IsWrongWord, IsWrongWithin, HasWrongWord, WritesAmiss, ReadsAmiss, IsForbidden};
+ghost use Rattle.insert_model.specs.Faults.{IsCheck, SrcUsesCheck, DstUsesCheck, UsesCheck, NamesFlags, ChangesFlags, SetsPc, ReadsPc, HasSymbolic, IsSpecial, HasBadOperand, IsNoPopTarget, HasForbiddenPop, StepsBase, HasForbiddenStore, IsWrongWord, IsWrongWithin, HasWrongWord, HasForbiddenWrite, HasForbiddenRead, IsForbidden};
 
 use crate::forms::{is_auto_inc, is_memory, is_symbolic_dst, is_symbolic_src, sets_pc};
 use crate::size::word_count;
@@ -55,27 +55,27 @@ fn is_check(register: u8) -> bool
 pub(crate) fn is_forbidden(line: &Line) -> bool
     ensures { IsTrue result ↔ IsForbidden line.now }
 {
-    writes_amiss(line)
-        || reads_amiss(line)
-        || pops_amiss(line.instr)
-        || stores_amiss(line.instr)
+    has_forbidden_write(line)
+        || has_forbidden_read(line)
+        || has_forbidden_pop(line.instr)
+        || has_forbidden_store(line.instr)
         || has_wrong_word(line)
 }
 
 /// Tells whether a line is RETI, or writes SR or PC as no unit does.
-fn writes_amiss(line: &Line) -> bool
-    ensures { IsTrue result ↔ WritesAmiss line.now }
+fn has_forbidden_write(line: &Line) -> bool
+    ensures { IsTrue result ↔ HasForbiddenWrite line.now }
 {
-    is_reti(line.instr) || writes_status_amiss(line) || writes_pc_amiss(line.instr)
+    is_reti(line.instr) || has_forbidden_status_write(line) || has_forbidden_pc_write(line.instr)
 }
 
-fn writes_status_amiss(line: &Line) -> bool
+fn has_forbidden_status_write(line: &Line) -> bool
     ensures { IsTrue result ↔ (WritesReg line.now.instr 2 × (ChangesFlags line.now.instr line.now.second → ⊥)) }
 {
     writes_reg(line.instr, 2) && !changes_flags(line.instr, line.second)
 }
 
-fn writes_pc_amiss(i: Instr) -> bool
+fn has_forbidden_pc_write(i: Instr) -> bool
     ensures { IsTrue result ↔ (WritesReg i 0 × (SetsPc i → ⊥)) }
 {
     writes_reg(i, PC) && !sets_pc(i)
@@ -105,8 +105,8 @@ fn names_flags(src: Src, kind: Option<RelKind>) -> bool
 }
 
 /// Tells whether a line has an operand that no unit has.
-fn reads_amiss(line: &Line) -> bool
-    ensures { IsTrue result ↔ ReadsAmiss line.now }
+fn has_forbidden_read(line: &Line) -> bool
+    ensures { IsTrue result ↔ HasForbiddenRead line.now }
 {
     reads_pc(line.instr) || has_symbolic(line.instr) || has_bad_operand(line.instr)
 }
@@ -149,8 +149,8 @@ fn is_special(src: Src) -> bool
 }
 
 /// Tells whether @SP+ is the source of PUSH, of CALL, or of an operation that writes SP, SR or memory.
-fn pops_amiss(i: Instr) -> bool
-    ensures { IsTrue result ↔ PopsAmiss i }
+fn has_forbidden_pop(i: Instr) -> bool
+    ensures { IsTrue result ↔ HasForbiddenPop i }
 {
     match i {
         Instr::Two { op, src, dst, .. } => pops(src, SP) && writes(op) && is_no_pop_target(dst),
@@ -166,8 +166,8 @@ fn is_no_pop_target(dst: Dst) -> bool
 }
 
 /// Tells whether a store's source steps the base of its destination.
-fn stores_amiss(i: Instr) -> bool
-    ensures { IsTrue result ↔ StoresAmiss i }
+fn has_forbidden_store(i: Instr) -> bool
+    ensures { IsTrue result ↔ HasForbiddenStore i }
 {
     match i {
         Instr::Two { op, src, dst, .. } => writes(op) && steps_base(src, dst),

@@ -7,7 +7,7 @@ ghost use Rattle.code_model.specs.Starts.{AreStarts};
 ghost use Rattle.code_model.specs.Rules.{IsJumpEntry, IsCallEntry};
 ghost use Rattle.msp_encode.specs.Spelled.{count};
 ghost use Rattle.insert_model.specs.Source.{own_piece, own};
-ghost use Rattle.insert_model.specs.Faults.{IsStartOffset, JumpsAmiss, IsSourceJump, IsSourceCall, NamesStart, IsSourceTarget, IsSourceCallee, MissesTarget, MissesCallee, GoesAmiss, WordMisses, OperandsMiss, NamesAmiss, RunsOut, GoesWrong};
+ghost use Rattle.insert_model.specs.Faults.{IsStartOffset, JumpMisses, IsSourceJump, IsSourceCall, NamesStart, IsSourceTarget, IsSourceCallee, MissesTarget, MissesCallee, TransferMisses, WordMisses, OperandsMiss, PieceMisses, RunsOut, GoesWrong};
 ghost use Rattle.check_inserter.specs.Read.{IsWhole};
 
 use crate::forms::sets_pc;
@@ -28,23 +28,23 @@ pub(crate) fn goes_wrong(o: &Object, starts: &Marks, line: &Line) -> bool
     requires whole { IsWhole o.now line.now }
     ensures { IsTrue result ↔ GoesWrong o.now line.now }
 {
-    if jumps_amiss(o, starts, line) {
+    if jump_misses(o, starts, line) {
         return true;
     }
-    if goes_amiss(o, starts, line) {
+    if transfer_misses(o, starts, line) {
         return true;
     }
-    if names_amiss(o, starts, own(line)) {
+    if piece_misses(o, starts, own(line)) {
         return true;
     }
     runs_out(o, line)
 }
 
 /// Tells whether a line is a jump to no start.
-fn jumps_amiss(o: &Object, starts: &Marks, line: &Line) -> bool
+fn jump_misses(o: &Object, starts: &Marks, line: &Line) -> bool
     requires starts { AreStarts o.now.code starts.now }
     requires within { line.now.at < CODE_WORDS_MAX }
-    ensures { IsTrue result ↔ JumpsAmiss o.now.code line.now.at line.now.instr }
+    ensures { IsTrue result ↔ JumpMisses o.now.code line.now.at line.now.instr }
 {
     match line.instr {
         Instr::Jump { offset, .. } => !is_jump_start(o, starts, line.at, offset),
@@ -53,9 +53,9 @@ fn jumps_amiss(o: &Object, starts: &Marks, line: &Line) -> bool
 }
 
 /// Tells whether a line is a move to PC or a call without an allowed target.
-fn goes_amiss(o: &Object, starts: &Marks, line: &Line) -> bool
+fn transfer_misses(o: &Object, starts: &Marks, line: &Line) -> bool
     requires { AreStarts o.now.code starts.now }
-    ensures { IsTrue result ↔ GoesAmiss o.now line.now line.now.instr }
+    ensures { IsTrue result ↔ TransferMisses o.now line.now line.now.instr }
 {
     match line.instr {
         Instr::Two { src, .. } => {
@@ -172,9 +172,9 @@ pub(crate) fn own(line: &Line) -> Piece
 }
 
 /// Tells whether the code's address is added to an operand's word that isn't the offset of a start.
-fn names_amiss(o: &Object, starts: &Marks, piece: Piece) -> bool
+fn piece_misses(o: &Object, starts: &Marks, piece: Piece) -> bool
     requires { AreStarts o.now.code starts.now }
-    ensures { IsTrue result ↔ NamesAmiss o.now.code piece }
+    ensures { IsTrue result ↔ PieceMisses o.now.code piece }
 {
     match piece.instr {
         Instr::Two { src, dst, .. } => {

@@ -34,7 +34,7 @@ use Rattle.insert_model.specs.Source.{own_piece, own}
 use Rattle.insert_model.specs.Groups.{Cell, cell, Group}
 use Rattle.insert_model.specs.Layout.{difference_of, beside}
 use Rattle.insert_model.specs.Inserted.{moved_value}
-use Rattle.insert_model.specs.Faults.{IsStartOffset, IsJumpStart, IsSourceTarget, IsSourceCallee, GoesAmiss, JumpsAmiss}
+use Rattle.insert_model.specs.Faults.{IsStartOffset, IsJumpStart, IsSourceTarget, IsSourceCallee, TransferMisses, JumpMisses}
 use Rattle.insert_model.specs.Guards.{base, plain, save, restore, branch, take_sp, pop_r4, give_sp, region_guard, store_guard, growth_guard, pop_guard, sp_guard}
 use Rattle.insert_model.specs.Units.{static_bytes, aim, aim_one, writes, is_popped, is_immediate, is_pc, is_plain_pop, into_r4, through_r4, from_r4, popping, writing, changing, calling_value, one_unit, target_offset, jump_unit, unit_of, unit}
 use Rattle.insert_laws.specs.Pieces.{pieces_of, moved_dst, moved_instr}
@@ -148,7 +148,7 @@ module _ (o : Object) (l : Line) (clean : IsCleanLine o l) where
         | inl h ↦ never (inl (own_kind ∙ h.0, h.1))
         | inr h ↦ never (inr (own_kind ∙ h.0, h.1.0))
       ] in
-      clean.lands (inr (inl (subst (GoesAmiss o l) (sym e) ((b.0, b.1, b.3), misses))))
+      clean.lands (inr (inl (subst (TransferMisses o l) (sym e) ((b.0, b.1, b.3), misses))))
 
   call_own : (op : Op1) (w : Width) (s : Src) → l.instr ≡ instr.One op w s → is_immediate s ≡ true → AimedInstr o (instr.One op w s) (own l).source
   call_own op w (src.Reg n) e t = let f : false ≡ true = t in absurd (cc)
@@ -164,7 +164,7 @@ module _ (o : Object) (l : Line) (clean : IsCleanLine o l) where
         | inl h ↦ never (inl (own_kind ∙ h.0, h.1))
         | inr h ↦ never (inr (own_kind ∙ h.0, h.1.0))
       ] in
-      clean.lands (inr (inl (subst (GoesAmiss o l) (sym e) (b, misses))))
+      clean.lands (inr (inl (subst (TransferMisses o l) (sym e) (b, misses))))
 
   pub target_is : (k : ℤ) (t : ℕ) → pos t ≡ pos (l.at + 1) +ℤ k → target_offset l.at k ≡ 2 * t
   target_is (pos m) t e = omega (arith, ints, e)
@@ -172,7 +172,7 @@ module _ (o : Object) (l : Line) (clean : IsCleanLine o l) where
 
   jump_own : (c : Cond) (k : ℤ) → l.instr ≡ instr.Jump c k → AimedInstr o (branch (target_offset l.at k) (Some Code)).instr (Some Code)
   unfolding IsJumpStart IsStartOffset
-  jump_own c k e b never = clean.lands (inl (subst (JumpsAmiss o.code l.at) (sym e) (λ s. never (inl (refl, (s.0, s.1, target_is k s.0 s.2))))))
+  jump_own c k e b never = clean.lands (inl (subst (JumpMisses o.code l.at) (sym e) (λ s. never (inl (refl, (s.0, s.1, target_is k s.0 s.2))))))
 
 -- ---- units
 

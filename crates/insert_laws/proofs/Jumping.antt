@@ -28,7 +28,7 @@ use Rattle.insert_model.specs.Guards.{jump, branch}
 use Rattle.insert_model.specs.Units.{static_bytes, target_offset, jump_unit, unit_of, unit}
 use Rattle.insert_model.specs.Groups.{Group, groups}
 use Rattle.insert_model.specs.Layout.{before, words_before, span_between, sized, final_offset, place_map}
-use Rattle.insert_model.specs.Faults.{IsJumpStart, JumpsAmiss, SetsPc, IsInserted}
+use Rattle.insert_model.specs.Faults.{IsJumpStart, JumpMisses, SetsPc, IsInserted}
 use Rattle.insert_model.specs.Laws.{SizeLaw, LineLaw, SizedLaw}
 use Rattle.insert_laws.specs.Pieces.{unit_of_group, pieces_of, pieces, moved_instr, standing, PieceAt}
 use Rattle.insert_laws.specs.Laws.{PiecesStand, UnitAt, StartsAreUnits, JumpRulePasses}
@@ -231,7 +231,7 @@ module _ (given : Premises) (unique : OneInstruction) (decides : FirstWordDecide
       let row : InRow 0 (front ++ g ∷ back) (length o.code) = subst (λ (gs : List Group). InRow 0 gs (length o.code)) e (source_row size line given.groups o i.spelled) in
       let from : place_map (fields o) (2 * g.head.at) ≡ 2 * at =
       place_is sizes (fields o) g.head.at front (ap (before g.head.at) e ∙ before_group 0 front g back (length o.code) row) ∙ ap (λ (x : ℕ). 2 * x) (sym here) in
-      clean.lands (inl (subst (JumpsAmiss o.code g.head.at) (sym jumps) (λ s. never (target s.0 s.1 s.2 offset from))))
+      clean.lands (inl (subst (JumpMisses o.code g.head.at) (sym jumps) (λ s. never (target s.0 s.1 s.2 offset from))))
     where
       target : (t : ℕ) → Start o.code t → pos t ≡ pos (g.head.at + 1) +ℤ n → final_offset (fields o) g.head g.head.instr ≡ k → place_map (fields o) (2 * g.head.at) ≡ 2 * at
           → (s : ℕ) × UnitStart q s × (pos s ≡ pos (at + 1) +ℤ k)

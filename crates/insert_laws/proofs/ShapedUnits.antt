@@ -30,7 +30,7 @@ use Rattle.insert_model.specs.Guards.{plain, save, jump, branch, store_guard, wi
 use Rattle.insert_model.specs.Units.{static_bytes, is_static, is_immediate, aim_one, into_r4, changing, calling_value, calling, one_unit, jump_unit, target_offset, unit_of, unit}
 use Rattle.insert_model.specs.Groups.{Cell, cell, Group, members}
 use Rattle.insert_model.specs.Layout.{difference_of, beside, final_offset}
-use Rattle.insert_model.specs.Faults.{UsesCheck, SrcUsesCheck, HasSymbolic, HasBadOperand, IsSpecial, IsAutoInc, PopsAmiss}
+use Rattle.insert_model.specs.Faults.{UsesCheck, SrcUsesCheck, HasSymbolic, HasBadOperand, IsSpecial, IsAutoInc, HasForbiddenPop}
 use Rattle.insert_laws.specs.Pieces.{unit_of_group, pieces_of}
 use Rattle.insert_laws.specs.Shapes.{IsGuard, IsServed, Shaped, Ends, Free, Guards, IsFreeForm, IsCleanLine}
 use Rattle.insert_laws.proofs.UnitsFit.{own_instr}
@@ -52,7 +52,7 @@ module _ (o : Object) (l : Line) (p : Piece) (op : Op1) (w : Width) (s : Src) (i
   no_check_src h = is.clean.free (subst UsesCheck (sym is.line) h)
 
   no_pop : Stacks op → Pops s 1 → ⊥
-  no_pop h pops = is.clean.allowed (inr (inr (inl (subst PopsAmiss (sym is.line) (h, pops)))))
+  no_pop h pops = is.clean.allowed (inr (inr (inl (subst HasForbiddenPop (sym is.line) (h, pops)))))
 
   no_bad : Changes op → (IsSpecial s ⊎ IsAutoInc s) → ⊥
   no_bad h b = is.clean.allowed (inr (inl (inr (inr (subst HasBadOperand (sym is.line) (h, b))))))
@@ -189,7 +189,7 @@ line_shaped o l size c = line_by o l size l.instr c refl
 quiet_source : (o : Object) (most : ℕ) (c : Cell) (l : Line) (h : IsBeside o most c l) → IsQuiet h.source
 quiet_source o most c l h = quiet_of h.source
     (λ u. h.clean.free (subst UsesCheck (sym h.line) (inl u)))
-    (λ p. h.clean.allowed (inr (inr (inl (subst PopsAmiss (sym h.line) (p, writes_so h.op h.stores, inr (inr tt)))))))
+    (λ p. h.clean.allowed (inr (inr (inl (subst HasForbiddenPop (sym h.line) (p, writes_so h.op h.stores, inr (inr tt)))))))
 
 near_served : (o : Object) (r : Reach) (c : Cell) (l : Line) → IsBeside o (reach_bytes r) c l → IsServed (guard.Wide r) (beside c l)
 near_served o r c l h =

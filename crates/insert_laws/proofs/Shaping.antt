@@ -25,7 +25,7 @@ use Rattle.insert_model.specs.declared.piece.Piece.{Piece}
 use Rattle.insert_model.specs.Guards.{jump, branch, take_sp, pop_r4, give_sp, store_guard, pop_guard, sp_guard}
 use Rattle.insert_model.specs.Units.{is_static, aim, writes, is_popped, is_immediate, is_pc, is_wide_move, is_free, is_plain_pop, into_r4, through_r4, from_r4, popping, setting_sp, writing, two_unit}
 use Rattle.insert_model.specs.Source.{own_piece, own}
-use Rattle.insert_model.specs.Faults.{UsesCheck, SrcUsesCheck, ChangesFlags, SetsPc, HasSymbolic, IsNoPopTarget, IsMemory, PopsAmiss}
+use Rattle.insert_model.specs.Faults.{UsesCheck, SrcUsesCheck, ChangesFlags, SetsPc, HasSymbolic, IsNoPopTarget, IsMemory, HasForbiddenPop}
 use Rattle.insert_laws.specs.Shapes.{saving, IsGuard, IsServed, Shaped, Ends, Free, Guards, IsFreeForm, IsCleanLine}
 use Rattle.kernel_model.specs.declared.entries.TheConstants.{GOES}
 
@@ -265,7 +265,7 @@ pub record IsTwo (o : Object) (l : Line) (p : Piece) (op : Op2) (w : Width) (s :
 
 module _ (o : Object) (l : Line) (p : Piece) (op : Op2) (w : Width) (s : Src) (d : Dst) (is : IsTwo o l p op w s d) where
   pub no_pop_target : Pops s 1 → Writes op → IsNoPopTarget d → ⊥
-  no_pop_target pops h t = is.clean.allowed (inr (inr (inl (subst PopsAmiss (sym is.line) (pops, h, t)))))
+  no_pop_target pops h t = is.clean.allowed (inr (inr (inl (subst HasForbiddenPop (sym is.line) (pops, h, t)))))
 
   no_check_src : SrcUsesCheck s → ⊥
   no_check_src h = is.clean.free (subst UsesCheck (sym is.line) (inl h))

@@ -122,19 +122,19 @@ abbrev pub IsNoPopTarget : Dst → Type 0
 IsNoPopTarget d = DstIs d SP ⊎ (DstIs d SR ⊎ IsMemory d)
 
 -- @SP+ is the source of PUSH, of CALL, or of an operation that writes SP, SR or memory
-abbrev pub PopsAmiss : Instr → Type 0
-PopsAmiss (instr.Two op w s d) = Pops s SP × Writes op × IsNoPopTarget d
-PopsAmiss (instr.One op w s) = Stacks op × Pops s SP
-PopsAmiss _ = ⊥
+abbrev pub HasForbiddenPop : Instr → Type 0
+HasForbiddenPop (instr.Two op w s d) = Pops s SP × Writes op × IsNoPopTarget d
+HasForbiddenPop (instr.One op w s) = Stacks op × Pops s SP
+HasForbiddenPop _ = ⊥
 
 -- the source is @Rn+ and the destination X(Rn)
 abbrev pub StepsBase : Src → Dst → Type 0
 StepsBase (src.AutoInc n) (dst.Indexed m x) = n ≡ m
 StepsBase _ _ = ⊥
 
-abbrev pub StoresAmiss : Instr → Type 0
-StoresAmiss (instr.Two op w s d) = Writes op × StepsBase s d
-StoresAmiss _ = ⊥
+abbrev pub HasForbiddenStore : Instr → Type 0
+HasForbiddenStore (instr.Two op w s d) = Writes op × StepsBase s d
+HasForbiddenStore _ = ⊥
 
 -- the relocation of a word of the line, counted from 0
 abbrev pub kind_of_word : Line → ℕ → Option RelKind
@@ -152,15 +152,15 @@ abbrev pub HasWrongWord : Line → Type 0
 HasWrongWord l = IsWrongWithin l 0 ⊎ (IsWrongWithin l 1 ⊎ IsWrongWithin l 2)
 
 -- RETI, or a write of SR or PC that no unit has
-abbrev pub WritesAmiss : Line → Type 0
-WritesAmiss l = IsReti l.instr ⊎ ((WritesReg l.instr 2 × (ChangesFlags l.instr l.second → ⊥)) ⊎ (WritesReg l.instr 0 × (SetsPc l.instr → ⊥)))
+abbrev pub HasForbiddenWrite : Line → Type 0
+HasForbiddenWrite l = IsReti l.instr ⊎ ((WritesReg l.instr 2 × (ChangesFlags l.instr l.second → ⊥)) ⊎ (WritesReg l.instr 0 × (SetsPc l.instr → ⊥)))
 
 -- an operand that no unit has
-abbrev pub ReadsAmiss : Line → Type 0
-ReadsAmiss l = ReadsPc l.instr ⊎ (HasSymbolic l.instr ⊎ HasBadOperand l.instr)
+abbrev pub HasForbiddenRead : Line → Type 0
+HasForbiddenRead l = ReadsPc l.instr ⊎ (HasSymbolic l.instr ⊎ HasBadOperand l.instr)
 
 abbrev pub IsForbidden : Line → Type 0
-IsForbidden l = WritesAmiss l ⊎ (ReadsAmiss l ⊎ (PopsAmiss l.instr ⊎ (StoresAmiss l.instr ⊎ HasWrongWord l)))
+IsForbidden l = HasForbiddenWrite l ⊎ (HasForbiddenRead l ⊎ (HasForbiddenPop l.instr ⊎ (HasForbiddenStore l.instr ⊎ HasWrongWord l)))
 
 -- ---- a target that isn't one
 
@@ -172,9 +172,9 @@ IsStartOffset code x = (t : ℕ) × Start code t × (x ≡ 2 * t)
 unfoldable pub IsJumpStart : List ℕ → ℕ → ℤ → Type 0
 IsJumpStart code at k = (t : ℕ) × Start code t × (pos t ≡ pos (at + 1) +ℤ k)
 
-abbrev pub JumpsAmiss : List ℕ → ℕ → Instr → Type 0
-JumpsAmiss code at (instr.Jump c k) = IsJumpStart code at k → ⊥
-JumpsAmiss code at _ = ⊥
+abbrev pub JumpMisses : List ℕ → ℕ → Instr → Type 0
+JumpMisses code at (instr.Jump c k) = IsJumpStart code at k → ⊥
+JumpMisses code at _ = ⊥
 
 -- what source may name: F004 and F006 are for units alone
 abbrev pub IsSourceJump : Kind → ℕ → Type 0
@@ -204,10 +204,10 @@ MissesCallee o (src.Immediate x) k = IsSourceCallee o x k → ⊥
 MissesCallee o _ k = ⊥
 
 -- a MOV to PC or a CALL
-abbrev pub GoesAmiss : Object → Line → Instr → Type 0
-GoesAmiss o l (instr.Two op w s d) = SetsPc (instr.Two op w s d) × MissesTarget o s l.second
-GoesAmiss o l (instr.One op w s) = IsCall op × MissesCallee o s l.second
-GoesAmiss o l _ = ⊥
+abbrev pub TransferMisses : Object → Line → Instr → Type 0
+TransferMisses o l (instr.Two op w s d) = SetsPc (instr.Two op w s d) × MissesTarget o s l.second
+TransferMisses o l (instr.One op w s) = IsCall op × MissesCallee o s l.second
+TransferMisses o l _ = ⊥
 
 -- an operand's word to which the code's address is added isn't a start's offset
 abbrev pub WordMisses : List ℕ → Option RelKind → List ℕ → Type 0
@@ -219,15 +219,15 @@ OperandsMiss code p (instr.Two op w s d) = WordMisses code p.source (src_words s
 OperandsMiss code p (instr.One op w s) = WordMisses code p.source (src_words s)
 OperandsMiss code p _ = ⊥
 
-abbrev pub NamesAmiss : List ℕ → Piece → Type 0
-NamesAmiss code p = OperandsMiss code p p.instr
+abbrev pub PieceMisses : List ℕ → Piece → Type 0
+PieceMisses code p = OperandsMiss code p p.instr
 
 -- the last instruction is neither JMP nor a MOV to PC
 abbrev pub RunsOut : List ℕ → Line → Type 0
 RunsOut code l = (l.at + count l.instr ≡ length code) × (IsJmp l.instr → ⊥) × (SetsPc l.instr → ⊥)
 
 abbrev pub GoesWrong : Object → Line → Type 0
-GoesWrong o l = JumpsAmiss o.code l.at l.instr ⊎ (GoesAmiss o l l.instr ⊎ (NamesAmiss o.code (own l) ⊎ RunsOut o.code l))
+GoesWrong o l = JumpMisses o.code l.at l.instr ⊎ (TransferMisses o l l.instr ⊎ (PieceMisses o.code (own l) ⊎ RunsOut o.code l))
 
 -- ---- where a fault is
 

@@ -21,7 +21,7 @@ use Rattle.insert_model.specs.declared.line.Line.{Line}
 use Rattle.insert_model.specs.Source.{own_piece, own}
 use Rattle.insert_model.specs.Guards as guard_piece
 use Rattle.insert_model.specs.Units.{is_static, aim_one, changing, calling, one_unit}
-use Rattle.insert_model.specs.Faults.{UsesCheck, IsSourceCallee, GoesAmiss}
+use Rattle.insert_model.specs.Faults.{UsesCheck, IsSourceCallee, TransferMisses}
 use Rattle.unit_laws.specs.Rows.{GoesOn, ended, Follows}
 use Rattle.placed_unit_laws.specs.Placed.{unit_at, unit_behind, word_in_place}
 use Rattle.placed_unit_laws.specs.Checks.{OfGrowth, handed, check_of_operand, check_of_one}
@@ -60,7 +60,7 @@ module _ (g : RowLaws) (o : Object) (d : Domain) (low top : ℕ) (m r : List ℕ
     kind-is = ap (λ (i : Instr). (own_piece i l.second l.third).source) is.line
 
     target : IsSourceCallee o x l.second
-    target = call-target o (g.decided o d.object a.inserted) x l.second (λ never. is.clean.lands (inr (inl (subst (GoesAmiss o l) (sym is.line) (tt, never)))))
+    target = call-target o (g.decided o d.object a.inserted) x l.second (λ never. is.clean.lands (inr (inl (subst (TransferMisses o l) (sym is.line) (tt, never)))))
 
     abbrev v : ℕ
     v = word_in_place o d x (own l).source

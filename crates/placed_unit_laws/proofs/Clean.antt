@@ -19,7 +19,7 @@ use Rattle.code_model.specs.Rules.{WritesReg}
 use Rattle.load_model.specs.Domains.{Domain}
 use Rattle.insert_model.specs.declared.line.Line.{Line}
 use Rattle.insert_model.specs.Units.{is_wide_move}
-use Rattle.insert_model.specs.Faults.{UsesCheck, SrcUsesCheck, DstUsesCheck, SetsPc, ReadsPc, IsSymbolicSrc, IsSymbolicDst, HasSymbolic, IsNoPopTarget, PopsAmiss, StepsBase, StoresAmiss}
+use Rattle.insert_model.specs.Faults.{UsesCheck, SrcUsesCheck, DstUsesCheck, SetsPc, ReadsPc, IsSymbolicSrc, IsSymbolicDst, HasSymbolic, IsNoPopTarget, HasForbiddenPop, StepsBase, HasForbiddenStore}
 use Rattle.insert_laws.specs.Shapes.{IsCleanLine}
 use Rattle.unit_laws.specs.Frame.{SrcAvoids, DstAvoids}
 use Rattle.unit_laws.specs.Guarded.{Steps}
@@ -150,10 +150,10 @@ module _ (o : Object) (l : Line) (op : Op2) (w : Width) (s : Src) (t : Dst) (is 
   moves-to-pc writes h = sure (is_wide_move op w) (λ e. is.clean.allowed (inl (inr (inr (subst (λ (i : Instr). WritesReg i 0 × (SetsPc i → ⊥)) (sym is.line) ((writes, h), (λ m. true-not-false (is_wide_move op w) (wide-move op w m.0 m.1) e)))))))
 
   pub pops-aright : Pops s 1 → Writes op → IsNoPopTarget t → ⊥
-  pops-aright pops writes h = is.clean.allowed (inr (inr (inl (subst PopsAmiss (sym is.line) (pops, writes, h)))))
+  pops-aright pops writes h = is.clean.allowed (inr (inr (inl (subst HasForbiddenPop (sym is.line) (pops, writes, h)))))
 
   pub stores-aright : Writes op → StepsBase s t → ⊥
-  stores-aright writes h = is.clean.allowed (inr (inr (inr (inl (subst StoresAmiss (sym is.line) (writes, h))))))
+  stores-aright writes h = is.clean.allowed (inr (inr (inr (inl (subst HasForbiddenStore (sym is.line) (writes, h))))))
 
 -- ---- one operand
 
@@ -170,4 +170,4 @@ module _ (o : Object) (l : Line) (op : Op1) (w : Width) (s : Src) (is : IsOneLin
       (λ h. is.clean.allowed (inr (inl (inl (subst ReadsPc (sym is.line) h))))) (λ h. is.clean.allowed (inr (inl (inr (inl (subst HasSymbolic (sym is.line) h))))))
 
   pub one-pops-not : Stacks op → Pops s 1 → ⊥
-  one-pops-not h pops = is.clean.allowed (inr (inr (inl (subst PopsAmiss (sym is.line) (h, pops)))))
+  one-pops-not h pops = is.clean.allowed (inr (inr (inl (subst HasForbiddenPop (sym is.line) (h, pops)))))

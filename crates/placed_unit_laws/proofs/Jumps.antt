@@ -20,7 +20,7 @@ use Rattle.insert_model.specs.Words.{piece_words}
 use Rattle.insert_model.specs.Guards as guard_piece
 use Rattle.insert_model.specs.Units.{target_offset, jump_unit}
 use Rattle.insert_model.specs.Layout.{words_before, span_between, is_short, sized, final_offset, place_map}
-use Rattle.insert_model.specs.Faults.{IsStartOffset, IsJumpStart, JumpsAmiss}
+use Rattle.insert_model.specs.Faults.{IsStartOffset, IsJumpStart, JumpMisses}
 use Rattle.insert_laws.specs.Shapes.{IsCleanLine}
 use Rattle.unit_laws.specs.Running.{silent, RunsUnit}
 use Rattle.unit_laws.specs.Frame.{spread_effect}
@@ -61,7 +61,7 @@ module _ (g : RowLaws) (o : Object) (d : Domain) (low top : ℕ) (m r : List ℕ
   there = unit_address o d x
 
   found : IsJumpStart o.code l.at k
-  found = jump-start o.code (g.decided o d.object a.inserted) l.at k (λ never. clean.lands (inl (subst (JumpsAmiss o.code l.at) (sym line) never)))
+  found = jump-start o.code (g.decided o d.object a.inserted) l.at k (λ never. clean.lands (inl (subst (JumpMisses o.code l.at) (sym line) never)))
 
   -- both are the start's
   is-named : IsStartOffset o.code y

@@ -21,7 +21,7 @@ use Rattle.insert_model.specs.declared.line.Line.{Line}
 use Rattle.msp_encode.specs.Spelled.{count}
 use Rattle.insert_model.specs.Source.{own_piece, own}
 use Rattle.insert_model.specs.Units.{is_static, aim, writes, is_popped, is_immediate, is_pc, popping, writing, two_unit}
-use Rattle.insert_model.specs.Faults.{IsSourceTarget, GoesAmiss, UsesCheck}
+use Rattle.insert_model.specs.Faults.{IsSourceTarget, TransferMisses, UsesCheck}
 use Rattle.unit_laws.specs.Rows.{ended, branch, Follows}
 use Rattle.placed_unit_laws.specs.Placed.{unit_at, unit_behind, word_in_place, placed_dst, source_does}
 use Rattle.placed_unit_laws.specs.Checks.{Unchecked, OfPop, handed, check_of_aim, check_of_two}
@@ -52,7 +52,7 @@ module _ (g : RowLaws) (o : Object) (d : Domain) (low top : ℕ) (m r : List ℕ
 
   target : IsSourceTarget o x l.second
   target = branch-target o (g.decided o d.object a.inserted) x l.second
-      (λ never. is.clean.lands (inr (inl (subst (GoesAmiss o l) (sym is.line) ((subst IsMov (sym move.move) tt, subst IsWide (sym move.wide) tt, to-pc), never)))))
+      (λ never. is.clean.lands (inr (inl (subst (TransferMisses o l) (sym is.line) ((subst IsMov (sym move.move) tt, subst IsWide (sym move.wide) tt, to-pc), never)))))
 
   abbrev v : ℕ
   v = word_in_place o d x (own l).source

@@ -79,7 +79,7 @@ data Sources (bytes : List ℕ) (a : Option Why) : Type 0 where
 
 -- a script
 data Reads (bytes : List ℕ) (a : Option Why) : Type 0 where
-  Amiss : (line : ℕ) → a ≡ Some (why.Script line) → script_of bytes ≡ Err line → Reads bytes a
+  Faulty : (line : ℕ) → a ≡ Some (why.Script line) → script_of bytes ≡ Err line → Reads bytes a
   Stands : (t : Script) → a ≡ None → script_of bytes ≡ Ok t → Reads bytes a
 
 abbrev Judges : Form → List ℕ → Option Why → Type 0
@@ -121,7 +121,7 @@ refused_comes form held (why.Room c) h = absurd h
 refused_comes form held (why.Line line k) (f, bytes, e, l, g) =
     let P : Form → Type 0 = λ x. Comes x held (Some (why.Line line k)) in subst P (sym f) (Judged bytes e l (Wrong line k refl g))
 refused_comes form held (why.Script line) (f, bytes, e, l, g) =
-    let P : Form → Type 0 = λ x. Comes x held (Some (why.Script line)) in subst P (sym f) (Judged bytes e l (Amiss line refl g))
+    let P : Form → Type 0 = λ x. Comes x held (Some (why.Script line)) in subst P (sym f) (Judged bytes e l (Faulty line refl g))
 refused_comes form held (why.Insert k x) (f, o, t, g) =
     let P : Form → Type 0 = λ y. Comes y held (Some (why.Insert k x)) in subst P (sym f) (Judged (object_bytes o) t.0 t.1 (Formed o refl (Faulty k x refl g)))
 
@@ -179,9 +179,9 @@ module _ (laws : Laws) where
   same-sources bytes a b (Right o e h) (Right q f g) = e ∙ sym f
 
   same-reads : (bytes : List ℕ) (a b : Option Why) → Reads bytes a → Reads bytes b → a ≡ b
-  same-reads bytes a b (Amiss l e h) (Amiss m f g) = e ∙ ap (λ (n : ℕ). Some (why.Script n)) (same_err (script_of bytes) l m h g) ∙ sym f
-  same-reads bytes a b (Amiss l e h) (Stands t f g) = absurd (not_ok (script_of bytes) t l g h)
-  same-reads bytes a b (Stands t e h) (Amiss l f g) = absurd (not_ok (script_of bytes) t l h g)
+  same-reads bytes a b (Faulty l e h) (Faulty m f g) = e ∙ ap (λ (n : ℕ). Some (why.Script n)) (same_err (script_of bytes) l m h g) ∙ sym f
+  same-reads bytes a b (Faulty l e h) (Stands t f g) = absurd (not_ok (script_of bytes) t l g h)
+  same-reads bytes a b (Stands t e h) (Faulty l f g) = absurd (not_ok (script_of bytes) t l h g)
   same-reads bytes a b (Stands t e h) (Stands u f g) = e ∙ sym f
 
   same-judges : (form : Form) (bytes : List ℕ) (a b : Option Why) → Judges form bytes a → Judges form bytes b → a ≡ b

@@ -1,10 +1,10 @@
 use Rattle.std.proofs.Common.{subst, ◌↔◌, IsTrue}
 use Rattle.insert_model.specs.declared.piece.Piece.{Piece}
-use Rattle.insert_model.specs.Faults.{NamesAmiss}
+use Rattle.insert_model.specs.Faults.{PieceMisses}
 use Rattle.check_inserter.proofs.Joins.{not_so, last_of_four}
 use Rattle.check_inserter.proofs.targets.goes_wrong.Goals as goal
 
 pub returns : goal.returns
 returns c =
-    last_of_four _ _ _ _ _ (not_so _ _ c.jumps_amiss.ensures c.if-jumps_amiss.false) (not_so _ _ c.goes_amiss.ensures c.if-goes_amiss.false)
-    (not_so _ _ (subst (λ (p : Piece). IsTrue c.names_amiss.result ↔ NamesAmiss c.args.o.now.code p) c.own.ensures c.names_amiss.ensures) c.if-names_amiss.false) c.runs_out.ensures
+    last_of_four _ _ _ _ _ (not_so _ _ c.jump_misses.ensures c.if-jump_misses.false) (not_so _ _ c.transfer_misses.ensures c.if-transfer_misses.false)
+    (not_so _ _ (subst (λ (p : Piece). IsTrue c.piece_misses.result ↔ PieceMisses c.args.o.now.code p) c.own.ensures c.piece_misses.ensures) c.if-piece_misses.false) c.runs_out.ensures
