@@ -1,7 +1,6 @@
 -- Targets as marks.
-use Rattle.std.proofs.Common.{◌≡◌, ◌≢◌, ◌↔◌, ℕ, ◌+◌, ◌*◌, ◌/◌, ◌%◌, ◌<◌, nat_eq, ◌||◌, cond, List, [], ◌∷◌, ◌⊎◌, inl, inr, length, take, get_or, Bool, true, false, IsTrue, Some, is_some, sym, subst, refl, ap, ◌∙◌, arith, eq-eqb}
+use Rattle.std.proofs.Common.{◌≡◌, ℕ, ◌+◌, ◌*◌, ◌<◌, nat_eq, ◌||◌, cond, List, [], ◌∷◌, ◌⊎◌, inl, inr, length, take, get_or, Bool, true, false, IsTrue, Some, is_some, sym, subst, refl, ap, ◌∙◌, arith, eq-eqb}
 use Rattle.std.specs.List.{Any, find}
-use Rattle.std.proofs.lemmas.Bool.{cases_order, eqb-true}
 use Rattle.std.proofs.lemmas.List.{get_or_default}
 use Rattle.kernel_model.specs.Bitmap.{Has}
 use Rattle.code_model.specs.declared.object.TheConstants.{CODE_WORDS_MAX}
@@ -20,22 +19,6 @@ use Rattle.check_inserter.proofs.Anys.{any_cons, any_first, any_behind, any_more
 -- nothing is
 pub none_added : (old : List ℕ) (P : ℕ → Type 0) → ((k : ℕ) → k < CODE_WORDS_MAX → P (2 * k) → ⊥) → AreAdded old old P
 none_added old P none = record { each = λ k h. ((λ m. inl m), (λ s. elim s [ inl m ↦ m | inr p ↦ absurd (none k h p) ])) }
-
-pub one_added : (old new : List ℕ) (x : ℕ) → x % 2 ≡ 0 → Has new (x / 2) → ((k : ℕ) → k ≢ x / 2 → Has new k ↔ Has old k) → AreAdded old new (λ y. IsTrue (nat_eq x y))
-one_added old new x even marked others = record { each = λ k h. (go k, back k) }
-  where
-    go : (k : ℕ) → Has new k → Has old k ⊎ IsTrue (nat_eq x (2 * k))
-    go k m = elim (cases_order k (x / 2)) [
-      | inl same ↦ inr (eq-eqb x (2 * k) (omega arith))
-      | inr other ↦ let differs : k ≢ x / 2 = elim other [ inl less ↦ omega arith | inr more ↦ omega arith ] in inl ((others k differs).0 m)
-    ]
-
-    back : (k : ℕ) → Has old k ⊎ IsTrue (nat_eq x (2 * k)) → Has new k
-    back k (inr e) = let f : x ≡ 2 * k = eqb-true x (2 * k) e in let same : x / 2 ≡ k = omega arith in subst (Has new) same marked
-    back k (inl m) = elim (cases_order k (x / 2)) [
-      | inl same ↦ subst (Has new) (sym same) marked
-      | inr other ↦ let differs : k ≢ x / 2 = elim other [ inl less ↦ omega arith | inr more ↦ omega arith ] in (others k differs).1 m
-    ]
 
 more : {X : Type 0} (P : X → ℕ → Type 0) (old a b : List ℕ) (xs : List X) (i : ℕ) (d : X) → i < length xs → AreAdded old a (λ x. Any (λ e. P e x) (take i xs)) → AreAdded a b (P (get_or xs i d))
     → AreAdded old b (λ x. Any (λ e. P e x) (take (i + 1) xs))
