@@ -3,7 +3,7 @@
 //! `specs/Running.antt` says what running a unit is, `specs/Lines.antt` what each line of a guard does, and
 //! `specs/Guards.antt` where a run of a guard ends, `specs/Frame.antt` that what names neither R4 nor R5 is the same whatever
 //! they hold, `specs/Guarded.antt` what the guarded instruction does behind its guard, and `specs/Rows.antt` where a run of each
-//! kind of unit ends.
+//! kind of unit ends, and `specs/Groups.antt` that of a group of stores.
 #![tactic(auto)]
 
 ghost use Rattle.unit_laws.specs.Frame.{FrameLaw};
