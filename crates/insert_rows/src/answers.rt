@@ -3,7 +3,7 @@
 use check_inserter::{InsertFault, InsertKind, insert};
 use code_model::object::Object;
 use code_model::parts::RelKind;
-use code_rows::object_parts::{CODE, DATA, HI, LO, Parts, object_of};
+use checker_rows::object_parts::{CODE, DATA, HI, LO, Parts, object_of};
 use std::alloc::Global;
 
 /// What became of a source object: it was none, it was given its guards as expected or otherwise, or it has a fault.
