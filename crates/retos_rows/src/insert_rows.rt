@@ -76,34 +76,30 @@ const WITH_ONE_GUARD: [u16; 18] = [
     0x4784, 0, 0x4884, 2, 0x3FEE,
 ];
 
-/// What is said of them.
-const OF_TWO_STORES: [Case; 2] = [
-    Case {
-        line: "insert s.o g.o",
-        out: "g.o: inserted 18 words\n",
-        err: "",
-        status: 0,
-    },
-    Case {
-        line: "check g.o",
-        out: "g.o: accepted 18 words 2 units\n",
-        err: "",
-        status: 0,
-    },
-];
+/// What the inserter prints of them, and the checker.
+const TWO_INSERTED: Case = Case {
+    line: "insert s.o g.o",
+    out: "g.o: inserted 18 words\n",
+    err: "",
+    status: 0,
+};
+
+const TWO_ACCEPTED: Case = Case {
+    line: "check g.o",
+    out: "g.o: accepted 18 words 2 units\n",
+    err: "",
+    status: 0,
+};
 
 #[test]
 fn two_stores_of_version_2_have_one_guard(rt: HostRuntime) -> Result<(), Fail> {
-    let alloc = rt.alloc();
-    let plain = application_of(alloc, 2, &TWO_STORES, &[])?;
-    let guarded = application_of(alloc, 2, &WITH_ONE_GUARD, &[RELOCS[0], RELOCS[1]])?;
-    let files = writable(alloc, 66, &NONE)?;
-    let mut files = with_files(files, &[(b"s.o", plain.as_slice())])?;
-    for case in &OF_TWO_STORES {
-        try_case(&rt, alloc, &mut files, NONE.out, case)?;
-        compare_held(&rt, &files, b"g.o", Some(guarded.as_slice()), case.line)?;
-    }
-    Ok(())
+    let plain = application_of(rt.alloc(), 2, &TWO_STORES, &[])?;
+    let guarded = application_of(rt.alloc(), 2, &WITH_ONE_GUARD, &[(3, 0x0A), (4, 0x10)])?;
+    let written = Some(guarded.as_slice());
+    let text = plain.as_slice();
+    try_insert(&rt, rt.alloc(), text, 66, &NONE, &TWO_INSERTED, written)?;
+    let stored: [Stored; 1] = [(b"g.o", guarded.as_slice())];
+    try_stored(&rt, rt.alloc(), &stored, &TWO_ACCEPTED)
 }
 
 /// An address from the end of the region, four stores through it, and a jump to itself.
