@@ -76,17 +76,17 @@ guarded_leaves o at g h alone inside =
 pub jump_lands : JumpLands
 jump_lands o m at n c k accepted start stands free =
     stable (jump-or-not o m at k accepted)
-    (λ astray. accepted.none at rule.Jump (free, record { start = start; instr = instr.Jump c k; words = n; stands = stands; breaks = astray }))
+    (λ misses. accepted.none at rule.Jump (free, record { start = start; instr = instr.Jump c k; words = n; stands = stands; breaks = misses }))
 
 pub branch_lands : BranchLands
 branch_lands o m at n op w s d accepted start stands free branch =
     stable (branch-or-not o m (at + 1) s accepted)
-    (λ astray. accepted.none at rule.Target (free, record { start = start; instr = instr.Two op w s d; words = n; stands = stands; breaks = (branch, astray) }))
+    (λ misses. accepted.none at rule.Target (free, record { start = start; instr = instr.Two op w s d; words = n; stands = stands; breaks = (branch, misses) }))
 
 pub call_lands : CallLands
 call_lands o m at n op w s accepted start stands free call =
     stable (call-or-not o m (at + 1) s accepted)
-    (λ astray. accepted.none at rule.Target (free, record { start = start; instr = instr.One op w s; words = n; stands = stands; breaks = (call, astray) }))
+    (λ misses. accepted.none at rule.Target (free, record { start = start; instr = instr.One op w s; words = n; stands = stands; breaks = (call, misses) }))
 
 pub named_units : NamedUnits
 named_units o m at accepted named = stable (unit-or-not o m at accepted) (λ no_unit. accepted.none at rule.Entry (named, no_unit))

@@ -166,17 +166,17 @@ abbrev pub IsCall : Op1 → Type 0
 IsCall Call = Unit {0}
 IsCall _ = ⊥
 
-abbrev pub GoesAstray : Object → ℕ → Instr → Type 0
-GoesAstray o at (instr.Two op w s d) = IsBranch (instr.Two op w s d) × (IsBranchTarget o (at + 1) s → ⊥)
-GoesAstray o at (instr.One op w s) = IsCall op × (IsCallTarget o (at + 1) s → ⊥)
-GoesAstray o at _ = ⊥
+abbrev pub TransferMissesTarget : Object → ℕ → Instr → Type 0
+TransferMissesTarget o at (instr.Two op w s d) = IsBranch (instr.Two op w s d) × (IsBranchTarget o (at + 1) s → ⊥)
+TransferMissesTarget o at (instr.One op w s) = IsCall op × (IsCallTarget o (at + 1) s → ⊥)
+TransferMissesTarget o at _ = ⊥
 
 unfoldable pub IsJumpTarget : Object → ℕ → ℤ → Type 0
 IsJumpTarget o at k = (t : ℕ) × UnitStart o t × (pos t ≡ pos (at + 1) +ℤ k)
 
-abbrev pub JumpsAstray : Object → ℕ → Instr → Type 0
-JumpsAstray o at (instr.Jump c k) = IsJumpTarget o at k → ⊥
-JumpsAstray o at _ = ⊥
+abbrev pub JumpMissesUnit : Object → ℕ → Instr → Type 0
+JumpMissesUnit o at (instr.Jump c k) = IsJumpTarget o at k → ⊥
+JumpMissesUnit o at _ = ⊥
 
 abbrev pub IsAlways : Cond → Type 0
 IsAlways Always = Unit {0}
@@ -248,8 +248,8 @@ Breaks rule.Store o at i n = WritesMemory i × (IsGuardedStore o at → ⊥)
 Breaks rule.Static o at i n = WritesWild o at i
 Breaks rule.Pop o at i n = ReadsStack i × (Guarded o at guard.Pop → ⊥)
 Breaks rule.Push o at i n = IsPushOrCall i × (Guarded o at guard.Growth → ⊥)
-Breaks rule.Target o at i n = GoesAstray o at i
-Breaks rule.Jump o at i n = JumpsAstray o at i
+Breaks rule.Target o at i n = TransferMissesTarget o at i
+Breaks rule.Jump o at i n = JumpMissesUnit o at i
 Breaks rule.End o at i n = RunsOff o at i n
 Breaks _ o at i n = ⊥
 

@@ -25,7 +25,7 @@ use Rattle.code_model.specs.declared.parts.RelKind.TheVariants.{Code, Lo, Hi}
 use Rattle.code_model.specs.Relocs.{HasReloc, Unrelocated}
 use Rattle.code_model.specs.Fields.{fields}
 use Rattle.code_model.specs.Guards.{high_word, DstIs}
-use Rattle.code_model.specs.Rules.{IsBranch, IsCall, IsJumpEntry, IsCallEntry, IsUnitOffset, IsBranchTarget, IsCallTarget, GoesAstray}
+use Rattle.code_model.specs.Rules.{IsBranch, IsCall, IsJumpEntry, IsCallEntry, IsUnitOffset, IsBranchTarget, IsCallTarget, TransferMissesTarget}
 use Rattle.insert_model.specs.declared.aim.Aim.{Aim}
 use Rattle.insert_model.specs.declared.aim.Aim.TheVariants.{ToPc, ToSp, ToMemory, Elsewhere}
 use Rattle.insert_model.specs.declared.line.Line.{Line}
@@ -261,7 +261,7 @@ module _ (o q : Object) (go : ℕ → ℕ) (at : ℕ) (kind : q.kind ≡ o.kind)
 
   pub aimed_stands : (i : Instr) (j k : Option RelKind) → AimedInstr o i j
       → ((op : Op2) (w : Width) (x : ℕ) (d : Dst) → i ≡ instr.Two op w (src.Immediate x) d → (j ≡ Some Code → HasReloc q.relocs (at + 1) Code) × (j ≡ None → Unrelocated q.relocs (at + 1)))
-      → ((op : Op1) (w : Width) (x : ℕ) → i ≡ instr.One op w (src.Immediate x) → (j ≡ Some Code → HasReloc q.relocs (at + 1) Code) × (j ≡ None → Unrelocated q.relocs (at + 1))) → GoesAstray q at (moved_instr go j k i) → ⊥
+      → ((op : Op1) (w : Width) (x : ℕ) → i ≡ instr.One op w (src.Immediate x) → (j ≡ Some Code → HasReloc q.relocs (at + 1) Code) × (j ≡ None → Unrelocated q.relocs (at + 1))) → TransferMissesTarget q at (moved_instr go j k i) → ⊥
   aimed_stands (instr.Two op w (src.Reg n) d) j k t two one h = h.0.2
   aimed_stands (instr.Two op w (src.Indexed n x) d) j k t two one h = h.0.2
   aimed_stands (instr.Two op w (src.Symbolic x) d) j k t two one h = h.0.2

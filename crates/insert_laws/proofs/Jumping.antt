@@ -17,7 +17,7 @@ use Rattle.code_model.specs.declared.guards.GuardKind.TheVariants as guard
 use Rattle.code_model.specs.declared.rules.Rule.TheVariants as rule
 use Rattle.code_model.specs.Starts.{Start}
 use Rattle.code_model.specs.Guards.{reach_bytes, Own, UnitStart, IsGrowthForm, IsPopForm, IsSpForm}
-use Rattle.code_model.specs.Rules.{IsAlways, IsJmp, IsJumpTarget, JumpsAstray, BreaksAt}
+use Rattle.code_model.specs.Rules.{IsAlways, IsJmp, IsJumpTarget, JumpMissesUnit, BreaksAt}
 use Rattle.code_laws.specs.Laws.{IsSame, GuardsApart}
 use Rattle.insert_model.specs.declared.line.Line.{Line}
 use Rattle.insert_model.specs.declared.piece.Piece.{Piece}
@@ -276,7 +276,7 @@ module _ (given : Premises) (unique : OneInstruction) (decides : FirstWordDecide
       let w : GroupOf (fields o) (groups (fields o)) x p z = group_of (fields o) (groups (fields o)) x p z e in
       on_group at c k w.front w.group w.back w.less w.more p w.are w.unit_is (place ∙ ap span w.earlier) same own' never
 
-  by_form : (at : ℕ) (go : ℕ → ℕ) (j : Instr) (r s : Option RelKind) → ((c : Cond) (k : ℤ) → j ≡ instr.Jump c k → (IsJumpTarget q at k → ⊥) → ⊥) → JumpsAstray q at (moved_instr go r s j) → ⊥
+  by_form : (at : ℕ) (go : ℕ → ℕ) (j : Instr) (r s : Option RelKind) → ((c : Cond) (k : ℤ) → j ≡ instr.Jump c k → (IsJumpTarget q at k → ⊥) → ⊥) → JumpMissesUnit q at (moved_instr go r s j) → ⊥
   by_form at go (instr.Two op w s d) r t h f = f
   by_form at go (instr.One op w s) r t h f = f
   by_form at go instr.Reti r t h f = f
@@ -289,7 +289,7 @@ module _ (given : Premises) (unique : OneInstruction) (decides : FirstWordDecide
       let stand : PiecesStand o q = pieces_stand given o q i in
       let p : PieceAt (fields o) at = stand.starts at b.start in
       let s : IsSame b.instr (standing go p.piece) b.words (count (standing go p.piece)) = given.one q.code at b.instr (standing go p.piece) b.words (count (standing go p.piece)) b.stands (stand.stands at p) in
-      by_form at go p.piece.instr p.piece.source p.piece.destination (λ c k e never. of_piece at p.before p.piece p.after c k p.are (p.place ∙ size_span go p.before) own' e never) (subst (JumpsAstray q at) s.instr b.breaks)
+      by_form at go p.piece.instr p.piece.source p.piece.destination (λ c k e never. of_piece at p.before p.piece p.after c k p.are (p.place ∙ size_span go p.before) own' e never) (subst (JumpMissesUnit q at) s.instr b.breaks)
 
 pub jump_passes : Premises → OneInstruction → FirstWordDecides → GuardsApart → SizeLaw → LineLaw → SizedLaw → StartsAreUnits → JumpRulePasses
 jump_passes given unique decides apart size line sizes units o q i at h = no_jump given unique decides apart size line sizes units o q i at h.0 h.1

@@ -12,7 +12,7 @@ use Rattle.code_model.specs.Fields.{Fields, fields}
 use Rattle.code_model.specs.declared.rules.Rule.TheVariants as rule
 use Rattle.code_model.specs.Starts.{Start}
 use Rattle.code_model.specs.Relocs.{HasReloc, Unrelocated}
-use Rattle.code_model.specs.Rules.{IsUnitOffset, GoesAstray, BreaksAt}
+use Rattle.code_model.specs.Rules.{IsUnitOffset, TransferMissesTarget, BreaksAt}
 use Rattle.code_laws.specs.Laws.{IsSame}
 use Rattle.insert_model.specs.declared.piece.Piece.{Piece}
 use Rattle.msp_encode.specs.Spelled.{count}
@@ -48,7 +48,7 @@ module _ (given : Premises) (units : StartsAreUnits) (o q : Object) (i : IsInser
   unfolding pieces
   aimed = pieces_aimed o (groups (fields o)) (all_groups given o q i)
 
-  lands_on : (at : ℕ) (x : List Piece) (p : Piece) (z : List Piece) → pieces (fields o) ≡ x ++ p ∷ z → at ≡ span x → GoesAstray q at (standing (place_map (fields o)) p) → ⊥
+  lands_on : (at : ℕ) (x : List Piece) (p : Piece) (z : List Piece) → pieces (fields o) ≡ x ++ p ∷ z → at ≡ span x → TransferMissesTarget q at (standing (place_map (fields o)) p) → ⊥
   unfolding standing
   lands_on at x p z are place h =
       let kinds : (k : Option RelKind) → kind_in (unit_words (x ++ p ∷ z)) (span x + 1) ≡ k → kind_in (unit_words (pieces (fields o))) (at + 1) ≡ k =
@@ -68,7 +68,7 @@ module _ (given : Premises) (units : StartsAreUnits) (o q : Object) (i : IsInser
       let stand : PiecesStand o q = pieces_stand given o q i in
       let p : PieceAt (fields o) at = stand.starts at b.start in
       let s : IsSame b.instr (standing go p.piece) b.words (count (standing go p.piece)) = given.one q.code at b.instr (standing go p.piece) b.words (count (standing go p.piece)) b.stands (stand.stands at p) in
-      lands_on at p.before p.piece p.after p.are (p.place ∙ size_span go p.before) (subst (GoesAstray q at) s.instr b.breaks)
+      lands_on at p.before p.piece p.after p.are (p.place ∙ size_span go p.before) (subst (TransferMissesTarget q at) s.instr b.breaks)
 
 pub target_passes : Premises → StartsAreUnits → TargetRulePasses
 target_passes given units o q i at h = no_target given units o q i at h.1

@@ -4,8 +4,8 @@ use Rattle.std.specs.Prelude.{bit_or, bit_xor, if◌then◌else◌}
 use Rattle.std.proofs.lemmas.Nat.{or_lt, xor_lt, and_le_l}
 use Rattle.std.proofs.lemmas.Bool.Decides.{nat_tests}
 use Rattle.machine_model.specs.Memory.{word_at, IsMemory}
-use Rattle.machine_model.specs.Operands.{size, top, low, load, source_value, value_in}
-use Rattle.machine_model.specs.Alu.{alu, alu_one, added, logical, digit, digit_carry, decimal_byte, decimal, has_top}
+use Rattle.machine_model.specs.Operands.{size, sign_bit, low, load, source_value, value_in}
+use Rattle.machine_model.specs.Alu.{alu, alu_one, added, logical, digit, digit_carry, decimal_byte, decimal, has_sign_bit}
 use Rattle.machine_model.specs.declared.place.Place.{Place}
 use Rattle.machine_model.specs.declared.place.Place.TheVariants.{InReg, At}
 use Rattle.msp_encode.specs.declared.instr.Width.{Width}
@@ -94,17 +94,17 @@ alu-small Bic w s d sr h k = omega (arith, and_le_l d (size w - 1 - s))
 alu-small Bis w s d sr h k = or-small w d s k h
 alu-small Xor w s d sr h k = xor-small w d s k h
 
-half-top : (w : Width) (v : ℕ) (b : Bool) → v < size w → v / 2 + (if b then top w else 0) < size w
-half-top Wide v true h = omega arith
-half-top Wide v false h = omega arith
-half-top Byte v true h = omega arith
-half-top Byte v false h = omega arith
+half-sign : (w : Width) (v : ℕ) (b : Bool) → v < size w → v / 2 + (if b then sign_bit w else 0) < size w
+half-sign Wide v true h = omega arith
+half-sign Wide v false h = omega arith
+half-sign Byte v true h = omega arith
+half-sign Byte v false h = omega arith
 
 pub one-small : (op : Op1) (w : Width) (v sr : ℕ) → v < size w → (alu_one op w v sr).value < 65536
 unfolding alu_one logical
 one-small Rrc Wide v sr h = omega arith
 one-small Rrc Byte v sr h = omega arith
-one-small Rra w v sr h = size-word w _ (half-top w v (has_top w v) h)
+one-small Rra w v sr h = size-word w _ (half-sign w v (has_sign_bit w v) h)
 one-small Swpb w v sr h = omega (arith, size-word w v h)
 one-small Sxt w v sr h = sign-small v (leb 128 (v % 256))
   where

@@ -1,7 +1,7 @@
 -- Results and flags.
 use Rattle.std.specs.Prelude.{ℕ, ◌+◌, ◌-◌, ◌*◌, ◌/◌, ◌%◌, Bool, true, false, bit_and, bit_or, bit_xor, nat_lt, nat_le, ◌==◌, ◌&&◌, not, if◌then◌else◌}
 use Rattle.machine_model.specs.Status.{with_flags}
-use Rattle.machine_model.specs.Operands.{size, top}
+use Rattle.machine_model.specs.Operands.{size, sign_bit}
 use Rattle.msp_encode.specs.declared.instr.Width.{Width}
 use Rattle.msp_encode.specs.declared.instr.Width.TheVariants.{Wide, Byte}
 use Rattle.msp_encode.specs.declared.instr.Op2.{Op2}
@@ -14,8 +14,8 @@ abbrev pub complement : Width → ℕ → ℕ
 complement w v = size w - 1 - v
 
 -- whether the highest bit is 1
-abbrev pub has_top : Width → ℕ → Bool
-has_top w v = nat_le (top w) v
+abbrev pub has_sign_bit : Width → ℕ → Bool
+has_sign_bit w v = nat_le (sign_bit w) v
 
 -- an outcome that leaves the flags
 abbrev pub plain : ℕ → ℕ → Outcome
@@ -23,17 +23,17 @@ plain v sr = record { value = v; status = sr }
 
 -- an outcome v with Z and N of v
 abbrev pub flagged : Width → ℕ → Bool → Bool → ℕ → Outcome
-flagged w v c o sr = record { value = v; status = with_flags sr c (v == 0) (has_top w v) o }
+flagged w v c o sr = record { value = v; status = with_flags sr c (v == 0) (has_sign_bit w v) o }
 
 -- V of a sum: the operands have equal highest bits, and the result another
-abbrev pub turns : Width → ℕ → ℕ → ℕ → Bool
-turns w s d v = (if has_top w s then has_top w d else not (has_top w d)) && (if has_top w v then not (has_top w d) else has_top w d)
+abbrev pub overflows : Width → ℕ → ℕ → ℕ → Bool
+overflows w s d v = (if has_sign_bit w s then has_sign_bit w d else not (has_sign_bit w d)) && (if has_sign_bit w v then not (has_sign_bit w d) else has_sign_bit w d)
 
 unfoldable pub added : Width → ℕ → ℕ → ℕ → ℕ → Outcome
 added w s d c sr =
     let t = d + s + c in
     let v = t % size w in
-    flagged w v (nat_le (size w) t) (turns w s d v) sr
+    flagged w v (nat_le (size w) t) (overflows w s d v) sr
 
 -- C is not Z
 unfoldable pub logical : Width → ℕ → Bool → ℕ → Outcome
@@ -74,7 +74,7 @@ alu And w s d sr = logical w (bit_and d s) false sr
 alu Bit w s d sr = logical w (bit_and d s) false sr
 alu Bic w s d sr = plain (bit_and d (complement w s)) sr
 alu Bis w s d sr = plain (bit_or d s) sr
-alu Xor w s d sr = logical w (bit_xor d s) (has_top w s && has_top w d) sr
+alu Xor w s d sr = logical w (bit_xor d s) (has_sign_bit w s && has_sign_bit w d) sr
 
 abbrev pub writes : Op2 → Bool
 writes Cmp = false
@@ -88,8 +88,8 @@ changes Call = false
 changes _ = true
 
 unfoldable pub alu_one : Op1 → Width → ℕ → ℕ → Outcome
-alu_one Rrc w v sr = flagged w (v / 2 + sr % 2 * top w) (v % 2 == 1) false sr
-alu_one Rra w v sr = flagged w (v / 2 + (if has_top w v then top w else 0)) (v % 2 == 1) false sr
+alu_one Rrc w v sr = flagged w (v / 2 + sr % 2 * sign_bit w) (v % 2 == 1) false sr
+alu_one Rra w v sr = flagged w (v / 2 + (if has_sign_bit w v then sign_bit w else 0)) (v % 2 == 1) false sr
 alu_one Swpb w v sr = plain (v % 256 * 256 + v / 256) sr
 alu_one Sxt w v sr = let e = v % 256 + (if nat_le 128 (v % 256) then 65280 else 0) in logical Wide e false sr
 alu_one Push w v sr = plain v sr

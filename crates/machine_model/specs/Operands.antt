@@ -18,9 +18,9 @@ abbrev pub size : Width → ℕ
 size Wide = 65536
 size Byte = 256
 
-abbrev pub top : Width → ℕ
-top Wide = 32768
-top Byte = 128
+abbrev pub sign_bit : Width → ℕ
+sign_bit Wide = 32768
+sign_bit Byte = 128
 
 -- a byte operation uses low bytes
 abbrev pub low : Width → ℕ → ℕ

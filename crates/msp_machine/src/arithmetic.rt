@@ -1,9 +1,9 @@
 //! The arithmetic unit: the result and the flags of each operation.
 
 ghost use Rattle.std.specs.Prelude.{◌≡◌, ◌≤◌, ◌<◌, ◌+◌, ◌%◌, nat_le, if◌then◌else◌};
-ghost use Rattle.machine_model.specs.Operands.{size, top};
+ghost use Rattle.machine_model.specs.Operands.{size, sign_bit};
 ghost use Rattle.machine_model.specs.Status.{with_flags};
-ghost use Rattle.machine_model.specs.Alu.{complement, has_top, plain, flagged, turns, added, logical, alu, alu_one, writes};
+ghost use Rattle.machine_model.specs.Alu.{complement, has_sign_bit, plain, flagged, overflows, added, logical, alu, alu_one, writes};
 
 use crate::decimal::decimal;
 use machine_model::place::Outcome;
@@ -23,8 +23,8 @@ fn size(width: Width) -> u32
 }
 
 /// The highest bit of a width.
-fn top(width: Width) -> u16
-    ensures { result ≡ top width }
+fn sign_bit(width: Width) -> u16
+    ensures { result ≡ sign_bit width }
 {
     match width {
         Width::Wide => 32768,
@@ -42,10 +42,10 @@ fn complement(width: Width, value: u16) -> u16
 }
 
 /// Whether the highest bit of the width is 1.
-fn has_top(width: Width, value: u16) -> bool
-    ensures { result ≡ has_top width value }
+fn has_sign_bit(width: Width, value: u16) -> bool
+    ensures { result ≡ has_sign_bit width value }
 {
-    top(width) <= value
+    sign_bit(width) <= value
 }
 
 /// A status with C, Z, N and V as given, and the other bits as they were.
@@ -69,15 +69,15 @@ fn flagged(width: Width, value: u16, c: bool, v: bool, sr: u16) -> Outcome
 {
     Outcome {
         value,
-        status: with_flags(sr, c, value == 0, has_top(width, value), v),
+        status: with_flags(sr, c, value == 0, has_sign_bit(width, value), v),
     }
 }
 
 /// V of a sum: the operands have equal highest bits, and the result another.
-fn turns(width: Width, s: u16, d: u16, value: u16) -> bool
-    ensures { result ≡ turns width s d value }
+fn overflows(width: Width, s: u16, d: u16, value: u16) -> bool
+    ensures { result ≡ overflows width s d value }
 {
-    has_top(width, s) == has_top(width, d) && has_top(width, value) != has_top(width, d)
+    has_sign_bit(width, s) == has_sign_bit(width, d) && has_sign_bit(width, value) != has_sign_bit(width, d)
 }
 
 /// The sum of two values and a carry.
@@ -92,7 +92,7 @@ fn added(width: Width, s: u16, d: u16, c: u16, sr: u16) -> Outcome
         width,
         value,
         size(width) <= sum,
-        turns(width, s, d, value),
+        overflows(width, s, d, value),
         sr,
     )
 }
@@ -130,7 +130,7 @@ pub(crate) fn alu(op: Op2, width: Width, s: u16, d: u16, sr: u16) -> Outcome
         Op2::And | Op2::Bit => logical(width, d & s, false, sr),
         Op2::Bic => plain(d & complement(width, s), sr),
         Op2::Bis => plain(d | s, sr),
-        Op2::Xor => logical(width, d ^ s, has_top(width, s) && has_top(width, d), sr),
+        Op2::Xor => logical(width, d ^ s, has_sign_bit(width, s) && has_sign_bit(width, d), sr),
     }
 }
 
@@ -158,7 +158,7 @@ pub(crate) fn alu_one(op: Op1, width: Width, value: u16, sr: u16) -> Outcome
     match op {
         Op1::Rrc => flagged(
             width,
-            value / 2 + sr % 2 * top(width),
+            value / 2 + sr % 2 * sign_bit(width),
             value % 2 == 1,
             false,
             sr,
@@ -178,7 +178,7 @@ pub(crate) fn alu_one(op: Op1, width: Width, value: u16, sr: u16) -> Outcome
 
 /// The highest bit of the width where it is 1, else 0.
 fn kept_top(width: Width, value: u16) -> u16
-    ensures { result ≡ (if has_top width value then top width else 0) }
+    ensures { result ≡ (if has_sign_bit width value then sign_bit width else 0) }
 {
-    if has_top(width, value) { top(width) } else { 0 }
+    if has_sign_bit(width, value) { sign_bit(width) } else { 0 }
 }

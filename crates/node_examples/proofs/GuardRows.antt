@@ -1,7 +1,7 @@
 -- Each by computation.
 use Rattle.std.proofs.Common.{refl}
 use Rattle.node_examples.specs.Rows.{EmitsAndExits, StoresOutside, IsInterruptedInGuard, IsInterruptedWhenFull, PushesUntilFull, JumpsIntoGuard, KeepsTheTail, JumpsToUnit}
-use Rattle.node_examples.specs.Programs.{emitting_code, emitting_relocs, emitting, storing_code, storing_relocs, storing, storing_low_code, storing_low_relocs, storing_low, pushing_code, pushing_relocs, pushing, jumping_astray_code, jumping_astray_relocs, jumping_astray, jumping_code, jumping_relocs, jumping}
+use Rattle.node_examples.specs.Programs.{emitting_code, emitting_relocs, emitting, storing_code, storing_relocs, storing, storing_low_code, storing_low_relocs, storing_low, pushing_code, pushing_relocs, pushing, jumping_into_guard_code, jumping_into_guard_relocs, jumping_into_guard, jumping_code, jumping_relocs, jumping}
 use Rattle.node_examples.specs.Running.{printed, steps_printed}
 use Rattle.flat_mem.specs.Bytes.{patch}
 use Rattle.load_model.specs.Images.{added, placed_word, placed_words, code_image, placed_byte, region_image}
@@ -94,7 +94,7 @@ unfolding all_handed_over woken raised_at pick_at is_quiet run case_of fetched s
     empty part filled rows free_from gaps longest lowest added placed_word placed_words code_image placed_byte region_image
     read_two read_one read_jump read_instr reading set_reg logical decimal_byte decimal alu alu_one two change push call one
     reti jump does with_flags source_value after_source place_to value_in place_of put_context put_pairs word_at patch
-    hex_word alu_added digits jumping_astray_code jumping_astray_relocs jumping_astray printed
+    hex_word alu_added digits jumping_into_guard_code jumping_into_guard_relocs jumping_into_guard printed
 jumps_into_guard f0 = refl
 
 pub keeps_the_tail : KeepsTheTail
@@ -105,7 +105,7 @@ unfolding all_handed_over woken raised_at pick_at is_quiet run case_of fetched s
     empty part filled rows free_from gaps longest lowest added placed_word placed_words code_image placed_byte region_image
     read_two read_one read_jump read_instr reading set_reg logical decimal_byte decimal alu alu_one two change push call one
     reti jump does with_flags source_value after_source place_to value_in place_of put_context put_pairs word_at patch
-    hex_word alu_added digits jumping_astray_code jumping_astray_relocs jumping_astray printed
+    hex_word alu_added digits jumping_into_guard_code jumping_into_guard_relocs jumping_into_guard printed
 keeps_the_tail f0 f1 = refl
 
 pub jumps_to_unit : JumpsToUnit

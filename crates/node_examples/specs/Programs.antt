@@ -143,32 +143,32 @@ pushing form = record {
 
 -- ---- a computed jump to code offset 000A, inside of a guard
 
-unfoldable pub jumping_astray_code : List ℕ
-jumping_astray_code = 0x4034 ∷ 0x000A ∷ 0x4030 ∷ 0xF004 ∷ 0x4205 ∷ 0x9211 ∷ 0x0200 ∷ 0x2C02 ∷ 0x4030 ∷ 0xF002 ∷ 0x4502 ∷
+unfoldable pub jumping_into_guard_code : List ℕ
+jumping_into_guard_code = 0x4034 ∷ 0x000A ∷ 0x4030 ∷ 0xF004 ∷ 0x4205 ∷ 0x9211 ∷ 0x0200 ∷ 0x2C02 ∷ 0x4030 ∷ 0xF002 ∷ 0x4502 ∷
     0x1206 ∷ 0x3FFF ∷ []
 
-unfoldable pub jumping_astray_relocs : List Reloc
-jumping_astray_relocs = record { in_code = true; kind = Code; offset = 0x0002 } ∷ []
+unfoldable pub jumping_into_guard_relocs : List Reloc
+jumping_into_guard_relocs = record { in_code = true; kind = Code; offset = 0x0002 } ∷ []
 
-abbrev pub jumping_astray_exports : List Export
-jumping_astray_exports = []
+abbrev pub jumping_into_guard_exports : List Export
+jumping_into_guard_exports = []
 
-abbrev pub jumping_astray_form : Type 0
-jumping_astray_form = MeetsForm App 1 jumping_astray_code [] 0 16 1 0 jumping_astray_relocs jumping_astray_exports
+abbrev pub jumping_into_guard_form : Type 0
+jumping_into_guard_form = MeetsForm App 1 jumping_into_guard_code [] 0 16 1 0 jumping_into_guard_relocs jumping_into_guard_exports
 
-unfoldable pub jumping_astray : jumping_astray_form → Loadable
-jumping_astray form = record {
+unfoldable pub jumping_into_guard : jumping_into_guard_form → Loadable
+jumping_into_guard form = record {
   object = record {
     kind = App;
     version = 1;
-    code = jumping_astray_code;
+    code = jumping_into_guard_code;
     init = [];
     zeroed = 0;
     stack = 16;
     threads = 1;
     entry = 0;
-    relocs = jumping_astray_relocs;
-    exports = jumping_astray_exports;
+    relocs = jumping_into_guard_relocs;
+    exports = jumping_into_guard_exports;
     form = form;
   };
   units = 21 ∷ 16 ∷ [];

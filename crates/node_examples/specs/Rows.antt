@@ -1,7 +1,7 @@
 -- What programs print, step by step or at the end, and which objects are refused.
 use Rattle.std.specs.Prelude.{◌≡◌, ℕ, true, false, List, [], ◌∷◌, ◌++◌, codes, Some}
 use Rattle.place_model.specs.declared.places.NoRoom.TheVariants.{Slots, Taken}
-use Rattle.node_examples.specs.Programs.{adding_form, adding, asking_form, asking, calling_form, calling, emitting_form, emitting, handing_form, handing, jumping_form, jumping, jumping_astray_form, jumping_astray, looping_form, looping, looping_module_form, looping_module, overwriting_form, overwriting, pushing_form, pushing, sleeping_form, sleeping, storing_form, storing, storing_low_form, storing_low, yielding_form, yielding}
+use Rattle.node_examples.specs.Programs.{adding_form, adding, asking_form, asking, calling_form, calling, emitting_form, emitting, handing_form, handing, jumping_form, jumping, jumping_into_guard_form, jumping_into_guard, looping_form, looping, looping_module_form, looping_module, overwriting_form, overwriting, pushing_form, pushing, sleeping_form, sleeping, storing_form, storing, storing_low_form, storing_low, yielding_form, yielding}
 use Rattle.node_model.specs.Booting.{booted}
 use Rattle.node_examples.specs.First.{first_kernel, first_context, first_placed, BootsAs}
 use Rattle.node_examples.specs.Running.{no_script, raises, picks, line, printed, steps_printed, printed_later, refused}
@@ -32,7 +32,7 @@ StoresOutside = (f0 : storing_form) → printed false true 100 no_script (storin
 -- two computed jumps into guards: before the second fault stand the instructions of both applications, since a fault empties no tail,
 -- and fewer than eight, since no more were made
 abbrev pub KeepsTheTail : Type 0
-KeepsTheTail = (f0 : jumping_astray_form) (f1 : jumping_astray_form) → printed false true 100 no_script (jumping_astray f0 ∷ jumping_astray f1 ∷ []) ≡
+KeepsTheTail = (f0 : jumping_into_guard_form) (f1 : jumping_into_guard_form) → printed false true 100 no_script (jumping_into_guard f0 ∷ jumping_into_guard f1 ∷ []) ≡
     line (codes "a0 6000 601A 2000 2010")
     ++ line (codes "a1 601A 6034 2010 2020")
     ++ line (codes "| 1 a0.t0 6000 4034")
@@ -74,7 +74,7 @@ PushesUntilFull = (f0 : pushing_form) → printed false false 100 (raises 1 36) 
 
 -- a computed jump into a guard fails
 abbrev pub JumpsIntoGuard : Type 0
-JumpsIntoGuard = (f0 : jumping_astray_form) → printed false false 100 no_script (jumping_astray f0 ∷ []) ≡
+JumpsIntoGuard = (f0 : jumping_into_guard_form) → printed false false 100 no_script (jumping_into_guard f0 ∷ []) ≡
     line (codes "a0 6000 601A 2000 2010")
     ++ line (codes "3 a0.t0 fault jump 600A")
     ++ line (codes "end quiet 3 emits 0 faults 1")

@@ -8,7 +8,7 @@ use Rattle.code_model.specs.declared.object.Object.{Object}
 use Rattle.code_model.specs.declared.rules.Rule.{Rule}
 use Rattle.code_model.specs.declared.rules.Rule.TheVariants as rule
 use Rattle.code_model.specs.Starts.{Stands}
-use Rattle.code_model.specs.Rules.{number, GoesAstray, JumpsAstray, Refuses}
+use Rattle.code_model.specs.Rules.{number, TransferMissesTarget, JumpMissesUnit, Refuses}
 use Rattle.static_checker.specs.declared.spot.Spot.{Spot}
 use Rattle.static_checker.specs.Spots.{IsSpot}
 use Rattle.static_checker.specs.Firsts.{IsLanding, IsFirst, NoneIn, IsFirstRule, NoneBelow}
@@ -16,13 +16,13 @@ use Rattle.static_checker.specs.CodeUnits.{IsTransfer, TransferAt}
 use Rattle.code_laws.proofs.Standing.{same_instr}
 use Rattle.static_checker.proofs.FirstLemmas.{none_below, number_most, one_more, none_at_first}
 
-goes_astray : (o : Object) (at : ℕ) (i : Instr) → GoesAstray o at i → IsTransfer i
-goes_astray o at (instr.Two op w s d) h = h.0
-goes_astray o at (instr.One op w s) h = h.0
-goes_astray o at (instr.Jump c k) h = tt
-goes_astray o at instr.Reti h = h
+transfer_misses_target : (o : Object) (at : ℕ) (i : Instr) → TransferMissesTarget o at i → IsTransfer i
+transfer_misses_target o at (instr.Two op w s d) h = h.0
+transfer_misses_target o at (instr.One op w s) h = h.0
+transfer_misses_target o at (instr.Jump c k) h = tt
+transfer_misses_target o at instr.Reti h = h
 
-jumps_goes : (o : Object) (at : ℕ) (i : Instr) → JumpsAstray o at i → IsTransfer i
+jumps_goes : (o : Object) (at : ℕ) (i : Instr) → JumpMissesUnit o at i → IsTransfer i
 jumps_goes o at (instr.Two op w s d) h = absurd h
 jumps_goes o at (instr.One op w s) h = absurd h
 jumps_goes o at (instr.Jump c k) h = tt
@@ -30,7 +30,7 @@ jumps_goes o at instr.Reti h = h
 
 -- what a target's rule refuses is a place that goes
 pub target_goes : (o : Object) (at : ℕ) → Refuses rule.Target o at → TransferAt o at
-target_goes o at x = record { start = x.1.start; instr = x.1.instr; words = x.1.words; stands = x.1.stands; is_transfer = goes_astray o at x.1.instr x.1.breaks; free = x.0 }
+target_goes o at x = record { start = x.1.start; instr = x.1.instr; words = x.1.words; stands = x.1.stands; is_transfer = transfer_misses_target o at x.1.instr x.1.breaks; free = x.0 }
 
 pub jump_goes : (o : Object) (at : ℕ) → Refuses rule.Jump o at → TransferAt o at
 jump_goes o at x = record { start = x.1.start; instr = x.1.instr; words = x.1.words; stands = x.1.stands; is_transfer = jumps_goes o at x.1.instr x.1.breaks; free = x.0 }
@@ -39,16 +39,16 @@ module _ (o : Object) (at : ℕ) (s : Spot) (transfer : TransferAt o at) (is : I
   one : (i : Instr) (n : ℕ) → Stands o.code at i n → i ≡ s.instr
   one i n st = same_instr i s.instr (drop at o.code) n s.words st is.stands
 
-  pub target_refuses : (b : Bool) → IsTrue b ↔ GoesAstray o at s.instr → IsTrue b ↔ Refuses rule.Target o at
+  pub target_refuses : (b : Bool) → IsTrue b ↔ TransferMissesTarget o at s.instr → IsTrue b ↔ Refuses rule.Target o at
   target_refuses b iff = (
     (λ h. (transfer.free, record { start = transfer.start; instr = s.instr; words = s.words; stands = is.stands; breaks = iff.0 h })),
-    (λ x. iff.1 (subst (λ (i : Instr). GoesAstray o at i) (one x.1.instr x.1.words x.1.stands) x.1.breaks)),
+    (λ x. iff.1 (subst (λ (i : Instr). TransferMissesTarget o at i) (one x.1.instr x.1.words x.1.stands) x.1.breaks)),
   )
 
-  pub jump_refuses : (b : Bool) → IsTrue b ↔ JumpsAstray o at s.instr → IsTrue b ↔ Refuses rule.Jump o at
+  pub jump_refuses : (b : Bool) → IsTrue b ↔ JumpMissesUnit o at s.instr → IsTrue b ↔ Refuses rule.Jump o at
   jump_refuses b iff = (
     (λ h. (transfer.free, record { start = transfer.start; instr = s.instr; words = s.words; stands = is.stands; breaks = iff.0 h })),
-    (λ x. iff.1 (subst (λ (i : Instr). JumpsAstray o at i) (one x.1.instr x.1.words x.1.stands) x.1.breaks)),
+    (λ x. iff.1 (subst (λ (i : Instr). JumpMissesUnit o at i) (one x.1.instr x.1.words x.1.stands) x.1.breaks)),
   )
 
 -- ---- rules at a place

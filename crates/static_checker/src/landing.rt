@@ -19,7 +19,7 @@ use crate::named::named_places;
 use crate::pass::Pass;
 use crate::refusal::Refusal;
 use crate::spot::spot_at;
-use crate::targets::{goes_astray, jumps_astray};
+use crate::targets::{transfer_misses_target, jump_misses_unit};
 use code_model::marks::Marks;
 use code_model::object::Object;
 use code_model::rules::Rule;
@@ -95,9 +95,9 @@ fn transfer_rule(o: &Object, cursor: Cursor, units: &Marks, at: usize) -> Option
 {
     match spot_at(&o.code, at) {
         Some(spot) => {
-            if goes_astray(o, cursor, units, at, spot.instr) {
+            if transfer_misses_target(o, cursor, units, at, spot.instr) {
                 Some(Rule::Target)
-            } else if jumps_astray(o, units, at, spot.instr) {
+            } else if jump_misses_unit(o, units, at, spot.instr) {
                 Some(Rule::Jump)
             } else {
                 None

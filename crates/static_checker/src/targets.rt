@@ -6,7 +6,7 @@ ghost use Rattle.code_model.specs.declared.parts.RelKind.TheVariants.{Code};
 ghost use Rattle.code_model.specs.Relocs.{HasReloc};
 ghost use Rattle.code_model.specs.Guards.{UnitStart, AreUnits};
 ghost use Rattle.static_checker.specs.Cursors.{IsCursor};
-ghost use Rattle.code_model.specs.Rules.{IsJumpEntry, IsCallEntry, IsUnitOffset, IsBranchTarget, IsCallTarget, GoesAstray, IsJumpTarget, JumpsAstray, RunsOff};
+ghost use Rattle.code_model.specs.Rules.{IsJumpEntry, IsCallEntry, IsUnitOffset, IsBranchTarget, IsCallTarget, TransferMissesTarget, IsJumpTarget, JumpMissesUnit, RunsOff};
 
 use crate::cursor::{Cursor, has_reloc, unrelocated};
 use crate::forms::{is_call, is_jmp};
@@ -19,12 +19,12 @@ use kernel_model::entries::{CALLS, EMITS, GOES, LEAVE, STACK_FAULT, STORE_FAULT,
 use msp_encode::instr::{Instr, Src};
 
 /// Tells whether an instruction at a place is a branch or a call without an allowed target.
-pub fn goes_astray(o: &Object, cursor: Cursor, units: &Marks, at: usize, i: Instr) -> bool
+pub fn transfer_misses_target(o: &Object, cursor: Cursor, units: &Marks, at: usize, i: Instr) -> bool
     requires cursor { IsCursor o.now.relocs cursor }
     requires order { cursor.at ≤ at }
     requires units { AreUnits o.now units.now }
     requires within { at < CODE_WORDS_MAX }
-    ensures { IsTrue result ↔ GoesAstray o.now at i }
+    ensures { IsTrue result ↔ TransferMissesTarget o.now at i }
 {
     match i {
         Instr::Two { src, .. } => is_branch(i) && !is_branch_target(o, cursor, units, at + 1, src),
@@ -34,10 +34,10 @@ pub fn goes_astray(o: &Object, cursor: Cursor, units: &Marks, at: usize, i: Inst
 }
 
 /// Tells whether an instruction at a place is a jump to no unit start.
-pub fn jumps_astray(o: &Object, units: &Marks, at: usize, i: Instr) -> bool
+pub fn jump_misses_unit(o: &Object, units: &Marks, at: usize, i: Instr) -> bool
     requires units { AreUnits o.now units.now }
     requires within { at < CODE_WORDS_MAX }
-    ensures { IsTrue result ↔ JumpsAstray o.now at i }
+    ensures { IsTrue result ↔ JumpMissesUnit o.now at i }
 {
     match i {
         Instr::Jump { offset, .. } => !is_jump_target(o, units, at, offset),
