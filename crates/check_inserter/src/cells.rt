@@ -6,7 +6,6 @@ ghost use Rattle.insert_model.specs.Groups.{cell, difference, if_near, is_data, 
 ghost use Rattle.insert_model.specs.Layout.{difference_of};
 ghost use Rattle.check_inserter.specs.Cells.{as_cell};
 
-use crate::operands::writes;
 use crate::targets::own;
 use code_model::parts::RelKind;
 use insert_model::line::Line;
@@ -31,7 +30,7 @@ pub(crate) fn cell_of(line: &Line) -> Option<Cell>
             dst: Dst::Indexed(base, index),
             ..
         } => {
-            if writes(op) {
+            if op.writes() {
                 Some(Cell {
                     base,
                     index,

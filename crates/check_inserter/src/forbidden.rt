@@ -1,19 +1,15 @@
 //! Instructions that have no unit.
 
 ghost use Rattle.std.specs.Prelude.{ℕ, ◌<◌, ◌↔◌, IsTrue};
-ghost use Rattle.code_model.specs.Rules.{WritesReg};
+ghost use Rattle.msp_encode.specs.Forms.{WritesReg};
 ghost use Rattle.insert_model.specs.Faults.{IsCheck, SrcUsesCheck, DstUsesCheck, UsesCheck, NamesFlags, ChangesFlags, SetsPc, ReadsPc, HasSymbolic, IsSpecial, HasBadOperand, IsNoPopTarget, HasForbiddenPop, StepsBase, HasForbiddenStore, IsWrongWord, IsWrongWithin, HasWrongWord, HasForbiddenWrite, HasForbiddenRead, IsForbidden};
 
 use crate::forms::{is_auto_inc, is_memory, is_symbolic_dst, is_symbolic_src, sets_pc};
-use crate::size::word_count;
 use code_model::parts::RelKind;
 use insert_model::line::Line;
 use msp_encode::instr::{Dst, Instr, Src};
 use msp_encode::registers::{CHECKED, KEPT_STATUS, PC, SP, SR};
-use static_checker::forms::{
-    changes, const_value, dst_is, is_bis_or_bic, is_flags, is_mov, is_reti, is_wide, pops, src_is,
-    stacks, writes, writes_reg,
-};
+use static_checker::forms::is_flags;
 use static_checker::operand_words::carries;
 
 /// Tells whether an operand names R4 or R5.
@@ -66,19 +62,19 @@ pub(crate) fn is_forbidden(line: &Line) -> bool
 fn has_forbidden_write(line: &Line) -> bool
     ensures { IsTrue result ↔ HasForbiddenWrite line.now }
 {
-    is_reti(line.instr) || has_forbidden_status_write(line) || has_forbidden_pc_write(line.instr)
+    line.instr.is_reti() || has_forbidden_status_write(line) || has_forbidden_pc_write(line.instr)
 }
 
 fn has_forbidden_status_write(line: &Line) -> bool
     ensures { IsTrue result ↔ (WritesReg line.now.instr 2 × (ChangesFlags line.now.instr line.now.second → ⊥)) }
 {
-    writes_reg(line.instr, 2) && !changes_flags(line.instr, line.second)
+    line.instr.writes_reg(2) && !changes_flags(line.instr, line.second)
 }
 
 fn has_forbidden_pc_write(i: Instr) -> bool
     ensures { IsTrue result ↔ (WritesReg i 0 × (SetsPc i → ⊥)) }
 {
-    writes_reg(i, PC) && !sets_pc(i)
+    i.writes_reg(PC) && !sets_pc(i)
 }
 
 /// Tells whether an instruction is BIS or BIC of a word, of flags alone.
@@ -87,7 +83,7 @@ fn changes_flags(i: Instr, kind: Option<RelKind>) -> bool
 {
     match i {
         Instr::Two { op, width, src, .. } => {
-            is_bis_or_bic(op) && is_wide(width) && names_flags(src, kind)
+            op.is_bis_or_bic() && width.is_wide() && names_flags(src, kind)
         }
         _ => false,
     }
@@ -98,7 +94,7 @@ fn names_flags(src: Src, kind: Option<RelKind>) -> bool
     ensures { IsTrue result ↔ NamesFlags src kind }
 {
     match src {
-        Src::Const(constant) => is_flags(const_value(constant)),
+        Src::Const(constant) => is_flags(constant.value()),
         Src::Immediate(x) => kind.is_none() && is_flags(x),
         _ => false,
     }
@@ -116,8 +112,8 @@ fn reads_pc(i: Instr) -> bool
     ensures { IsTrue result ↔ ReadsPc i }
 {
     match i {
-        Instr::Two { op, src, dst, .. } => src_is(src, PC) || dst_is(dst, PC) && !is_mov(op),
-        Instr::One { src, .. } => src_is(src, PC),
+        Instr::Two { op, src, dst, .. } => src.is_reg(PC) || dst.is_reg(PC) && !op.is_mov(),
+        Instr::One { src, .. } => src.is_reg(PC),
         _ => false,
     }
 }
@@ -137,7 +133,7 @@ fn has_bad_operand(i: Instr) -> bool
     ensures { IsTrue result ↔ HasBadOperand i }
 {
     match i {
-        Instr::One { op, src, .. } => changes(op) && (is_special(src) || is_auto_inc(src)),
+        Instr::One { op, src, .. } => op.changes() && (is_special(src) || is_auto_inc(src)),
         _ => false,
     }
 }
@@ -145,7 +141,7 @@ fn has_bad_operand(i: Instr) -> bool
 fn is_special(src: Src) -> bool
     ensures { IsTrue result ↔ IsSpecial src }
 {
-    src_is(src, PC) || src_is(src, SP) || src_is(src, SR)
+    src.is_reg(PC) || src.is_reg(SP) || src.is_reg(SR)
 }
 
 /// Tells whether @SP+ is the source of PUSH, of CALL, or of an operation that writes SP, SR or memory.
@@ -153,8 +149,8 @@ fn has_forbidden_pop(i: Instr) -> bool
     ensures { IsTrue result ↔ HasForbiddenPop i }
 {
     match i {
-        Instr::Two { op, src, dst, .. } => pops(src, SP) && writes(op) && is_no_pop_target(dst),
-        Instr::One { op, src, .. } => stacks(op) && pops(src, SP),
+        Instr::Two { op, src, dst, .. } => src.pops(SP) && op.writes() && is_no_pop_target(dst),
+        Instr::One { op, src, .. } => op.stacks() && src.pops(SP),
         _ => false,
     }
 }
@@ -162,7 +158,7 @@ fn has_forbidden_pop(i: Instr) -> bool
 fn is_no_pop_target(dst: Dst) -> bool
     ensures { IsTrue result ↔ IsNoPopTarget dst }
 {
-    dst_is(dst, SP) || dst_is(dst, SR) || is_memory(dst)
+    dst.is_reg(SP) || dst.is_reg(SR) || is_memory(dst)
 }
 
 /// Tells whether a store's source steps the base of its destination.
@@ -170,7 +166,7 @@ fn has_forbidden_store(i: Instr) -> bool
     ensures { IsTrue result ↔ HasForbiddenStore i }
 {
     match i {
-        Instr::Two { op, src, dst, .. } => writes(op) && steps_base(src, dst),
+        Instr::Two { op, src, dst, .. } => op.writes() && steps_base(src, dst),
         _ => false,
     }
 }
@@ -196,7 +192,7 @@ fn is_wrong_within(line: &Line, word: usize) -> bool
     requires { word < 3 }
     ensures { IsTrue result ↔ IsWrongWithin line.now word }
 {
-    word < word_count(line.instr) && is_wrong_word(line, word)
+    word < line.instr.words() && is_wrong_word(line, word)
 }
 
 /// Tells whether this word of a line, counted from 0, has a relocation that it may not have.

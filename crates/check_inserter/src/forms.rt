@@ -5,7 +5,6 @@ ghost use Rattle.insert_model.specs.Faults.{SetsPc, IsSymbolicSrc, IsSymbolicDst
 
 use msp_encode::instr::{Dst, Instr, Src};
 use msp_encode::registers::PC;
-use static_checker::forms::{dst_is, is_mov, is_wide};
 
 /// Tells whether a source is symbolic.
 pub(crate) fn is_symbolic_src(src: Src) -> bool
@@ -40,7 +39,7 @@ pub(crate) fn sets_pc(i: Instr) -> bool
     ensures { IsTrue result ↔ SetsPc i }
 {
     match i {
-        Instr::Two { op, width, dst, .. } => is_mov(op) && is_wide(width) && dst_is(dst, PC),
+        Instr::Two { op, width, dst, .. } => op.is_mov() && width.is_wide() && dst.is_reg(PC),
         _ => false,
     }
 }

@@ -14,7 +14,6 @@ use crate::group_units::put_group;
 use crate::groups::later;
 use crate::jumps::{final_jumps, long_jumps, short_jumps};
 use crate::named::targets;
-use crate::size::word_count;
 use code_model::marks::Marks;
 use code_model::object::{CODE_WORDS_MAX, Object};
 use insert_model::fault::{InsertFault, InsertKind};
@@ -125,10 +124,10 @@ fn lay_units(
             skip = later(o, targets, line, behind);
             put_places(&mut places, words.len(), 1)?;
             put_group(&mut words, size, offsets[i], line, &behind[..skip])?;
-            put_places(&mut places, words.len(), word_count(line.instr) - 1)?;
+            put_places(&mut places, words.len(), line.instr.words() - 1)?;
         } else {
             skip -= 1;
-            put_places(&mut places, words.len(), word_count(line.instr))?;
+            put_places(&mut places, words.len(), line.instr.words())?;
         }
     }
     put_places(&mut places, words.len(), 1)?;

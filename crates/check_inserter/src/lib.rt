@@ -27,7 +27,6 @@ mod laying;
 mod moving;
 mod named;
 mod operands;
-mod size;
 mod source;
 mod starts;
 mod targets;

@@ -2,7 +2,7 @@
 
 ghost use Rattle.std.specs.Prelude.{◌≡◌};
 ghost use Rattle.msp_encode.specs.Spelling.{SrcFits, DstFits};
-ghost use Rattle.insert_model.specs.Units.{is_static, absolute_aim, aim, aim_one, writes, is_popped, is_immediate, is_pc, is_wide_move, is_free, is_plain_pop, into_r4, through_r4, from_r4};
+ghost use Rattle.insert_model.specs.Units.{is_static, absolute_aim, aim, aim_one, is_immediate, is_wide_move, is_free, is_plain_pop, into_r4, through_r4, from_r4};
 ghost use Rattle.check_inserter.specs.Fitting.{AimFits};
 
 use code_model::parts::RelKind;
@@ -72,38 +72,11 @@ fn is_static(size: usize, index: u16, kind: Option<RelKind>) -> bool
     }
 }
 
-/// Tells whether an operation writes its destination.
-pub(crate) fn writes(op: Op2) -> bool
-    ensures { result ≡ writes op }
-{
-    !matches!(op, Op2::Cmp | Op2::Bit)
-}
-
-/// Tells whether a source is @SP+.
-pub(crate) fn is_popped(src: Src) -> bool
-    ensures { result ≡ is_popped src }
-{
-    match src {
-        Src::AutoInc(register) => register == SP,
-        _ => false,
-    }
-}
-
 /// Tells whether a source is an immediate.
 pub(crate) fn is_immediate(src: Src) -> bool
     ensures { result ≡ is_immediate src }
 {
     matches!(src, Src::Immediate(_))
-}
-
-/// Tells whether a destination is PC.
-pub(crate) fn is_pc(dst: Dst) -> bool
-    ensures { result ≡ is_pc dst }
-{
-    match dst {
-        Dst::Reg(register) => register == PC,
-        _ => false,
-    }
 }
 
 /// Tells whether a pop is of a whole word into one of R6 to R15.

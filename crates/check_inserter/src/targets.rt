@@ -11,7 +11,6 @@ ghost use Rattle.insert_model.specs.Faults.{IsStartOffset, JumpMisses, IsSourceJ
 ghost use Rattle.check_inserter.specs.Read.{IsWhole};
 
 use crate::forms::sets_pc;
-use crate::size::word_count;
 use crate::starts::{is_jump_start, is_start_offset};
 use code_model::marks::Marks;
 use code_model::object::Object;
@@ -20,7 +19,6 @@ use insert_model::line::Line;
 use insert_model::piece::Piece;
 use kernel_model::entries::{EMITS, EXITS, LEAVE, STACK_FAULT, STORE_FAULT, TICKS};
 use msp_encode::instr::{Dst, Instr, Src};
-use static_checker::forms::{is_call, is_jmp, src_size};
 
 /// Tells whether a line has a target that isn't one, or the code could run on behind it where it ends.
 pub(crate) fn goes_wrong(o: &Object, starts: &Marks, line: &Line) -> bool
@@ -61,7 +59,7 @@ fn transfer_misses(o: &Object, starts: &Marks, line: &Line) -> bool
         Instr::Two { src, .. } => {
             sets_pc(line.instr) && misses_target(o, starts, src, line.second)
         }
-        Instr::One { op, src, .. } => is_call(op) && misses_callee(o, starts, src, line.second),
+        Instr::One { op, src, .. } => op.is_call() && misses_callee(o, starts, src, line.second),
         _ => false,
     }
 }
@@ -144,7 +142,7 @@ pub(crate) fn own(line: &Line) -> Piece
     let instr = line.instr;
     match instr {
         Instr::Two { src, .. } => {
-            if src_size(src) == 0 {
+            if src.words() == 0 {
                 Piece {
                     instr,
                     source: None,
@@ -221,5 +219,5 @@ fn runs_out(o: &Object, line: &Line) -> bool
     requires { IsWhole o.now line.now }
     ensures { IsTrue result ↔ RunsOut o.now.code line.now }
 {
-    line.at + word_count(line.instr) == o.code.len() && !is_jmp(line.instr) && !sets_pc(line.instr)
+    line.at + line.instr.words() == o.code.len() && !line.instr.is_jmp() && !sets_pc(line.instr)
 }

@@ -11,8 +11,7 @@ use crate::guards::{
     branch, give_sp, growth_guard, jump, plain, pop_guard, pop_r4, sp_guard, store_guard, take_sp,
 };
 use crate::operands::{
-    aim, aim_one, from_r4, into_r4, is_immediate, is_pc, is_plain_pop, is_popped, through_r4,
-    writes,
+    aim, aim_one, from_r4, into_r4, is_immediate, is_plain_pop, through_r4,
 };
 use crate::targets::own;
 use crate::words::{put_both, put_pieces};
@@ -22,7 +21,7 @@ use insert_model::line::Line;
 use insert_model::piece::{Piece, Word};
 use kernel_model::entries::{CALLS, GOES};
 use msp_encode::instr::{Cond, Dst, Instr, Op1, Op2, Src, Width};
-use msp_encode::registers::CHECKED;
+use msp_encode::registers::{CHECKED, PC, SP};
 use std::alloc::AllocError;
 
 /// Appends the words of a line's unit, beside a static part of `size` bytes.
@@ -61,9 +60,9 @@ fn put_two(
     requires piece { InstrFits piece.instr }
     ensures { OnOk result (out.new.items ≡ out.old.items ++ unit_words (two_unit size op width src dst piece)) }
 {
-    if is_popped(src) {
+    if src.pops(SP) {
         put_popping(out, op, width, dst, piece)
-    } else if writes(op) {
+    } else if op.writes() {
         put_writing(
             out,
             op,
@@ -89,7 +88,7 @@ fn put_popping(
     requires piece { InstrFits piece.instr }
     ensures { OnOk result (out.new.items ≡ out.old.items ++ unit_words (popping op width dst piece)) }
 {
-    if is_pc(dst) {
+    if dst.is_reg(PC) {
         put_both(out, &pop_guard(), &[pop_r4(), branch(GOES, None)])
     } else if is_plain_pop(op, width, dst) {
         put_both(out, &pop_guard(), &[piece])

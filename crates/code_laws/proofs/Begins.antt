@@ -5,11 +5,12 @@ use Rattle.msp_encode.specs.declared.instr.Src.{Src}
 use Rattle.msp_encode.specs.declared.instr.Src.TheVariants as src
 use Rattle.msp_encode.specs.declared.instr.Instr.{Instr}
 use Rattle.msp_encode.specs.Spelling.{First, SrcRow}
+use Rattle.msp_encode.specs.Forms.{Pops}
 use Rattle.code_model.specs.declared.object.Object.{Object}
 use Rattle.code_model.specs.declared.guards.GuardKind.{GuardKind}
 use Rattle.code_model.specs.declared.guards.GuardKind.TheVariants as guard
 use Rattle.code_model.specs.Starts.{Begins, Stands}
-use Rattle.code_model.specs.Guards.{guard_words, FitAll, Pops}
+use Rattle.code_model.specs.Guards.{guard_words, FitAll}
 
 begins_first : (ws : List ℕ) (i : Instr) (n : ℕ) → Begins ws i n → First i (slice_index ws 0)
 begins_first ws i zero h = absurd h.1

@@ -8,6 +8,7 @@ use Rattle.msp_encode.specs.declared.instr.Dst.TheVariants as dst
 use Rattle.msp_encode.specs.declared.instr.Instr.{Instr}
 use Rattle.msp_encode.specs.declared.instr.Instr.TheVariants as instr
 use Rattle.msp_encode.specs.Spelling.{First, SrcRow}
+use Rattle.msp_encode.specs.Forms.{WritesReg}
 use Rattle.code_model.specs.declared.object.Object.{Object}
 use Rattle.code_model.specs.declared.guards.GuardKind.{GuardKind}
 use Rattle.code_model.specs.declared.guards.GuardKind.TheVariants as guard
@@ -15,7 +16,7 @@ use Rattle.code_model.specs.declared.rules.Rule.{Rule}
 use Rattle.code_model.specs.declared.rules.Rule.TheVariants as rule
 use Rattle.code_model.specs.Starts.{Begins, Stands}
 use Rattle.code_model.specs.Guards.{Guarded, CoversBy, Covers, Covered, OwnBy, Own, Interior, UnitStart}
-use Rattle.code_model.specs.Rules.{IsGuardedStore, Breaks, BreaksAt, WritesReg, ReadsStack}
+use Rattle.code_model.specs.Rules.{IsGuardedStore, Breaks, BreaksAt, ReadsStack}
 use Rattle.code_model.specs.Verdicts.{IsAccepted}
 use Rattle.code_model.specs.Dangers.{Acts, IsDangerous, DangersGuarded, WritesAbsolute}
 use Rattle.code_laws.proofs.Begins.{stands_first, guard_begins, quiet_src}

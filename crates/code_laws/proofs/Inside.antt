@@ -9,13 +9,14 @@ use Rattle.msp_encode.specs.declared.instr.Dst.TheVariants as dst
 use Rattle.msp_encode.specs.declared.instr.Instr.{Instr}
 use Rattle.msp_encode.specs.declared.instr.Instr.TheVariants as instr
 use Rattle.msp_encode.specs.Spelling.{First, SrcRow}
+use Rattle.msp_encode.specs.Forms.{Writes, Tests}
 use Rattle.code_model.specs.declared.object.Object.{Object}
 use Rattle.code_model.specs.declared.guards.Reach.{Reach}
 use Rattle.code_model.specs.declared.guards.Reach.TheVariants as reach
 use Rattle.code_model.specs.declared.guards.GuardKind.{GuardKind}
 use Rattle.code_model.specs.declared.guards.GuardKind.TheVariants as guard
 use Rattle.code_model.specs.Starts.{Stands, Start}
-use Rattle.code_model.specs.Guards.{Guarded, high_word, region_slots, guard_words, FitAll, Writes, Tests, IsStoreForm, IsLoadSrc, IsLoadForm, Serves}
+use Rattle.code_model.specs.Guards.{Guarded, high_word, region_slots, guard_words, FitAll, IsStoreForm, IsLoadSrc, IsLoadForm, Serves}
 use Rattle.code_laws.specs.Laws.{GuardsApart}
 use Rattle.code_laws.specs.SecondWords.{SecondIs, HighIs}
 use Rattle.code_laws.proofs.Standing.{same_instr}

@@ -14,12 +14,12 @@ use Rattle.msp_encode.specs.declared.instr.Dst.TheVariants as dst
 use Rattle.msp_encode.specs.declared.instr.Instr.{Instr}
 use Rattle.msp_encode.specs.declared.instr.Instr.TheVariants as instr
 use Rattle.msp_encode.specs.Spelling.{First, words_after, op2_code}
+use Rattle.msp_encode.specs.Forms.{IsReti}
 use Rattle.code_model.specs.declared.object.Object.{Object}
 use Rattle.code_model.specs.declared.guards.GuardKind.{GuardKind}
 use Rattle.code_model.specs.declared.guards.GuardKind.TheVariants as guard
 use Rattle.code_model.specs.Starts.{Begins, Stands, Start}
 use Rattle.code_model.specs.Guards.{IsLoad, high_word, region_slots, guard_words, FitAll}
-use Rattle.code_model.specs.Rules.{IsReti}
 use Rattle.code_laws.proofs.Starting.{starts_apart, next_start}
 use Rattle.code_laws.proofs.Begins.{guard_begins}
 

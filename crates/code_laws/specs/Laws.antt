@@ -8,12 +8,13 @@ use Rattle.msp_encode.specs.declared.instr.Src.{Src}
 use Rattle.msp_encode.specs.declared.instr.Dst.{Dst}
 use Rattle.msp_encode.specs.declared.instr.Instr.{Instr}
 use Rattle.msp_encode.specs.declared.instr.Instr.TheVariants as instr
+use Rattle.msp_encode.specs.Forms.{IsCall}
 use Rattle.code_model.specs.declared.object.Object.{Object}
 use Rattle.code_model.specs.declared.guards.GuardKind.{GuardKind}
 use Rattle.code_model.specs.declared.verdict.Verdict.{Verdict}
 use Rattle.code_model.specs.Starts.{Stands, Start}
 use Rattle.code_model.specs.Guards.{Guarded, Own, Interior, UnitStart, most_served}
-use Rattle.code_model.specs.Rules.{IsNamed, IsBranch, IsBranchTarget, IsCall, IsCallTarget, IsJumpTarget}
+use Rattle.code_model.specs.Rules.{IsNamed, IsBranch, IsBranchTarget, IsCallTarget, IsJumpTarget}
 use Rattle.code_model.specs.Verdicts.{IsAccepted, IsVerdict, SameVerdict}
 use Rattle.code_model.specs.Dangers.{DangersGuarded}
 

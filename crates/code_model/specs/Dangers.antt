@@ -8,10 +8,11 @@ use Rattle.msp_encode.specs.declared.instr.Dst.TheVariants as dst
 use Rattle.msp_encode.specs.declared.instr.Instr.{Instr}
 use Rattle.msp_encode.specs.declared.instr.Instr.TheVariants as instr
 use Rattle.msp_encode.specs.Spelling.{src_words}
+use Rattle.msp_encode.specs.Forms.{Writes, Changes, Pops, IsReti, WritesReg}
 use Rattle.code_model.specs.declared.object.Object.{Object}
 use Rattle.code_model.specs.Starts.{Stands, Start}
-use Rattle.code_model.specs.Guards.{Writes, Changes, Pops, Interior}
-use Rattle.code_model.specs.Rules.{IsReti, WritesReg, IsBranch, ChangesFlags, WritesMemory, ReadsStack, IsPushOrCall, IsBranchTarget}
+use Rattle.code_model.specs.Guards.{Interior}
+use Rattle.code_model.specs.Rules.{IsBranch, ChangesFlags, WritesMemory, ReadsStack, IsPushOrCall, IsBranchTarget}
 use Rattle.code_model.specs.Statics.{InStatic}
 
 abbrev pub IsAbsoluteDst : Dst → Type 0

@@ -1,12 +1,6 @@
 -- The guards: a guard is a fixed group of words just before the instruction that it guards, or before up to four of them.
 use Rattle.std.specs.Prelude.{◌≡◌, ℕ, zero, suc, ◌+◌, ◌*◌, ◌/◌, ◌%◌, ◌<◌, ◌≤◌, ◌⊎◌, ◌↔◌, List, [], ◌∷◌, length, slice_index}
 use Rattle.msp_encode.specs.declared.registers.TheConstants.{CHECKED, SP}
-use Rattle.msp_encode.specs.declared.instr.Op2.{Op2}
-use Rattle.msp_encode.specs.declared.instr.Op2.TheVariants.{Mov, Cmp, Bit}
-use Rattle.msp_encode.specs.declared.instr.Op1.{Op1}
-use Rattle.msp_encode.specs.declared.instr.Op1.TheVariants.{Push, Call}
-use Rattle.msp_encode.specs.declared.instr.Width.{Width}
-use Rattle.msp_encode.specs.declared.instr.Width.TheVariants.{Wide, Byte}
 use Rattle.msp_encode.specs.declared.instr.Src.{Src}
 use Rattle.msp_encode.specs.declared.instr.Src.TheVariants as src
 use Rattle.msp_encode.specs.declared.instr.Dst.{Dst}
@@ -14,6 +8,7 @@ use Rattle.msp_encode.specs.declared.instr.Dst.TheVariants as dst
 use Rattle.msp_encode.specs.declared.instr.Instr.{Instr}
 use Rattle.msp_encode.specs.declared.instr.Instr.TheVariants as instr
 use Rattle.msp_encode.specs.Spelling.{src_words}
+use Rattle.msp_encode.specs.Forms.{Writes, Changes, Stacks, Tests, IsMov, IsWide, SrcIs, DstIs, Pops}
 use Rattle.code_model.specs.declared.object.Object.{Object}
 use Rattle.code_model.specs.declared.parts.RelKind.TheVariants.{Lo, Hi}
 use Rattle.code_model.specs.declared.guards.Reach.{Reach}
@@ -78,45 +73,6 @@ abbrev pub FitAll : Object → ℕ → List Slot → Type 0
 FitAll o at [] = Unit {0}
 FitAll o at (s ∷ ss) = Fits o at s × FitAll o (at + 1) ss
 
--- CMP and BIT write no destination
-abbrev pub Writes : Op2 → Type 0
-Writes Cmp = ⊥
-Writes Bit = ⊥
-Writes _ = Unit {0}
-
--- RRC, RRA, SWPB and SXT write their operand
-abbrev pub Changes : Op1 → Type 0
-Changes Push = ⊥
-Changes Call = ⊥
-Changes _ = Unit {0}
-
--- PUSH and CALL
-abbrev pub Stacks : Op1 → Type 0
-Stacks Push = Unit {0}
-Stacks Call = Unit {0}
-Stacks _ = ⊥
-
-abbrev pub IsMov : Op2 → Type 0
-IsMov Mov = Unit {0}
-IsMov _ = ⊥
-
-abbrev pub IsWide : Width → Type 0
-IsWide Wide = Unit {0}
-IsWide Byte = ⊥
-
-abbrev pub SrcIs : Src → ℕ → Type 0
-SrcIs (src.Reg n) r = n ≡ r
-SrcIs _ r = ⊥
-
-abbrev pub DstIs : Dst → ℕ → Type 0
-DstIs (dst.Reg n) r = n ≡ r
-DstIs _ r = ⊥
-
--- the source is @Rn+ of this register
-abbrev pub Pops : Src → ℕ → Type 0
-Pops (src.AutoInc n) r = n ≡ r
-Pops _ r = ⊥
-
 -- the source is neither @R4+ nor @SP+
 abbrev pub IsQuiet : Src → Type 0
 IsQuiet s = (Pops s CHECKED → ⊥) × (Pops s SP → ⊥)
@@ -171,12 +127,6 @@ abbrev pub IsLoadSrc : Object → ℕ → Src → Type 0
 IsLoadSrc o first (src.Indirect n) = n ≡ CHECKED
 IsLoadSrc o first (src.AutoInc n) = (6 ≤ n) × (n ≤ 15) × (slice_index o.code (first + 1) ≡ 0x4004 + 256 * n) × (slice_index o.code (first + 3) ≡ 0) × Unrelocated o.relocs (first + 3)
 IsLoadSrc o first _ = ⊥
-
--- CMP and BIT
-abbrev pub Tests : Op2 → Type 0
-Tests Cmp = Unit {0}
-Tests Bit = Unit {0}
-Tests _ = ⊥
 
 abbrev pub IsLoadForm : Object → (first at : ℕ) → Instr → Type 0
 IsLoadForm o first at (instr.Two op w s d) = (IsLoadSrc o first s × IsOwnDst o (at + 1 + length (src_words s)) d)

@@ -2,14 +2,6 @@
 use Rattle.std.specs.Prelude.{◌≡◌, ℕ, ◌+◌, ◌*◌, ◌/◌, ◌%◌, ◌<◌, ◌≤◌, ◌⊎◌, List, length, ℤ, pos, ◌+ℤ◌, bit_and}
 use Rattle.std.specs.List.{Contains}
 use Rattle.msp_encode.specs.declared.registers.TheConstants.{PC, SP, SR}
-use Rattle.msp_encode.specs.declared.instr.Op2.{Op2}
-use Rattle.msp_encode.specs.declared.instr.Op2.TheVariants.{Bic, Bis}
-use Rattle.msp_encode.specs.declared.instr.Op1.{Op1}
-use Rattle.msp_encode.specs.declared.instr.Op1.TheVariants.{Call}
-use Rattle.msp_encode.specs.declared.instr.Cond.{Cond}
-use Rattle.msp_encode.specs.declared.instr.Cond.TheVariants.{Always}
-use Rattle.msp_encode.specs.declared.instr.Cg.{Cg}
-use Rattle.msp_encode.specs.declared.instr.Cg.TheVariants.{Zero, One, Two, Four, Eight, AllOnes}
 use Rattle.msp_encode.specs.declared.instr.Src.{Src}
 use Rattle.msp_encode.specs.declared.instr.Src.TheVariants as src
 use Rattle.msp_encode.specs.declared.instr.Dst.{Dst}
@@ -17,6 +9,7 @@ use Rattle.msp_encode.specs.declared.instr.Dst.TheVariants as dst
 use Rattle.msp_encode.specs.declared.instr.Instr.{Instr}
 use Rattle.msp_encode.specs.declared.instr.Instr.TheVariants as instr
 use Rattle.msp_encode.specs.Spelling.{src_words}
+use Rattle.msp_encode.specs.Forms.{Writes, Changes, Stacks, IsMov, IsWide, IsBisOrBic, IsCall, DstIs, SrcIs, Pops, IsImmediate, IsReti, IsJmp, WritesReg, const_value}
 use Rattle.code_model.specs.declared.object.Object.{Object}
 use Rattle.code_model.specs.declared.parts.Export.{Export}
 use Rattle.kernel_model.specs.declared.entries.TheConstants.{CALLS, EMITS, GOES, LEAVE, STACK_FAULT, STORE_FAULT, TICKS}
@@ -31,7 +24,7 @@ use Rattle.code_model.specs.declared.rules.Rule.TheVariants as rule
 use Rattle.code_model.specs.Starts.{Stands, Start, Bad}
 use Rattle.code_model.specs.Relocs.{HasReloc, Unrelocated}
 use Rattle.code_model.specs.Statics.{InStatic}
-use Rattle.code_model.specs.Guards.{Writes, Changes, Stacks, IsMov, IsWide, DstIs, SrcIs, Pops, Guarded, Own, UnitStart}
+use Rattle.code_model.specs.Guards.{Guarded, Own, UnitStart}
 
 abbrev pub number : Rule → ℕ
 number rule.Spelled = 1
@@ -51,41 +44,14 @@ number rule.Entry = 14
 
 -- ---- forms of instructions
 
-abbrev pub IsReti : Instr → Type 0
-IsReti instr.Reti = Unit {0}
-IsReti _ = ⊥
-
--- a register is written by an operation's destination
-abbrev pub WritesReg : Instr → ℕ → Type 0
-WritesReg (instr.Two op w s d) r = Writes op × DstIs d r
-WritesReg (instr.One op w s) r = Changes op × SrcIs s r
-WritesReg _ r = ⊥
-
-abbrev pub IsImmediate : Src → Type 0
-IsImmediate (src.Immediate x) = Unit {0}
-IsImmediate _ = ⊥
-
 -- `MOV #imm,PC`, whose first word is 4030
 abbrev pub IsBranch : Instr → Type 0
 IsBranch (instr.Two op w s d) = IsMov op × IsWide w × IsImmediate s × DstIs d PC
 IsBranch _ = ⊥
 
-abbrev pub const_value : Cg → ℕ
-const_value Zero = 0
-const_value One = 1
-const_value Two = 2
-const_value Four = 4
-const_value Eight = 8
-const_value AllOnes = 0xFFFF
-
 -- no bit outside 0107
 abbrev pub IsFlags : ℕ → Type 0
 IsFlags x = bit_and x 0xFEF8 ≡ 0
-
-abbrev pub IsBisOrBic : Op2 → Type 0
-IsBisOrBic Bic = Unit {0}
-IsBisOrBic Bis = Unit {0}
-IsBisOrBic _ = ⊥
 
 -- a constant or an unrelocated immediate within the flags
 abbrev pub NamesFlags : Object → ℕ → Src → Type 0
@@ -162,10 +128,6 @@ abbrev pub IsCallTarget : Object → ℕ → Src → Type 0
 IsCallTarget o at (src.Immediate x) = (HasReloc o.relocs at Code × IsUnitOffset o x) ⊎ (Unrelocated o.relocs at × IsCallEntry o.kind x)
 IsCallTarget o at _ = ⊥
 
-abbrev pub IsCall : Op1 → Type 0
-IsCall Call = Unit {0}
-IsCall _ = ⊥
-
 abbrev pub TransferMissesTarget : Object → ℕ → Instr → Type 0
 TransferMissesTarget o at (instr.Two op w s d) = IsBranch (instr.Two op w s d) × (IsBranchTarget o (at + 1) s → ⊥)
 TransferMissesTarget o at (instr.One op w s) = IsCall op × (IsCallTarget o (at + 1) s → ⊥)
@@ -177,14 +139,6 @@ IsJumpTarget o at k = (t : ℕ) × UnitStart o t × (pos t ≡ pos (at + 1) +ℤ
 abbrev pub JumpMissesUnit : Object → ℕ → Instr → Type 0
 JumpMissesUnit o at (instr.Jump c k) = IsJumpTarget o at k → ⊥
 JumpMissesUnit o at _ = ⊥
-
-abbrev pub IsAlways : Cond → Type 0
-IsAlways Always = Unit {0}
-IsAlways _ = ⊥
-
-abbrev pub IsJmp : Instr → Type 0
-IsJmp (instr.Jump c k) = IsAlways c
-IsJmp _ = ⊥
 
 abbrev pub RunsOff : Object → ℕ → Instr → ℕ → Type 0
 RunsOff o at i n = (at + n ≡ length o.code) × (IsJmp i → ⊥) × (IsBranch i → ⊥)

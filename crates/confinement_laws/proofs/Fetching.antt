@@ -9,6 +9,7 @@ use Rattle.msp_encode.specs.declared.instr.Dst.TheVariants as dst
 use Rattle.msp_encode.specs.declared.instr.Instr.{Instr}
 use Rattle.msp_encode.specs.declared.instr.Instr.TheVariants as instr
 use Rattle.msp_encode.specs.Spelling.{First, words_after, src_words, dst_words}
+use Rattle.msp_encode.specs.Forms.{IsJmp}
 use Rattle.code_model.specs.declared.object.Object.{Object}
 use Rattle.code_model.specs.declared.parts.RelKind.{RelKind}
 use Rattle.code_model.specs.declared.guards.GuardKind.{GuardKind}
@@ -18,7 +19,7 @@ use Rattle.code_model.specs.declared.rules.Rule.TheVariants as rule
 use Rattle.code_model.specs.Relocs.{HasReloc, Unrelocated}
 use Rattle.code_model.specs.Starts.{Begins, Stands, Start}
 use Rattle.code_model.specs.Guards.{IsLoad, guard_words, Fits, Guarded}
-use Rattle.code_model.specs.Rules.{SrcCarries, DstCarries, Carries, IsRightWord, IsJmp, IsBranch}
+use Rattle.code_model.specs.Rules.{SrcCarries, DstCarries, Carries, IsRightWord, IsBranch}
 use Rattle.code_model.specs.Verdicts.{IsAccepted}
 use Rattle.code_laws.proofs.Standing.{size_most, same_instr, same_size}
 use Rattle.code_laws.proofs.Starting.{starts_apart, next_start}
@@ -32,7 +33,7 @@ use Rattle.node_model.specs.Placed.{IsWellPlaced, CodeStands, StandsIn, address}
 use Rattle.node_model.specs.Good.{guard_of, IsOf}
 use Rattle.confinement_laws.proofs.Lines.{line, line_words, IsLine, SlotWord, Worded, worded-as, words-as, begins-line}
 use Rattle.confinement_laws.proofs.Runs.{fit-at, line-least, line-few, line-ends}
-use Rattle.confinement_laws.proofs.Guarding.{stands-first}
+use Rattle.code_laws.proofs.Begins.{stands_first}
 use Rattle.confinement_laws.proofs.Placing.{placed, placed-begins, size-is}
 
 -- one instruction is fetched at an address
@@ -122,7 +123,7 @@ placed-fetched d m at i n pc s t st e =
     let same : words_from m (address d at) ≡ word_at m (address d at) ∷ words_in d m at 1 ∷ words_in d m at 2 ∷ [] =
     ap (λ (x : ℕ). word_at m (address d at) ∷ x ∷ word_at m (sum_of (address d at) 4) ∷ []) p1 ∙ ap (λ (x : ℕ). word_at m (address d at) ∷ words_in d m at 1 ∷ x ∷ []) p2 in
     let plain = s.code.plain at t.below (first-unrelocated d.object d.units at s.accepted t) in
-    let begun = placed-begins i (words_in d m at) (word_at m (address d at)) n (subst (First i) (sym plain) (stands-first d.object.code at i n st))
+    let begun = placed-begins i (words_in d m at) (word_at m (address d at)) n (subst (First i) (sym plain) (stands_first d.object.code at i n st))
     (size-is (drop at d.object.code) i n st) (size_most i (drop at d.object.code) n st) in
     subst (λ (x : ℕ). IsFetched m x (placed i (words_in d m at)) n) (sym e) (subst (λ (l : List ℕ). Begins l (placed i (words_in d m at)) n) (sym same) begun)
 

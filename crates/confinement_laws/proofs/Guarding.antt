@@ -10,56 +10,22 @@ use Rattle.code_model.specs.Starts.{Begins, Stands, Start}
 use Rattle.code_model.specs.Guards.{Guarded, CoversBy, Covers, Covered, OwnBy, Own, Interior, UnitStart}
 use Rattle.code_laws.specs.Laws.{GoesOnFirst}
 use Rattle.code_laws.proofs.Standing.{same_instr, same_size}
-use Rattle.code_laws.proofs.Runs.{base_before, first_before}
+use Rattle.code_laws.proofs.DangerLemmas.{BeginsAt, own_first}
 use Rattle.confinement_laws.proofs.Lines.{save}
 use Rattle.confinement_laws.proofs.Runs.{first-word, save-stands}
 
--- a list that begins with an instruction has its first word
-pub begins-first : (l : List ℕ) (i : Instr) (n : ℕ) → Begins l i n → First i (get_or l 0 0)
-begins-first [] i zero h = absurd h.1
-begins-first [] i (suc n) h = absurd h.1
-begins-first (x ∷ xs) i zero h = absurd h.1
-begins-first (x ∷ xs) i (suc n) h = h.1.0
-
-pub stands-first : (code : List ℕ) (at : ℕ) (i : Instr) (n : ℕ) → Stands code at i n → First i (get_or code at 0)
-stands-first code at i n h =
-    let e : at + 0 ≡ at = omega arith in
-    subst (First i) (get_or-drop at code 0 0 ∙ ap (λ (x : ℕ). get_or code x 0) e) (begins-first (drop at code) i n h)
-
--- a guarded instruction is interior
-pub guarded-interior : (o : Object) (at : ℕ) (g : GuardKind) → Guarded o at g → Interior o at
-unfolding Covered Covers CoversBy
-guarded-interior o at g h = (h.start, (at, omega arith, (g, (h, first_before o at g h))))
-
--- the guard of a unit start that is a guard's own word begins there
-pub record Begun (o : Object) (at : ℕ) : Type 0 where
-  pub guarded : ℕ
-  pub kind : GuardKind
-  pub by : Guarded o guarded kind
-  pub first : by.first ≡ at
-
-own-begun : (o : Object) (at : ℕ) → UnitStart o at → Own o at → Begun o at
-unfolding Covered Covers CoversBy Own OwnBy
-own-begun o at u (top, (k, (j, (low, high)))) = elim (cases_order j.first at) [
-  | inl same ↦ record { guarded = top; kind = k; by = j; first = same }
-  | inr other ↦ elim other [
-    | inl less ↦ absurd (u.1 (u.0, (top, omega (arith, high, base_before o top k j), (k, (j, less)))))
-    | inr more ↦ absurd (omega (arith, low, more))
-  ]
-]
-
-begun-word : (o : Object) (at : ℕ) → Begun o at → get_or o.code at 0 ≡ 16901
+begun-word : (o : Object) (at : ℕ) → BeginsAt o at → get_or o.code at 0 ≡ 16901
 begun-word o at b = ap (λ (x : ℕ). get_or o.code x 0) (sym b.first) ∙ first-word o b.guarded b.kind b.by
 
 pub own-first : (o : Object) (at : ℕ) → UnitStart o at → Own o at → get_or o.code at 0 ≡ 16901
-own-first o at u w = begun-word o at (own-begun o at u w)
+own-first o at u w = begun-word o at (own_first o at u w)
 
 -- ---- what follows an instruction
 
 -- a unit start goes on to a unit start, or to the second word of a guard that begins there
 pub data GoesOn (o : Object) (at n : ℕ) (i : Instr) : Type 0 where
   ToUnit : UnitStart o (at + n) → GoesOn o at n i
-  IntoGuard : Begun o at → i ≡ save → n ≡ 1 → GoesOn o at n i
+  IntoGuard : BeginsAt o at → i ≡ save → n ≡ 1 → GoesOn o at n i
 
 into-guard : GoesOnFirst → (o : Object) (at n : ℕ) (i : Instr) → UnitStart o at → Stands o.code at i n → Covered o (at + n) → GoesOn o at n i
 unfolding Covered Covers CoversBy

@@ -9,13 +9,13 @@ use Rattle.msp_encode.specs.declared.instr.Src.TheVariants as src
 use Rattle.msp_encode.specs.declared.instr.Dst.TheVariants as dst
 use Rattle.msp_encode.specs.declared.instr.Instr.{Instr}
 use Rattle.msp_encode.specs.declared.instr.Instr.TheVariants as instr
-use Rattle.code_model.specs.Guards.{Guarded, UnitStart, Pops as PopsOf, IsGrowthForm}
+use Rattle.msp_encode.specs.Forms.{Pops as PopsOf, changes}
+use Rattle.code_model.specs.Guards.{Guarded, UnitStart, IsGrowthForm}
 use Rattle.code_model.specs.Guards as guards
 use Rattle.code_model.specs.declared.guards.GuardKind.{GuardKind}
 use Rattle.code_model.specs.declared.guards.GuardKind.TheVariants as guard
 use Rattle.code_model.specs.Rules.{IsPushOrCall, ReadsStack, KeepsStores}
 use Rattle.machine_model.specs.Context.{reg}
-use Rattle.machine_model.specs.Alu.{changes}
 use Rattle.machine_model.specs.Does.{does, Effect}
 use Rattle.machine_model.specs.Fetching.{IsFetched}
 use Rattle.machine_laws.specs.Steady.{IsSteady, Limits}

@@ -8,9 +8,9 @@ use Rattle.msp_encode.specs.declared.instr.Op1.TheVariants.{Rrc, Swpb, Rra, Sxt,
 use Rattle.msp_encode.specs.declared.instr.Src.{Src}
 use Rattle.msp_encode.specs.declared.instr.Src.TheVariants as src
 use Rattle.msp_encode.specs.Spelling.{SrcRow}
-use Rattle.code_model.specs.Guards.{Writes, Changes, Pops, UnitStart}
+use Rattle.msp_encode.specs.Forms.{Writes, Changes, Pops, writes, changes}
+use Rattle.code_model.specs.Guards.{UnitStart}
 use Rattle.code_model.specs.Guards as guards
-use Rattle.machine_model.specs.Alu.{writes, changes}
 use Rattle.machine_model.specs.Does.{Effect}
 use Rattle.machine_laws.specs.Guarded.{IsQuiet, Passes}
 use Rattle.machine_laws.specs.Plain.{IsCalm, Goes}

@@ -14,6 +14,7 @@ use Rattle.msp_encode.specs.declared.instr.Dst.{Dst}
 use Rattle.msp_encode.specs.declared.instr.Dst.TheVariants as dst
 use Rattle.msp_encode.specs.declared.instr.Instr.{Instr}
 use Rattle.msp_encode.specs.declared.instr.Instr.TheVariants as instr
+use Rattle.msp_encode.specs.Forms.{IsMov, IsWide, Pops, SrcIs, DstIs}
 use Rattle.kernel_model.specs.declared.kinds.Kind.{Kind}
 use Rattle.kernel_model.specs.declared.kinds.Kind.TheVariants.{App, Module}
 use Rattle.code_model.specs.declared.parts.RelKind.TheVariants.{Code}
@@ -21,7 +22,7 @@ use Rattle.code_model.specs.declared.object.Object.{Object}
 use Rattle.code_model.specs.declared.guards.GuardKind.{GuardKind}
 use Rattle.code_model.specs.declared.guards.GuardKind.TheVariants as guard
 use Rattle.code_model.specs.Starts.{Stands, Start}
-use Rattle.code_model.specs.Guards.{IsMov, IsWide, Pops, SrcIs, DstIs, IsGrowthForm, IsPopForm, IsSpForm, Serves, most_served, Guarded, UnitStart}
+use Rattle.code_model.specs.Guards.{IsGrowthForm, IsPopForm, IsSpForm, Serves, most_served, Guarded, UnitStart}
 use Rattle.code_model.specs.Rules.{IsCallTarget, IsCallEntry, IsUnitOffset}
 use Rattle.machine_model.specs.Context.{reg}
 use Rattle.machine_model.specs.Does.{does, Effect}
@@ -35,7 +36,7 @@ use Rattle.node_model.specs.Placed.{StandsIn, address, bits}
 use Rattle.node_model.specs.Good.{IsAtPlace, Called, bounds}
 use Rattle.node_model.specs.Instructions.{Leads}
 use Rattle.confinement_laws.proofs.Placing.{placed, placed_src, size-is, operand-word}
-use Rattle.confinement_laws.proofs.Guarding.{stands-first}
+use Rattle.code_laws.proofs.Begins.{stands_first}
 use Rattle.confinement_laws.proofs.Fetching.{words_in, fetched-is}
 use Rattle.confinement_laws.proofs.Storing.{guarded-next}
 use Rattle.confinement_laws.proofs.Passing.{stack-leads, in-stack, quiet-src}
@@ -191,7 +192,7 @@ one-leads : CheckerLaws → PushLaw → CallLaw → (d : Domain) (low top : ℕ)
     → Grown d low top (does m c (placed (instr.One op w v) (words_in d m at)) n)
 one-leads laws push-stays call-stays d low top m c Push w v n k at s st h b f here next size room =
     let p = push-stays (bounds d low top) (bits d) m c w (placed_src v (words_in d m at 1)) n st (omega (arith, here, size, s.placed.code_high, next.0.below))
-    (quiet-src v (words_in d m at 1) _ _ (stands-first d.object.code at (instr.One Push w v) k b).source (omega arith) f.1) room in
+    (quiet-src v (words_in d m at 1) _ _ (stands_first d.object.code at (instr.One Push w v) k b).source (omega arith) f.1) room in
     record { leads = stack-leads d low top (reg c 0 + 2 * n) (at + k) _ p (omega (arith, here, size)) next; inside = p.inside }
 one-leads laws push-stays call-stays d low top m c Call w v n k at s st h b f here next size room = called v b (laws.calls d.object d.units at k Call w v s.accepted h.start b (laws.free d.object at guard.Growth h) tt)
   where

@@ -11,6 +11,7 @@ use Rattle.msp_encode.specs.declared.instr.Dst.TheVariants as dst
 use Rattle.msp_encode.specs.declared.instr.Instr.{Instr}
 use Rattle.msp_encode.specs.declared.instr.Instr.TheVariants as instr
 use Rattle.msp_encode.specs.Spelling.{src_words}
+use Rattle.msp_encode.specs.Forms.{IsJmp, IsImmediate}
 use Rattle.code_model.specs.declared.object.Object.{Object}
 use Rattle.code_model.specs.declared.guards.Reach.TheVariants as reach
 use Rattle.code_model.specs.declared.guards.GuardKind.{GuardKind}
@@ -18,7 +19,7 @@ use Rattle.code_model.specs.declared.guards.GuardKind.TheVariants as guard
 use Rattle.code_model.specs.Starts.{Stands, Start}
 use Rattle.code_model.specs.Relocs.{Unrelocated}
 use Rattle.code_model.specs.Guards.{IsStoreForm, IsWideForm, IsLoadSrc, Serves, reach_bytes, most_served, Guarded, Interior, UnitStart}
-use Rattle.code_model.specs.Rules.{IsJmp, IsImmediate, IsBranch, KeepsStores}
+use Rattle.code_model.specs.Rules.{IsBranch, KeepsStores}
 use Rattle.machine_model.specs.Context.{reg}
 use Rattle.machine_model.specs.Does.{does}
 use Rattle.machine_model.specs.Fetching.{IsFetched}
@@ -31,7 +32,7 @@ use Rattle.node_model.specs.Placed.{CodeStands, StandsIn, address, bits}
 use Rattle.node_model.specs.Good.{KeepsRegion, kept_end, kept_bounds, IsAtPlace, Within, bounds}
 use Rattle.node_model.specs.Instructions.{Leads}
 use Rattle.confinement_laws.proofs.Placing.{placed, size-is, operand-word}
-use Rattle.confinement_laws.proofs.Guarding.{stands-first}
+use Rattle.code_laws.proofs.Begins.{stands_first}
 use Rattle.confinement_laws.proofs.Fetching.{words_in, fetched-is, runs-on}
 use Rattle.confinement_laws.proofs.Leading.{are-bounds}
 use Rattle.confinement_laws.proofs.Passing.{in-region, region-leads, writes-true, changes-true, quiet-src}
@@ -106,7 +107,7 @@ near-store d m at most (instr.Two op w s (dst.Indexed k x)) n c st h f = (
   writes-true op f.0,
   f.1.0,
   omega (arith, dst-word d m at op w s k x n c st h f.1.3, f.1.2),
-  quiet-src s (words_in d m at 1) _ _ (stands-first d.object.code at (instr.Two op w s (dst.Indexed k x)) n h).source (omega arith) f.2,
+  quiet-src s (words_in d m at 1) _ _ (stands_first d.object.code at (instr.Two op w s (dst.Indexed k x)) n h).source (omega arith) f.2,
 )
 near-store d m at most (instr.Two op w s (dst.Reg k)) n c st h f = absurd f.1
 near-store d m at most (instr.Two op w s (dst.Symbolic x)) n c st h f = absurd f.1
@@ -120,7 +121,7 @@ exact-store d m at (instr.Two op w s (dst.Indexed k x)) n c st h f = (
   writes-true op f.0,
   f.1.0,
   omega (arith, dst-word d m at op w s k x n c st h f.1.2, f.1.1),
-  quiet-src s (words_in d m at 1) _ _ (stands-first d.object.code at (instr.Two op w s (dst.Indexed k x)) n h).source (omega arith) f.2,
+  quiet-src s (words_in d m at 1) _ _ (stands_first d.object.code at (instr.Two op w s (dst.Indexed k x)) n h).source (omega arith) f.2,
 )
 exact-store d m at (instr.Two op w s (dst.Reg k)) n c st h f = absurd f.1
 exact-store d m at (instr.Two op w s (dst.Symbolic x)) n c st h f = absurd f.1

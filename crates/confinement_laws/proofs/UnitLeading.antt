@@ -14,6 +14,7 @@ use Rattle.msp_encode.specs.declared.instr.Cond.{Cond}
 use Rattle.msp_encode.specs.declared.instr.Cond.TheVariants.{Always}
 use Rattle.msp_encode.specs.declared.instr.Instr.{Instr}
 use Rattle.msp_encode.specs.declared.instr.Instr.TheVariants as instr
+use Rattle.msp_encode.specs.Forms.{IsMov, IsJmp, IsAlways, writes}
 use Rattle.kernel_model.specs.declared.map.TheConstants.{CODE_POOL_END}
 use Rattle.kernel_model.specs.declared.kinds.Kind.{Kind}
 use Rattle.kernel_model.specs.declared.kinds.Kind.TheVariants.{App, Module}
@@ -21,10 +22,9 @@ use Rattle.code_model.specs.declared.parts.RelKind.TheVariants.{Code}
 use Rattle.code_model.specs.declared.guards.GuardKind.{GuardKind}
 use Rattle.code_model.specs.declared.guards.GuardKind.TheVariants as guard
 use Rattle.code_model.specs.Starts.{Stands, Start}
-use Rattle.code_model.specs.Guards.{Guarded, UnitStart, IsMov}
-use Rattle.code_model.specs.Rules.{IsBranchTarget, IsJumpTarget, IsUnitOffset, IsJumpEntry, IsJmp, IsAlways, IsBranch}
+use Rattle.code_model.specs.Guards.{Guarded, UnitStart}
+use Rattle.code_model.specs.Rules.{IsBranchTarget, IsJumpTarget, IsUnitOffset, IsJumpEntry, IsBranch}
 use Rattle.machine_model.specs.Context.{reg}
-use Rattle.machine_model.specs.Alu.{writes}
 use Rattle.machine_model.specs.Does.{does, holds, target, Effect}
 use Rattle.machine_laws.specs.Steady.{IsStatus, IsSteady}
 use Rattle.machine_laws.specs.Places.{TakesAddress, ComparesLimit, ComparesTop, ComparesNewLow}
@@ -37,7 +37,8 @@ use Rattle.node_model.specs.Good.{IsSomewhere, Within, Jumped, bounds}
 use Rattle.node_model.specs.Instructions.{Inside, Leads, UnitLaw}
 use Rattle.confinement_laws.proofs.Lines.{save}
 use Rattle.confinement_laws.proofs.Placing.{placed, size-is}
-use Rattle.confinement_laws.proofs.Guarding.{Begun, GoesOn, ToUnit, IntoGuard, goes-on}
+use Rattle.code_laws.proofs.DangerLemmas.{BeginsAt}
+use Rattle.confinement_laws.proofs.Guarding.{GoesOn, ToUnit, IntoGuard, goes-on}
 use Rattle.code_laws.proofs.Deciding.{back-target}
 use Rattle.confinement_laws.proofs.Fetching.{words_in, fetched-is, runs-on}
 use Rattle.confinement_laws.proofs.Leading.{are-bounds}
@@ -115,7 +116,7 @@ into-place d low top at next e guarded guard.Pop by first pc t =
 into-place d low top at next e guarded guard.Sp by first pc t =
     Within ComparesNewLow record { guarded = guarded; kind = guard.Sp; of = refl; by = by; pc = omega (arith, pc, first); saved = λ _. t; known = tt; same = λ r load has s. absurd has }
 
-save-leads : (d : Domain) (low top : ℕ) (m c : List ℕ) (at next : ℕ) (e : Effect) → Begun d.object at → IsSteady (bits d) low top c → Saves (bounds d low top) (bits d) next c e → next ≡ address d (at + 1) → Leads d low top e
+save-leads : (d : Domain) (low top : ℕ) (m c : List ℕ) (at next : ℕ) (e : Effect) → BeginsAt d.object at → IsSteady (bits d) low top c → Saves (bounds d low top) (bits d) next c e → next ≡ address d (at + 1) → Leads d low top e
 save-leads d low top m c at next e b st s a = record {
   good = record { steady = s.steady; somewhere = into-place d low top at next e b.guarded b.kind b.by b.first (s.pc ∙ a) (subst (IsStatus (bits d)) (sym s.saved) st.status) };
   inside = silent-all d low top e.written s.silent;

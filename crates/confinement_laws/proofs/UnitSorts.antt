@@ -15,17 +15,16 @@ use Rattle.msp_encode.specs.declared.instr.Dst.TheVariants as dst
 use Rattle.msp_encode.specs.declared.instr.Instr.{Instr}
 use Rattle.msp_encode.specs.declared.instr.Instr.TheVariants as instr
 use Rattle.msp_encode.specs.Spelling.{src_words, dst_words}
+use Rattle.msp_encode.specs.Forms.{Writes, IsMov, IsWide, IsImmediate, IsBisOrBic, const_value, writes}
 use Rattle.code_model.specs.declared.object.Object.{Object}
 use Rattle.code_model.specs.declared.guards.GuardKind.TheVariants as guard
 use Rattle.code_model.specs.declared.rules.Rule.TheVariants as rule
 use Rattle.code_model.specs.Starts.{Stands}
 use Rattle.code_model.specs.Relocs.{Unrelocated}
-use Rattle.code_model.specs.Guards.{UnitStart, Writes, IsMov, IsWide}
-use Rattle.code_model.specs.Rules.{IsBranch, IsImmediate, IsBisOrBic, NamesFlags, ChangesFlags, const_value}
+use Rattle.code_model.specs.Guards.{UnitStart}
+use Rattle.code_model.specs.Rules.{IsBranch, NamesFlags, ChangesFlags}
 use Rattle.code_model.specs.Statics.{InStatic}
-use Rattle.machine_model.specs.Operands.{constant}
 use Rattle.code_laws.proofs.Standing.{same_instr}
-use Rattle.machine_model.specs.Alu.{writes}
 use Rattle.machine_laws.specs.Plain.{IsCalm, Plain, Tests, ToReg, ToData, SetsBits, ClearsBits, SetsConst, ClearsConst, IsMask}
 use Rattle.machine_laws.proofs.Masks.{mask-by_and}
 use Rattle.confinement_laws.specs.Given.{CheckerLaws}
@@ -33,7 +32,8 @@ use Rattle.load_model.specs.Domains.{Domain}
 use Rattle.node_model.specs.Placed.{StandsIn, CodeStands}
 use Rattle.confinement_laws.proofs.Lines.{save}
 use Rattle.confinement_laws.proofs.Placing.{placed, placed_src, size-is, operand-word}
-use Rattle.confinement_laws.proofs.Guarding.{stands-first, own-first}
+use Rattle.code_laws.proofs.Begins.{stands_first}
+use Rattle.confinement_laws.proofs.Guarding.{own-first}
 use Rattle.code_laws.proofs.Deciding.{Decided, stable, all-three, both, static-or-not, unrelocated-or-not}
 use Rattle.confinement_laws.proofs.Fetching.{words_in}
 use Rattle.confinement_laws.proofs.Passing.{writes-true, writes-or-not, calm-src}
@@ -107,14 +107,6 @@ const-small Four = omega arith
 const-small Eight = omega arith
 const-small AllOnes = omega arith
 
-const-same : (k : Cg) → const_value k ≡ constant k
-const-same Zero = refl
-const-same One = refl
-const-same Two = refl
-const-same Four = refl
-const-same Eight = refl
-const-same AllOnes = refl
-
 -- an unrelocated immediate of an operation of two operands in memory
 pub immediate-same : (d : Domain) (m : List ℕ) (at : ℕ) (op : Op2) (w : Width) (x : ℕ) (e : Dst) (n : ℕ) → CodeStands d m → at < length d.object.code → Stands d.object.code at (instr.Two op w (src.Immediate x) e) n
     → Unrelocated d.object.relocs (at + 1) → words_in d m at 1 ≡ x
@@ -133,8 +125,8 @@ immediate-mask d m at op w x n u f =
 
 flags-plain : (d : Domain) (m : List ℕ) (at : ℕ) (op : Op2) (w : Width) (s : Src) (n : ℕ) → FreeUnit d m at (instr.Two op w s (dst.Reg 2)) n → IsBisOrBic op → IsWide w → NamesFlags d.object at s
     → Plain d.lo d.hi (placed (instr.Two op w s (dst.Reg 2)) (words_in d m at))
-flags-plain d m at Bis Wide (src.Const k) n u b v f = SetsConst k (subst IsMask (const-same k) (mask-by_and (const_value k) (const-small k) f))
-flags-plain d m at Bic Wide (src.Const k) n u b v f = ClearsConst k (subst IsMask (const-same k) (mask-by_and (const_value k) (const-small k) f))
+flags-plain d m at Bis Wide (src.Const k) n u b v f = SetsConst k (mask-by_and (const_value k) (const-small k) f)
+flags-plain d m at Bic Wide (src.Const k) n u b v f = ClearsConst k (mask-by_and (const_value k) (const-small k) f)
 flags-plain d m at Bis Wide (src.Immediate x) n u b v f = SetsBits (words_in d m at 1) (immediate-mask d m at Bis Wide x n u f)
 flags-plain d m at Bic Wide (src.Immediate x) n u b v f = ClearsBits (words_in d m at 1) (immediate-mask d m at Bic Wide x n u f)
 flags-plain d m at op Byte s n u b v f = absurd v
@@ -170,7 +162,7 @@ to_sr-sort d m at op w s n u h =
 
 two-calm : (d : Domain) (m : List ℕ) (at : ℕ) (op : Op2) (w : Width) (s : Src) (e : Dst) (n : ℕ) → FreeUnit d m at (instr.Two op w s e) n → IsCalm (placed_src s (words_in d m at 1))
 two-calm d m at op w s e n u =
-    calm-src s (words_in d m at 1) _ _ (stands-first d.object.code at (instr.Two op w s e) n u.stands).source (omega arith)
+    calm-src s (words_in d m at 1) _ _ (stands_first d.object.code at (instr.Two op w s e) n u.stands).source (omega arith)
     (λ p. u.all.accepted.none at rule.Pop (u.free, breaks-at d m at (instr.Two op w s e) n u rule.Pop (p, not-guarded d m at (instr.Two op w s e) n u guard.Pop tt)))
 
 writes-sort : CheckerLaws → (d : Domain) (m : List ℕ) (at : ℕ) (op : Op2) (w : Width) (s : Src) (e : Dst) (n : ℕ) → FreeUnit d m at (instr.Two op w s e) n → Writes op → Sort d m at (instr.Two op w s e)
@@ -178,7 +170,7 @@ writes-sort laws d m at op w s (dst.Reg zero) n u h = to_pc-sort laws d m at op 
 writes-sort laws d m at op w s (dst.Reg (suc zero)) n u h = absurd (u.all.accepted.none at rule.Sp (u.free, breaks-at d m at _ n u rule.Sp ((h, refl), not-guarded d m at _ n u guard.Sp tt)))
 writes-sort laws d m at op w s (dst.Reg (suc (suc zero))) n u h = to_sr-sort d m at op w s n u h
 writes-sort laws d m at op w s (dst.Reg (suc (suc (suc k)))) n u h =
-    let f = stands-first d.object.code at (instr.Two op w s (dst.Reg (suc (suc (suc k))))) n u.stands in
+    let f = stands_first d.object.code at (instr.Two op w s (dst.Reg (suc (suc (suc k))))) n u.stands in
     IsPlain _ (ToReg op w (placed_src s (words_in d m at 1)) (suc (suc (suc k))) (writes-true op h) (two-calm d m at op w s _ n u) (omega arith) (omega (arith, f.destination.0)))
 writes-sort laws d m at op w s (dst.Absolute x) n u h =
     let a : at + 1 + length (src_words s) ≡ at + (1 + length (src_words s)) = omega arith in

@@ -15,13 +15,14 @@ use Rattle.msp_encode.specs.declared.instr.Cond.{Cond}
 use Rattle.msp_encode.specs.declared.instr.Instr.{Instr}
 use Rattle.msp_encode.specs.declared.instr.Instr.TheVariants as instr
 use Rattle.msp_encode.specs.Spelling.{src_words, TakesImmediate, TakesConst}
+use Rattle.msp_encode.specs.Forms.{Changes}
 use Rattle.code_model.specs.declared.parts.RelKind.TheVariants.{Data}
 use Rattle.code_model.specs.declared.guards.GuardKind.{GuardKind}
 use Rattle.code_model.specs.declared.guards.GuardKind.TheVariants as guard
 use Rattle.code_model.specs.declared.rules.Rule.{Rule}
 use Rattle.code_model.specs.declared.rules.Rule.TheVariants as rule
 use Rattle.code_model.specs.Starts.{Stands, Start}
-use Rattle.code_model.specs.Guards.{Guarded, Own, UnitStart, Changes}
+use Rattle.code_model.specs.Guards.{Guarded, Own, UnitStart}
 use Rattle.code_model.specs.Rules.{IsBranchTarget, IsJumpTarget, KeepsStores, IsGuardedStore, Breaks, BreaksAt}
 use Rattle.code_model.specs.Statics.{InStatic}
 use Rattle.machine_model.specs.Memory.{word_at}
@@ -29,7 +30,8 @@ use Rattle.machine_laws.specs.Plain.{Plain, ChangesReg, ChangesData}
 use Rattle.load_model.specs.Domains.{Domain}
 use Rattle.node_model.specs.Placed.{StandsIn, address}
 use Rattle.confinement_laws.proofs.Placing.{placed, size-is, operand-word}
-use Rattle.confinement_laws.proofs.Guarding.{stands-first, guarded-interior}
+use Rattle.code_laws.proofs.Begins.{stands_first}
+use Rattle.code_laws.proofs.DangerLemmas.{guarded_interior}
 use Rattle.code_laws.proofs.Deciding.{stable, static-or-not}
 use Rattle.code_laws.proofs.Runs.{first_before}
 use Rattle.confinement_laws.specs.Given.{CheckerLaws}
@@ -75,7 +77,7 @@ no-store d m at i n u (g, (keeps, h)) = u.bare g (keeps-asked g keeps) h
 
 -- a unit start that is none of a guard's own
 pub unit-free : (d : Domain) (m : List ℕ) (at : ℕ) (i : Instr) (n : ℕ) → StandsIn d m → UnitStart d.object at → Stands d.object.code at i n → (Own d.object at → ⊥) → FreeUnit d m at i n
-unit-free d m at i n s u h free = record { all = s; start = u.0; bare = λ g a j. u.1 (guarded-interior d.object at g j); stands = h; free = free }
+unit-free d m at i n s u h free = record { all = s; start = u.0; bare = λ g a j. u.1 (guarded_interior d.object at g j); stands = h; free = free }
 
 -- the instruction of a load guard
 pub loaded-free : CheckerLaws → (d : Domain) (m : List ℕ) (at : ℕ) (h : Guarded d.object at guard.Load) → StandsIn d m → FreeUnit d m at h.instr h.words
@@ -110,7 +112,7 @@ one-plain d m at op w (src.Reg zero) n u c = absurd (u.all.accepted.none at rule
 one-plain d m at op w (src.Reg (suc zero)) n u c = absurd (u.all.accepted.none at rule.Sp (u.free, breaks-at d m at _ n u rule.Sp ((c, refl), not-guarded d m at _ n u guard.Sp tt)))
 one-plain d m at op w (src.Reg (suc (suc zero))) n u c = absurd (u.all.accepted.none at rule.Sr (u.free, breaks-at d m at _ n u rule.Sr ((c, refl), λ b. b)))
 one-plain d m at op w (src.Reg (suc (suc (suc k)))) n u c =
-    let f = stands-first d.object.code at (instr.One op w (src.Reg (suc (suc (suc k))))) n u.stands in
+    let f = stands_first d.object.code at (instr.One op w (src.Reg (suc (suc (suc k))))) n u.stands in
     ChangesReg op w (suc (suc (suc k))) (changes-true op c) (omega arith) (omega (arith, f.source.0))
 one-plain d m at op w (src.Absolute x) n u c =
     let i = instr.One op w (src.Absolute x) in
@@ -122,7 +124,7 @@ one-plain d m at op w (src.Indexed k x) n u c = absurd (u.all.accepted.none at r
 one-plain d m at op w (src.Symbolic x) n u c = absurd (u.all.accepted.none at rule.Store (u.free, breaks-at d m at _ n u rule.Store ((c, tt), no-store d m at _ n u)))
 one-plain d m at op w (src.Indirect k) n u c = absurd (u.all.accepted.none at rule.Store (u.free, breaks-at d m at _ n u rule.Store ((c, tt), no-store d m at _ n u)))
 one-plain d m at op w (src.AutoInc k) n u c = absurd (u.all.accepted.none at rule.Store (u.free, breaks-at d m at _ n u rule.Store ((c, tt), no-store d m at _ n u)))
-one-plain d m at op w (src.Immediate x) n u c = absurd (no-immediate op c (stands-first d.object.code at (instr.One op w (src.Immediate x)) n u.stands).takes)
+one-plain d m at op w (src.Immediate x) n u c = absurd (no-immediate op c (stands_first d.object.code at (instr.One op w (src.Immediate x)) n u.stands).takes)
   where
     no-immediate : (op : Op1) → Changes op → TakesImmediate op → ⊥
     no-immediate Rrc c t = t
@@ -131,7 +133,7 @@ one-plain d m at op w (src.Immediate x) n u c = absurd (no-immediate op c (stand
     no-immediate Sxt c t = t
     no-immediate Push c t = c
     no-immediate Call c t = c
-one-plain d m at op w (src.Const k) n u c = absurd (no-const op c (stands-first d.object.code at (instr.One op w (src.Const k)) n u.stands).takes)
+one-plain d m at op w (src.Const k) n u c = absurd (no-const op c (stands_first d.object.code at (instr.One op w (src.Const k)) n u.stands).takes)
   where
     no-const : (op : Op1) → Changes op → TakesConst op → ⊥
     no-const Rrc c t = t

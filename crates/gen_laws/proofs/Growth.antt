@@ -12,6 +12,7 @@ use Rattle.msp_encode.specs.declared.instr.Src.{Src}
 use Rattle.msp_encode.specs.declared.instr.Src.TheVariants as src
 use Rattle.msp_encode.specs.declared.instr.Dst.TheVariants as dst
 use Rattle.msp_encode.specs.declared.instr.Instr.TheVariants as instr
+use Rattle.msp_encode.specs.Forms.{writes}
 use Rattle.code_model.specs.declared.parts.RelKind.{RelKind}
 use Rattle.code_model.specs.declared.parts.Reloc.{Reloc}
 use Rattle.code_model.specs.Fields.{Fields}
@@ -21,7 +22,7 @@ use Rattle.insert_model.specs.declared.piece.Piece.{Piece}
 use Rattle.insert_model.specs.Words.{piece_words, unit_words}
 use Rattle.insert_model.specs.Source.{line_at, own}
 use Rattle.insert_model.specs.Guards.{pop_guard}
-use Rattle.insert_model.specs.Units.{static_bytes, aim, is_static, is_popped, writes, writing, popping, two_unit, unit}
+use Rattle.insert_model.specs.Units.{static_bytes, aim, is_static, is_popped, writing, popping, two_unit, unit}
 use Rattle.insert_model.specs.Laws.{line_units}
 use Rattle.insert_laws.specs.Pieces.{size_of}
 use Rattle.gen_model.specs.declared.block.Block as blocks

@@ -19,12 +19,12 @@ use Rattle.code_model.specs.declared.parts.RelKind.{RelKind}
 use Rattle.code_model.specs.declared.parts.RelKind.TheVariants.{Code}
 use Rattle.code_model.specs.Fields.{Fields, fields}
 use Rattle.code_model.specs.declared.rules.Rule.TheVariants as rule
-use Rattle.code_model.specs.Guards.{IsMov, IsWide, DstIs}
-use Rattle.code_model.specs.Rules.{IsBranch, IsImmediate, IsJmp, IsAlways, BreaksAt}
+use Rattle.code_model.specs.Rules.{IsBranch, BreaksAt}
 use Rattle.code_laws.specs.Laws.{IsSame}
 use Rattle.insert_model.specs.declared.line.Line.{Line}
 use Rattle.insert_model.specs.declared.piece.Piece.{Piece}
 use Rattle.msp_encode.specs.Spelled.{count}
+use Rattle.msp_encode.specs.Forms.{IsMov, IsWide, DstIs, IsImmediate, IsJmp, IsAlways}
 use Rattle.insert_model.specs.Words.{unit_words}
 use Rattle.insert_model.specs.Source.{own}
 use Rattle.insert_model.specs.Guards.{jump, branch, pop_r4, pop_guard}

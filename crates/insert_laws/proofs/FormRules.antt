@@ -23,10 +23,11 @@ use Rattle.code_model.specs.declared.rules.Rule.{Rule}
 use Rattle.code_model.specs.declared.rules.Rule.TheVariants as rule
 use Rattle.code_model.specs.Starts.{Stands, Start, Bad}
 use Rattle.code_model.specs.Guards.{high_word, Guarded, Own}
-use Rattle.code_model.specs.Rules.{IsReti, WritesReg, IsBranch, WritesMemory, WritesWild, ReadsStack, IsPushOrCall, IsGuardedStore, BreaksAt, HasWrongReloc, Refuses}
+use Rattle.code_model.specs.Rules.{IsBranch, WritesMemory, WritesWild, ReadsStack, IsPushOrCall, IsGuardedStore, BreaksAt, HasWrongReloc, Refuses}
 use Rattle.code_laws.specs.Laws.{IsSame}
 use Rattle.insert_model.specs.declared.piece.Piece.{Piece}
 use Rattle.msp_encode.specs.Spelled.{count}
+use Rattle.msp_encode.specs.Forms.{IsReti, WritesReg}
 use Rattle.insert_model.specs.Words.{unit_words}
 use Rattle.insert_model.specs.Guards.{region_guard}
 use Rattle.insert_model.specs.Units.{static_bytes}

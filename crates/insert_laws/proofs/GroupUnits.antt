@@ -12,6 +12,7 @@ use Rattle.msp_encode.specs.declared.instr.Dst.TheVariants as dst
 use Rattle.msp_encode.specs.declared.instr.Instr.{Instr}
 use Rattle.msp_encode.specs.declared.instr.Instr.TheVariants as instr
 use Rattle.msp_encode.specs.Spelling.{DstFits, InstrFits}
+use Rattle.msp_encode.specs.Forms.{writes}
 use Rattle.code_model.specs.declared.object.Object.{Object}
 use Rattle.code_model.specs.declared.guards.Reach.{Reach}
 use Rattle.code_model.specs.declared.guards.Reach.TheVariants as reach
@@ -22,7 +23,7 @@ use Rattle.insert_model.specs.declared.line.Line.{Line}
 use Rattle.insert_model.specs.declared.piece.Piece.{Piece}
 use Rattle.insert_model.specs.Source.{own}
 use Rattle.insert_model.specs.Guards.{jump, wide_guard}
-use Rattle.insert_model.specs.Units.{static_bytes, unit, writes}
+use Rattle.insert_model.specs.Units.{static_bytes, unit}
 use Rattle.insert_model.specs.Groups.{Cell, cell_by, cell_of, cell, difference, is_reached, is_near_cell, is_target, if_near, greatest, Group, members}
 use Rattle.insert_model.specs.Layout.{jump_by, line_unit_of, line_unit, difference_of, beside_by, beside, reach_of, reach_from, wide_unit, wide_unit_of, unit_of_lines, unit_in, is_short, final_offset, final}
 use Rattle.insert_model.specs.Laws.{Joins, IsRun, IsGroup}

@@ -17,11 +17,12 @@ use Rattle.code_model.specs.declared.guards.GuardKind.TheVariants as guard
 use Rattle.code_model.specs.declared.rules.Rule.TheVariants as rule
 use Rattle.code_model.specs.Starts.{Start}
 use Rattle.code_model.specs.Guards.{reach_bytes, Own, UnitStart, IsGrowthForm, IsPopForm, IsSpForm}
-use Rattle.code_model.specs.Rules.{IsAlways, IsJmp, IsJumpTarget, JumpMissesUnit, BreaksAt}
+use Rattle.code_model.specs.Rules.{IsJumpTarget, JumpMissesUnit, BreaksAt}
 use Rattle.code_laws.specs.Laws.{IsSame, GuardsApart}
 use Rattle.insert_model.specs.declared.line.Line.{Line}
 use Rattle.insert_model.specs.declared.piece.Piece.{Piece}
 use Rattle.msp_encode.specs.Spelled.{count}
+use Rattle.msp_encode.specs.Forms.{IsAlways, IsJmp}
 use Rattle.insert_model.specs.Words.{piece_words}
 use Rattle.insert_model.specs.Source.{own}
 use Rattle.insert_model.specs.Guards.{jump, branch}

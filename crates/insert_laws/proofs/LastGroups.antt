@@ -7,10 +7,10 @@ use Rattle.msp_encode.specs.declared.instr.Instr.TheVariants as instr
 use Rattle.code_model.specs.declared.object.Object.{Object}
 use Rattle.code_model.specs.Fields.{fields}
 use Rattle.code_model.specs.Guards.{reach_bytes}
-use Rattle.code_model.specs.Rules.{IsJmp}
 use Rattle.code_model.specs.Verdicts.{AllSpelled}
 use Rattle.insert_model.specs.declared.line.Line.{Line}
 use Rattle.msp_encode.specs.Spelled.{count}
+use Rattle.msp_encode.specs.Forms.{IsJmp}
 use Rattle.insert_model.specs.Source.{lines}
 use Rattle.insert_model.specs.Groups.{Cell, Group, last_of, members, groups}
 use Rattle.insert_model.specs.Faults.{SetsPc}

@@ -9,11 +9,12 @@ use Rattle.msp_encode.specs.declared.instr.Dst.{Dst}
 use Rattle.msp_encode.specs.declared.instr.Dst.TheVariants as dst
 use Rattle.msp_encode.specs.declared.instr.Instr.{Instr}
 use Rattle.msp_encode.specs.declared.instr.Instr.TheVariants as instr
+use Rattle.msp_encode.specs.Forms.{Changes, Stacks, SrcIs, DstIs, Pops, IsReti, WritesReg, IsImmediate}
 use Rattle.code_model.specs.declared.parts.RelKind.{RelKind}
 use Rattle.code_model.specs.declared.guards.GuardKind.{GuardKind}
 use Rattle.code_model.specs.declared.guards.GuardKind.TheVariants as guard
-use Rattle.code_model.specs.Guards.{reach_bytes, Changes, Stacks, SrcIs, DstIs, Pops, IsAtR4, IsHigh, IsGrowthForm, IsPopForm, IsSpForm}
-use Rattle.code_model.specs.Rules.{IsReti, WritesReg, IsImmediate, IsBranch, IsMemoryDst, IsMemorySrc, WritesMemory, ReadsStack, IsPushOrCall, KeepsStores}
+use Rattle.code_model.specs.Guards.{reach_bytes, IsAtR4, IsHigh, IsGrowthForm, IsPopForm, IsSpForm}
+use Rattle.code_model.specs.Rules.{IsBranch, IsMemoryDst, IsMemorySrc, WritesMemory, ReadsStack, IsPushOrCall, KeepsStores}
 use Rattle.insert_model.specs.declared.piece.Piece.{Piece}
 use Rattle.insert_laws.specs.Pieces.{moved_src, moved_dst, moved_instr, standing}
 use Rattle.insert_laws.specs.Shapes.{IsThroughR4, IsNearR4, IsServed, IsGuarding, Shaped, Ends, Free, Guards}

@@ -14,14 +14,15 @@ use Rattle.msp_encode.specs.declared.instr.Src.TheVariants as src
 use Rattle.msp_encode.specs.declared.instr.Instr.{Instr}
 use Rattle.msp_encode.specs.declared.instr.Instr.TheVariants as instr
 use Rattle.msp_encode.specs.Spelling.{InstrFits}
+use Rattle.msp_encode.specs.Forms.{Changes, Stacks, Pops, IsReti, WritesReg}
 use Rattle.code_model.specs.declared.object.Object.{Object}
 use Rattle.code_model.specs.declared.parts.RelKind.{RelKind}
 use Rattle.code_model.specs.declared.guards.Reach.{Reach}
 use Rattle.code_model.specs.declared.guards.GuardKind.{GuardKind}
 use Rattle.code_model.specs.declared.guards.GuardKind.TheVariants as guard
 use Rattle.code_model.specs.Fields.{fields}
-use Rattle.code_model.specs.Guards.{reach_bytes, Changes, Stacks, Pops, IsQuiet, IsGrowthForm}
-use Rattle.code_model.specs.Rules.{IsReti, WritesReg, IsMemorySrc, WritesMemory, ReadsStack, IsPushOrCall}
+use Rattle.code_model.specs.Guards.{reach_bytes, IsQuiet, IsGrowthForm}
+use Rattle.code_model.specs.Rules.{IsMemorySrc, WritesMemory, ReadsStack, IsPushOrCall}
 use Rattle.insert_model.specs.declared.aim.Aim.TheVariants.{ToMemory, Elsewhere}
 use Rattle.insert_model.specs.declared.line.Line.{Line}
 use Rattle.insert_model.specs.declared.piece.Piece.{Piece}

@@ -11,10 +11,11 @@ use Rattle.code_model.specs.declared.parts.RelKind.{RelKind}
 use Rattle.code_model.specs.declared.guards.Reach.{Reach}
 use Rattle.code_model.specs.declared.guards.GuardKind.{GuardKind}
 use Rattle.code_model.specs.declared.guards.GuardKind.TheVariants as guard
-use Rattle.code_model.specs.Guards.{reach_bytes, Writes, Changes, IsQuiet, IsAtR4, IsGrowthForm, IsPopForm, IsSpForm, most_served, least_version}
+use Rattle.code_model.specs.Guards.{reach_bytes, IsQuiet, IsAtR4, IsGrowthForm, IsPopForm, IsSpForm, most_served, least_version}
 use Rattle.msp_encode.specs.Spelling.{InstrFits}
+use Rattle.msp_encode.specs.Forms.{Writes, Changes, IsReti, WritesReg}
 use Rattle.code_model.specs.declared.object.Object.{Object}
-use Rattle.code_model.specs.Rules.{IsReti, WritesReg, IsBranch, WritesMemory, ReadsStack, IsPushOrCall}
+use Rattle.code_model.specs.Rules.{IsBranch, WritesMemory, ReadsStack, IsPushOrCall}
 use Rattle.insert_model.specs.declared.line.Line.{Line}
 use Rattle.insert_model.specs.declared.piece.Piece.{Piece}
 use Rattle.insert_model.specs.Faults.{UsesCheck, ChangesFlags, IsForbidden, GoesWrong}

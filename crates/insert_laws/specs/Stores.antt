@@ -7,6 +7,7 @@ use Rattle.msp_encode.specs.declared.instr.Src.{Src}
 use Rattle.msp_encode.specs.declared.instr.Dst.TheVariants as dst
 use Rattle.msp_encode.specs.declared.instr.Instr.TheVariants as instr
 use Rattle.msp_encode.specs.Spelling.{DstFits}
+use Rattle.msp_encode.specs.Forms.{writes}
 use Rattle.code_model.specs.declared.object.Object.{Object}
 use Rattle.code_model.specs.declared.parts.RelKind.{RelKind}
 use Rattle.code_model.specs.declared.parts.RelKind.TheVariants.{Code, Data, Lo, Hi}
@@ -15,7 +16,6 @@ use Rattle.code_model.specs.Guards.{reach_bytes}
 use Rattle.code_model.specs.Fields.{fields}
 use Rattle.insert_model.specs.declared.line.Line.{Line}
 use Rattle.insert_model.specs.Source.{own}
-use Rattle.insert_model.specs.Units.{writes}
 use Rattle.insert_model.specs.Guards.{wide_guard}
 use Rattle.insert_model.specs.Groups.{Cell, cell, difference, Group, members, groups}
 use Rattle.insert_model.specs.Layout.{difference_of, beside}

@@ -20,8 +20,7 @@ use Rattle.code_model.specs.declared.parts.RelKind.{RelKind}
 use Rattle.code_model.specs.declared.parts.RelKind.TheVariants.{Code}
 use Rattle.code_model.specs.Fields.{fields}
 use Rattle.code_model.specs.Starts.{Start, Bad}
-use Rattle.code_model.specs.Guards.{Writes, Changes, Stacks, IsMov, IsWide, SrcIs, DstIs, Pops}
-use Rattle.code_model.specs.Rules.{IsReti, WritesReg, IsBisOrBic, IsFlags, const_value, IsJumpEntry, IsCallEntry, IsCall, IsJmp, Carries}
+use Rattle.code_model.specs.Rules.{IsFlags, IsJumpEntry, IsCallEntry, Carries}
 use Rattle.code_model.specs.Verdicts.{AllSpelled}
 use Rattle.insert_model.specs.declared.fault.InsertKind.{InsertKind}
 use Rattle.insert_model.specs.declared.fault.InsertKind.TheVariants.{NotDecoded, UsesCheckRegister, Forbidden, BadTarget, TooLarge}
@@ -30,6 +29,7 @@ use Rattle.insert_model.specs.declared.fault.InsertFault.TheVariants.{At, Memory
 use Rattle.insert_model.specs.declared.line.Line.{Line}
 use Rattle.insert_model.specs.declared.piece.Piece.{Piece}
 use Rattle.msp_encode.specs.Spelled.{count}
+use Rattle.msp_encode.specs.Forms.{Writes, Changes, Stacks, IsMov, IsWide, SrcIs, DstIs, Pops, IsReti, WritesReg, IsBisOrBic, const_value, IsCall, IsJmp}
 use Rattle.insert_model.specs.Source.{word_in, lines, own}
 use Rattle.insert_model.specs.Units.{static_bytes}
 use Rattle.insert_model.specs.Groups.{Group, groups}

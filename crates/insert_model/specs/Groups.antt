@@ -12,8 +12,9 @@ use Rattle.code_model.specs.declared.parts.RelKind.TheVariants.{Code, Data, Lo, 
 use Rattle.code_model.specs.Fields.{Fields}
 use Rattle.insert_model.specs.declared.line.Line.{Line}
 use Rattle.msp_encode.specs.Spelled.{count}
+use Rattle.msp_encode.specs.Forms.{writes}
 use Rattle.insert_model.specs.Source.{word_in, lines, own}
-use Rattle.insert_model.specs.Units.{writes, target_offset}
+use Rattle.insert_model.specs.Units.{target_offset}
 
 -- ---- targets
 

@@ -15,6 +15,7 @@ use Rattle.msp_encode.specs.declared.instr.Dst.{Dst}
 use Rattle.msp_encode.specs.declared.instr.Dst.TheVariants as dst
 use Rattle.msp_encode.specs.declared.instr.Instr.{Instr}
 use Rattle.msp_encode.specs.declared.instr.Instr.TheVariants as instr
+use Rattle.msp_encode.specs.Forms.{writes, is_dst, pops}
 use Rattle.code_model.specs.declared.parts.RelKind.{RelKind}
 use Rattle.code_model.specs.declared.parts.RelKind.TheVariants.{Code, Data, Lo, Hi}
 use Rattle.code_model.specs.Fields.{Fields}
@@ -60,31 +61,9 @@ aim_one size (src.AutoInc n) k = Elsewhere
 aim_one size (src.Immediate x) k = Elsewhere
 aim_one size (src.Const c) k = Elsewhere
 
--- CMP and BIT write no destination
-abbrev pub writes : Op2 → Bool
-writes Mov = true
-writes Add = true
-writes Addc = true
-writes Subc = true
-writes Sub = true
-writes Cmp = false
-writes Dadd = true
-writes Bit = false
-writes Bic = true
-writes Bis = true
-writes Xor = true
-writes And = true
-
 -- the source is @SP+
 abbrev pub is_popped : Src → Bool
-is_popped (src.Reg n) = false
-is_popped (src.Indexed n x) = false
-is_popped (src.Symbolic x) = false
-is_popped (src.Absolute x) = false
-is_popped (src.Indirect n) = false
-is_popped (src.AutoInc n) = n == SP
-is_popped (src.Immediate x) = false
-is_popped (src.Const c) = false
+is_popped s = pops s SP
 
 abbrev pub is_immediate : Src → Bool
 is_immediate (src.Reg n) = false
@@ -97,10 +76,7 @@ is_immediate (src.Immediate x) = true
 is_immediate (src.Const c) = false
 
 abbrev pub is_pc : Dst → Bool
-is_pc (dst.Reg n) = n == PC
-is_pc (dst.Indexed n x) = false
-is_pc (dst.Symbolic x) = false
-is_pc (dst.Absolute x) = false
+is_pc d = is_dst d PC
 
 abbrev pub is_wide_move : Op2 → Width → Bool
 is_wide_move Mov Wide = true

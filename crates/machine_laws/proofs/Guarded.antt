@@ -4,7 +4,7 @@ use Rattle.std.specs.List.{AllByRecursion}
 use Rattle.machine_model.specs.Memory.{word_at}
 use Rattle.machine_model.specs.Context.{reg, set_reg}
 use Rattle.machine_model.specs.Operands.{sum_of, source_value, after_source, place_to, place_of, value_in, put_context, put_pairs, stored}
-use Rattle.machine_model.specs.Alu.{alu, writes, changes}
+use Rattle.machine_model.specs.Alu.{alu}
 use Rattle.machine_model.specs.Does.{does, two, one, change, push, call, passed, lowered, Effect}
 use Rattle.msp_encode.specs.declared.instr.Width.{Width}
 use Rattle.msp_encode.specs.declared.instr.Width.TheVariants.{Wide, Byte}
@@ -14,6 +14,7 @@ use Rattle.msp_encode.specs.declared.instr.Src.{Src}
 use Rattle.msp_encode.specs.declared.instr.Src.TheVariants as src
 use Rattle.msp_encode.specs.declared.instr.Dst.TheVariants as dst
 use Rattle.msp_encode.specs.declared.instr.Instr.TheVariants as instr
+use Rattle.msp_encode.specs.Forms.{writes, changes}
 use Rattle.machine_laws.specs.Steady.{IsSteady, Bounds, AreBounds}
 use Rattle.machine_laws.specs.Guarded.{IsQuiet, Passes, StoreLaw, StoreLeavesLaw, PushLaw, CallLaw, PopLaw, SpLaw}
 use Rattle.machine_model.proofs.Values.{word-small}

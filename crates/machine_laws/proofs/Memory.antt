@@ -6,7 +6,6 @@ use Rattle.std.proofs.lemmas.Bool.{cases_eq, cases_lt, cases_Bool}
 use Rattle.machine_model.specs.Memory.{word_at, put_all, IsMemory}
 use Rattle.machine_model.specs.Context.{reg, IsContext}
 use Rattle.machine_model.specs.Operands.{sum_of, put_pairs, stored}
-use Rattle.machine_model.specs.Alu.{writes}
 use Rattle.machine_model.specs.Does.{does, one, change, push, call, reti, jump, lowered, Effect, passed}
 use Rattle.machine_model.specs.declared.place.Place.{Place}
 use Rattle.machine_model.specs.declared.place.Place.TheVariants.{InReg, At}
@@ -18,6 +17,7 @@ use Rattle.msp_encode.specs.declared.instr.Op1.TheVariants.{Rrc, Swpb, Rra, Sxt,
 use Rattle.msp_encode.specs.declared.instr.Src.{Src}
 use Rattle.msp_encode.specs.declared.instr.Dst.{Dst}
 use Rattle.msp_encode.specs.declared.instr.Instr.TheVariants as instr
+use Rattle.msp_encode.specs.Forms.{writes}
 use Rattle.machine_laws.specs.Writes.{MemoryLaw, PartLaw, WordLaw, WrittenLaw}
 use Rattle.machine_model.proofs.Values.{alu-small, one-small, source-small, value-small, size-word}
 use Rattle.machine_model.proofs.Contexts.{set-context, after-context}

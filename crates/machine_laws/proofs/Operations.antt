@@ -5,7 +5,7 @@ use Rattle.std.specs.List.{AllByRecursion}
 use Rattle.std.proofs.lemmas.Bool.{false≢true}
 use Rattle.machine_model.specs.Context.{reg, set_reg}
 use Rattle.machine_model.specs.Operands.{sum_of, source_value, after_source, place_to, value_in, put_context, put_pairs, stored}
-use Rattle.machine_model.specs.Alu.{alu, writes, changes}
+use Rattle.machine_model.specs.Alu.{alu}
 use Rattle.machine_model.specs.Does.{does, two, one, change, passed, Effect}
 use Rattle.machine_model.specs.declared.place.Outcome.{Outcome}
 use Rattle.msp_encode.specs.declared.instr.Width.{Width}
@@ -16,6 +16,7 @@ use Rattle.msp_encode.specs.declared.instr.Op1.TheVariants.{Rrc, Swpb, Rra, Sxt,
 use Rattle.msp_encode.specs.declared.instr.Src.{Src}
 use Rattle.msp_encode.specs.declared.instr.Dst.{Dst}
 use Rattle.msp_encode.specs.declared.instr.Instr.TheVariants as instr
+use Rattle.msp_encode.specs.Forms.{writes, changes}
 
 -- the context behind a source
 abbrev pub behind : Width → Src → ℕ → List ℕ → List ℕ

@@ -2,8 +2,8 @@
 use Rattle.std.proofs.Common.{◌≡◌, ℕ, ◌+◌, ◌-◌, ◌*◌, ◌%◌, ◌<◌, ◌≤◌, true, false, List, refl, sym, ◌∙◌, subst, arith}
 use Rattle.machine_model.specs.Memory.{IsMemory}
 use Rattle.machine_model.specs.Context.{reg}
-use Rattle.machine_model.specs.Operands.{sum_of, source_value, after_source, place_to, place_of, value_in, put_context, put_pairs, constant}
-use Rattle.machine_model.specs.Alu.{alu, alu_one, writes, changes}
+use Rattle.machine_model.specs.Operands.{sum_of, source_value, after_source, place_to, place_of, value_in, put_context, put_pairs}
+use Rattle.machine_model.specs.Alu.{alu, alu_one}
 use Rattle.machine_model.specs.Does.{does, change, passed}
 use Rattle.msp_encode.specs.declared.instr.Width.{Width}
 use Rattle.msp_encode.specs.declared.instr.Width.TheVariants.{Wide}
@@ -16,6 +16,7 @@ use Rattle.msp_encode.specs.declared.instr.Src.TheVariants as src
 use Rattle.msp_encode.specs.declared.instr.Dst.{Dst}
 use Rattle.msp_encode.specs.declared.instr.Dst.TheVariants as dst
 use Rattle.msp_encode.specs.declared.instr.Instr.TheVariants as instr
+use Rattle.msp_encode.specs.Forms.{writes, changes, const_value}
 use Rattle.machine_laws.specs.Steady.{IsStatus, IsSteady, Bounds, AreBounds}
 use Rattle.machine_laws.specs.Guarded.{Passes}
 use Rattle.machine_laws.specs.Plain.{IsCalm, IsMask, Tests, ToReg, ToData, SetsBits, ClearsBits, SetsConst, ClearsConst, ChangesReg, ChangesData, PlainLaw}
@@ -142,9 +143,9 @@ immediate-mask : (m r : List ℕ) (x n : ℕ) → IsMask x → IsMask (source_va
 unfolding source_value
 immediate-mask m r x n h = mask-mod x h
 
-constant-mask : (m r : List ℕ) (k : Cg) (n : ℕ) → IsMask (constant k) → IsMask (source_value Wide (src.Const k) (sum_of (reg r 0) 2) m (passed r n))
+constant-mask : (m r : List ℕ) (k : Cg) (n : ℕ) → IsMask (const_value k) → IsMask (source_value Wide (src.Const k) (sum_of (reg r 0) 2) m (passed r n))
 unfolding source_value
-constant-mask m r k n h = mask-mod (constant k) h
+constant-mask m r k n h = mask-mod (const_value k) h
 
 pub plain-passes : PlainLaw
 plain-passes b kb m r i n a mem st p (Tests op w s d h c) = tests-pass b kb m r op w s d n mem st p h c

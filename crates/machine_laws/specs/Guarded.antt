@@ -3,7 +3,6 @@ use Rattle.std.specs.Prelude.{◌≡◌, ◌≢◌, ℕ, ◌+◌, ◌*◌, ◌%�
 use Rattle.std.specs.List.{AllByRecursion}
 use Rattle.machine_model.specs.Memory.{IsMemory}
 use Rattle.machine_model.specs.Context.{reg}
-use Rattle.machine_model.specs.Alu.{writes, changes}
 use Rattle.machine_model.specs.Does.{does, Effect}
 use Rattle.msp_encode.specs.declared.instr.Width.{Width}
 use Rattle.msp_encode.specs.declared.instr.Width.TheVariants.{Wide}
@@ -14,6 +13,7 @@ use Rattle.msp_encode.specs.declared.instr.Src.TheVariants as src
 use Rattle.msp_encode.specs.declared.instr.Dst.TheVariants as dst
 use Rattle.msp_encode.specs.declared.instr.Instr.{Instr}
 use Rattle.msp_encode.specs.declared.instr.Instr.TheVariants as instr
+use Rattle.msp_encode.specs.Forms.{writes, changes}
 use Rattle.machine_laws.specs.Steady.{IsSteady, Bounds, AreBounds}
 
 -- a source that moves neither SP nor R4

@@ -2,8 +2,6 @@
 use Rattle.std.specs.Prelude.{◌≡◌, ℕ, ◌+◌, ◌*◌, ◌/◌, ◌%◌, ◌<◌, ◌≤◌, List, [], false, true, ℤ}
 use Rattle.machine_model.specs.Memory.{IsMemory}
 use Rattle.machine_model.specs.Context.{reg}
-use Rattle.machine_model.specs.Alu.{writes, changes}
-use Rattle.machine_model.specs.Operands.{constant}
 use Rattle.machine_model.specs.Does.{does, holds, target, Effect}
 use Rattle.msp_encode.specs.declared.instr.Width.{Width}
 use Rattle.msp_encode.specs.declared.instr.Width.TheVariants.{Wide}
@@ -18,6 +16,7 @@ use Rattle.msp_encode.specs.declared.instr.Dst.TheVariants as dst
 use Rattle.msp_encode.specs.declared.instr.Dst.{Dst}
 use Rattle.msp_encode.specs.declared.instr.Instr.{Instr}
 use Rattle.msp_encode.specs.declared.instr.Instr.TheVariants as instr
+use Rattle.msp_encode.specs.Forms.{writes, changes, const_value}
 use Rattle.machine_laws.specs.Steady.{IsSteady, Bounds, AreBounds}
 use Rattle.machine_laws.specs.Guarded.{Passes}
 
@@ -37,8 +36,8 @@ pub data Plain (lo hi : ℕ) : Instr → Type 0 where
   ToData : (op : Op2) (w : Width) (s : Src) (x : ℕ) → writes op ≡ true → IsCalm s → lo ≤ x → x < hi → Plain lo hi (instr.Two op w s (dst.Absolute x))
   SetsBits : (x : ℕ) → IsMask x → Plain lo hi (instr.Two Bis Wide (src.Immediate x) (dst.Reg 2))
   ClearsBits : (x : ℕ) → IsMask x → Plain lo hi (instr.Two Bic Wide (src.Immediate x) (dst.Reg 2))
-  SetsConst : (k : Cg) → IsMask (constant k) → Plain lo hi (instr.Two Bis Wide (src.Const k) (dst.Reg 2))
-  ClearsConst : (k : Cg) → IsMask (constant k) → Plain lo hi (instr.Two Bic Wide (src.Const k) (dst.Reg 2))
+  SetsConst : (k : Cg) → IsMask (const_value k) → Plain lo hi (instr.Two Bis Wide (src.Const k) (dst.Reg 2))
+  ClearsConst : (k : Cg) → IsMask (const_value k) → Plain lo hi (instr.Two Bic Wide (src.Const k) (dst.Reg 2))
   ChangesReg : (op : Op1) (w : Width) (n : ℕ) → changes op ≡ true → 3 ≤ n → n < 16 → Plain lo hi (instr.One op w (src.Reg n))
   ChangesData : (op : Op1) (w : Width) (x : ℕ) → changes op ≡ true → lo ≤ x → x < hi → Plain lo hi (instr.One op w (src.Absolute x))
 

@@ -5,10 +5,10 @@ use Rattle.msp_encode.specs.declared.instr.Width.TheVariants.{Wide, Byte}
 use Rattle.msp_encode.specs.declared.instr.Op1.TheVariants.{Rrc, Swpb, Rra, Sxt, Push, Call}
 use Rattle.msp_encode.specs.declared.instr.Instr.{Instr}
 use Rattle.msp_encode.specs.declared.instr.Instr.TheVariants as instr
+use Rattle.msp_encode.specs.Forms.{writes}
 use Rattle.machine_model.specs.declared.place.Place.{Place}
 use Rattle.machine_model.specs.declared.place.Place.TheVariants.{InReg, At}
 use Rattle.machine_model.specs.Operands.{stored, put_pairs}
-use Rattle.machine_model.specs.Alu.{writes}
 use Rattle.machine_model.specs.Does.{does, two, change, push, call, one, reti, jump}
 
 stored-few : (w : Width) (a v : ℕ) → length (stored w a v) ≤ 2

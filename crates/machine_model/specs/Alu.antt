@@ -76,17 +76,6 @@ alu Bic w s d sr = plain (bit_and d (complement w s)) sr
 alu Bis w s d sr = plain (bit_or d s) sr
 alu Xor w s d sr = logical w (bit_xor d s) (has_sign_bit w s && has_sign_bit w d) sr
 
-abbrev pub writes : Op2 → Bool
-writes Cmp = false
-writes Bit = false
-writes _ = true
-
--- the operations of one operand that write it
-abbrev pub changes : Op1 → Bool
-changes Push = false
-changes Call = false
-changes _ = true
-
 unfoldable pub alu_one : Op1 → Width → ℕ → ℕ → Outcome
 alu_one Rrc w v sr = flagged w (v / 2 + sr % 2 * sign_bit w) (v % 2 == 1) false sr
 alu_one Rra w v sr = flagged w (v / 2 + (if has_sign_bit w v then sign_bit w else 0)) (v % 2 == 1) false sr

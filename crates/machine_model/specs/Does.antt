@@ -4,7 +4,7 @@ use Rattle.machine_model.specs.Memory.{word_at, put_all}
 use Rattle.machine_model.specs.Context.{reg, set_reg}
 use Rattle.machine_model.specs.Status.{carry, is_zero, negative, overflow}
 use Rattle.machine_model.specs.Operands.{sum_of, source_value, after_source, place_to, place_of, value_in, put_context, put_pairs, stored, NamesRegisters, NamesRegister}
-use Rattle.machine_model.specs.Alu.{alu, alu_one, writes}
+use Rattle.machine_model.specs.Alu.{alu, alu_one}
 use Rattle.msp_encode.specs.declared.instr.Width.{Width}
 use Rattle.msp_encode.specs.declared.instr.Width.TheVariants.{Wide}
 use Rattle.msp_encode.specs.declared.instr.Op2.{Op2}
@@ -16,6 +16,7 @@ use Rattle.msp_encode.specs.declared.instr.Cond.{Cond}
 use Rattle.msp_encode.specs.declared.instr.Cond.TheVariants.{Ne, Eq, Nc, C, N, Ge, L, Always}
 use Rattle.msp_encode.specs.declared.instr.Instr.{Instr}
 use Rattle.msp_encode.specs.declared.instr.Instr.TheVariants as instr
+use Rattle.msp_encode.specs.Forms.{writes}
 
 -- the context after an instruction, and the bytes that it wrote
 pub record Effect : Type 0 where

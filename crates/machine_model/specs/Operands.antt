@@ -4,12 +4,11 @@ use Rattle.machine_model.specs.Memory.{even, word_at}
 use Rattle.machine_model.specs.Context.{reg, set_reg}
 use Rattle.msp_encode.specs.declared.instr.Width.{Width}
 use Rattle.msp_encode.specs.declared.instr.Width.TheVariants.{Wide, Byte}
-use Rattle.msp_encode.specs.declared.instr.Cg.{Cg}
-use Rattle.msp_encode.specs.declared.instr.Cg.TheVariants.{Zero, One, Two, Four, Eight, AllOnes}
 use Rattle.msp_encode.specs.declared.instr.Src.{Src}
 use Rattle.msp_encode.specs.declared.instr.Src.TheVariants as src
 use Rattle.msp_encode.specs.declared.instr.Dst.{Dst}
 use Rattle.msp_encode.specs.declared.instr.Dst.TheVariants as dst
+use Rattle.msp_encode.specs.Forms.{const_value}
 use Rattle.machine_model.specs.declared.place.Place.{Place}
 use Rattle.machine_model.specs.declared.place.Place.TheVariants.{InReg, At}
 
@@ -35,14 +34,6 @@ abbrev pub stored : Width → ℕ → ℕ → List (ℕ × ℕ)
 stored Wide a v = (even a, v % 256) ∷ (even a + 1, v / 256) ∷ []
 stored Byte a v = (a, v % 256) ∷ []
 
-abbrev pub constant : Cg → ℕ
-constant Zero = 0
-constant One = 1
-constant Two = 2
-constant Four = 4
-constant Eight = 8
-constant AllOnes = 65535
-
 abbrev pub sum_of : ℕ → ℕ → ℕ
 sum_of a b = (a + b) % 65536
 
@@ -55,7 +46,7 @@ source_value w (src.Absolute x) at m r = load w m x
 source_value w (src.Indirect n) at m r = load w m (reg r n)
 source_value w (src.AutoInc n) at m r = load w m (reg r n)
 source_value w (src.Immediate x) at m r = low w x
-source_value w (src.Const k) at m r = low w (constant k)
+source_value w (src.Const k) at m r = low w (const_value k)
 
 -- what autoincrement adds
 abbrev pub step : Width → ℕ → ℕ

@@ -8,7 +8,7 @@ ghost use Rattle.msp_encode.specs.declared.instr.Width.{Width};
 ghost use Rattle.msp_encode.specs.declared.instr.Src.{Src};
 ghost use Rattle.msp_encode.specs.declared.instr.Dst.{Dst};
 ghost use Rattle.msp_encode.specs.declared.instr.Instr.{Instr};
-ghost use Rattle.msp_encode.specs.Spelling.{TwoFields, OneFields, JumpFields, OffsetRow, First, src_words, dst_words, words_after};
+ghost use Rattle.msp_encode.specs.Spelling.{TwoFields, OneFields, JumpFields, OffsetRow, First, words_after};
 ghost use Rattle.msp_decode.specs.Reading.{Leads};
 
 use crate::fields::{
@@ -19,37 +19,6 @@ use crate::operand::{destination, source};
 use crate::operation::{condition, one as operation_of_one, two as operation_of_two};
 use msp_encode::instr::{Dst, Instr, Src};
 use msp_encode::legality::{takes, takes_width};
-
-/// How many words a source has behind the instruction word.
-fn source_count(src: &Src) -> u8
-    ensures { result ≡ length (src_words src.now) }
-{
-    match src {
-        Src::Indexed(_, _) | Src::Symbolic(_) | Src::Absolute(_) | Src::Immediate(_) => 1,
-        Src::Reg(_) | Src::Indirect(_) | Src::AutoInc(_) | Src::Const(_) => 0,
-    }
-}
-
-/// How many words a destination has behind the instruction word.
-fn destination_count(dst: &Dst) -> u8
-    ensures { result ≡ length (dst_words dst.now) }
-{
-    match dst {
-        Dst::Reg(_) => 0,
-        Dst::Indexed(_, _) | Dst::Symbolic(_) | Dst::Absolute(_) => 1,
-    }
-}
-
-/// How many words an instruction has, 1 to 3.
-pub(crate) fn word_count(i: &Instr) -> u8
-    ensures { result ≡ 1 + length (words_after i.now) }
-{
-    match i {
-        Instr::Two { src, dst, .. } => 1 + source_count(src) + destination_count(dst),
-        Instr::One { src, .. } => 1 + source_count(src),
-        Instr::Reti | Instr::Jump { .. } => 1,
-    }
-}
 
 /// A jump's offset, -512 to 511: bits 9 to 0 with their sign.
 fn offset(word: u16) -> i16
@@ -72,7 +41,7 @@ fn two(word: u16, first: u16, second: u16) -> Option<Instr>
 {
     let op = operation_of_two(two_code(word))?;
     let src = source(high_register(word), source_mode(word), first)?;
-    let behind = if source_count(&src) == 0 {
+    let behind = if src.words() == 0 {
         first
     } else {
         second

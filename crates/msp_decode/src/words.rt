@@ -6,7 +6,7 @@ ghost use Rattle.msp_encode.specs.Spelling.{Legal, words_after};
 ghost use Rattle.msp_decode.specs.declared.reading.NoInstr.{NoInstr};
 ghost use Rattle.msp_decode.specs.Reading.{Reads};
 
-use crate::instruction::{instruction, word_count};
+use crate::instruction::instruction;
 use crate::laws::one_reading;
 use crate::reading::NoInstr;
 use msp_encode::instr::Instr;
@@ -24,7 +24,7 @@ fn read(w0: u16, w1: u16, w2: u16, have: u8) -> Result<(Instr, u8), NoInstr>
     match instruction(w0, w1, w2) {
         None => Err(NoInstr::Unknown),
         Some(i) => {
-            let n = word_count(&i);
+            let n = i.words() as u8;
             if n > have {
                 Err(NoInstr::Short)
             } else {

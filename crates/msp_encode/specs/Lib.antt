@@ -1,3 +1,4 @@
 pub mod Spelling
 pub mod Spelled
+pub mod Forms
 pub mod Laws

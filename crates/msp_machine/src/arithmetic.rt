@@ -3,7 +3,7 @@
 ghost use Rattle.std.specs.Prelude.{◌≡◌, ◌≤◌, ◌<◌, ◌+◌, ◌%◌, nat_le, if◌then◌else◌};
 ghost use Rattle.machine_model.specs.Operands.{size, sign_bit};
 ghost use Rattle.machine_model.specs.Status.{with_flags};
-ghost use Rattle.machine_model.specs.Alu.{complement, has_sign_bit, plain, flagged, overflows, added, logical, alu, alu_one, writes};
+ghost use Rattle.machine_model.specs.Alu.{complement, has_sign_bit, plain, flagged, overflows, added, logical, alu, alu_one};
 
 use crate::decimal::decimal;
 use machine_model::place::Outcome;
@@ -132,13 +132,6 @@ pub(crate) fn alu(op: Op2, width: Width, s: u16, d: u16, sr: u16) -> Outcome
         Op2::Bis => plain(d | s, sr),
         Op2::Xor => logical(width, d ^ s, has_sign_bit(width, s) && has_sign_bit(width, d), sr),
     }
-}
-
-/// Whether an operation writes its destination.
-pub(crate) fn writes(op: Op2) -> bool
-    ensures { result ≡ writes op }
-{
-    !matches!(op, Op2::Cmp | Op2::Bit)
 }
 
 /// Bit 7 moved through the high byte.

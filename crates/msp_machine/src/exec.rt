@@ -7,7 +7,7 @@ ghost use Rattle.machine_model.specs.Context.{reg};
 ghost use Rattle.machine_model.specs.Operands.{sum_of, source_value, after_source, NamesRegister, NamesRegisters};
 ghost use Rattle.machine_model.specs.Does.{does, two, change, push, call, one, reti, jump, holds, target, passed, lowered, raised, memory_after, FormOk};
 
-use crate::arithmetic::{alu, alu_one, writes};
+use crate::arithmetic::{alu, alu_one};
 use crate::operand::{place_of, place_to, source_value, step_source, sum, value_in, word};
 use crate::regs::{PC, Regs, SP, SR};
 use crate::write_back::{put, store};
@@ -99,7 +99,7 @@ fn two(op: Op2, width: Width, src: Src, dst: Dst, len: u8, m: &mut FlatMem, r: &
     let place = place_to(dst, sum(pc, 2 * len as u16 - 2), r);
     let outcome = alu(op, width, value, value_in(width, place, m, r), r.get(SR));
     r.set(SR, outcome.status);
-    if writes(op) {
+    if op.writes() {
         put(width, place, outcome.value, m, r)
     } else {
         Writes::new()

@@ -3,12 +3,12 @@
 ghost use Rattle.std.specs.Prelude.{◌≡◌, ◌<◌, ◌==◌, if◌then◌else◌};
 ghost use Rattle.machine_model.specs.Memory.{word_at};
 ghost use Rattle.machine_model.specs.Context.{reg};
-ghost use Rattle.machine_model.specs.Operands.{size, low, load, constant, sum_of, step, source_value, after_source, place_to, place_of, value_in, NamesRegister, NamesRegisters, IsPlace};
+ghost use Rattle.machine_model.specs.Operands.{size, low, load, sum_of, step, source_value, after_source, place_to, place_of, value_in, NamesRegister, NamesRegisters, IsPlace};
 
 use crate::regs::{PC, Regs, SP};
 use flat_mem::FlatMem;
 use machine_model::place::Place;
-use msp_encode::instr::{Cg, Dst, Src, Width};
+use msp_encode::instr::{Dst, Src, Width};
 use msp_encode::registers::CONSTANTS;
 
 /// `a + b` modulo 65,536.
@@ -48,20 +48,6 @@ fn low(width: Width, value: u16) -> u16
     }
 }
 
-/// The constants that registers 2 and 3 generate.
-fn constant(which: Cg) -> u16
-    ensures { result ≡ constant which }
-{
-    match which {
-        Cg::Zero => 0,
-        Cg::One => 1,
-        Cg::Two => 2,
-        Cg::Four => 4,
-        Cg::Eight => 8,
-        Cg::AllOnes => 0xFFFF,
-    }
-}
-
 /// A register as a source: PC is read as the address `at` of the word after the instruction word.
 fn source_register(n: u8, at: u16, r: &Regs) -> u16
     requires { n < 16 }
@@ -85,7 +71,7 @@ pub(crate) fn source_value(width: Width, src: Src, at: u16, m: &FlatMem, r: &Reg
         Src::Indirect(n) => load(width, m, r.get(n)),
         Src::AutoInc(n) => load(width, m, r.get(n)),
         Src::Immediate(x) => low(width, x),
-        Src::Const(which) => low(width, constant(which)),
+        Src::Const(which) => low(width, which.value()),
     }
 }
 

@@ -9,10 +9,10 @@ use Rattle.msp_encode.specs.declared.instr.Instr.TheVariants as instr
 use Rattle.machine_model.specs.Context.{set_reg}
 use Rattle.machine_model.specs.Does.{does, Effect}
 use Rattle.code_model.specs.declared.object.Object.{Object}
-use Rattle.code_model.specs.Rules.{IsCall}
 use Rattle.load_model.specs.Domains.{Domain}
 use Rattle.insert_model.specs.declared.line.Line.{Line}
 use Rattle.msp_encode.specs.Spelled.{count}
+use Rattle.msp_encode.specs.Forms.{IsCall}
 use Rattle.insert_model.specs.Source.{own}
 use Rattle.insert_laws.specs.Lines.{LinesAreClean}
 use Rattle.insert_laws.specs.Shapes.{IsCleanLine}

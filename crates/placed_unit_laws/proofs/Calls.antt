@@ -10,9 +10,9 @@ use Rattle.msp_encode.specs.declared.instr.Src.TheVariants as src
 use Rattle.msp_encode.specs.declared.instr.Instr.{Instr}
 use Rattle.msp_encode.specs.declared.instr.Instr.TheVariants as instr
 use Rattle.msp_encode.specs.Spelling.{TakesWidth}
+use Rattle.msp_encode.specs.Forms.{changes}
 use Rattle.machine_model.specs.Context.{reg}
 use Rattle.machine_model.specs.Operands.{after_source}
-use Rattle.machine_model.specs.Alu.{changes}
 use Rattle.machine_model.specs.Does.{Effect}
 use Rattle.code_model.specs.declared.object.Object.{Object}
 use Rattle.load_model.specs.Domains.{Domain}

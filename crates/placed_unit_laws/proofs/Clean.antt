@@ -12,10 +12,9 @@ use Rattle.msp_encode.specs.declared.instr.Dst.TheVariants as dst
 use Rattle.msp_encode.specs.declared.instr.Instr.{Instr}
 use Rattle.msp_encode.specs.declared.instr.Instr.TheVariants as instr
 use Rattle.msp_encode.specs.Spelling.{SrcFits, DstFits, InstrFits}
+use Rattle.msp_encode.specs.Forms.{Writes, Stacks, IsMov, IsWide, SrcIs, DstIs, Pops, WritesReg}
 use Rattle.code_model.specs.declared.object.Object.{Object}
 use Rattle.code_model.specs.declared.parts.RelKind.{RelKind}
-use Rattle.code_model.specs.Guards.{Writes, Stacks, IsMov, IsWide, SrcIs, DstIs, Pops}
-use Rattle.code_model.specs.Rules.{WritesReg}
 use Rattle.load_model.specs.Domains.{Domain}
 use Rattle.insert_model.specs.declared.line.Line.{Line}
 use Rattle.insert_model.specs.Units.{is_wide_move}

@@ -19,12 +19,13 @@ use Rattle.code_model.specs.declared.parts.RelKind.{RelKind}
 use Rattle.code_model.specs.declared.parts.RelKind.TheVariants.{Code, Data, Lo, Hi}
 use Rattle.code_model.specs.declared.guards.Reach.{Reach}
 use Rattle.code_model.specs.declared.guards.Reach.TheVariants as reach
-use Rattle.code_model.specs.Guards.{reach_bytes, high_word, Pops}
+use Rattle.code_model.specs.Guards.{reach_bytes, high_word}
 use Rattle.code_model.specs.Fields.{fields}
 use Rattle.load_model.specs.Domains.{Domain}
 use Rattle.insert_model.specs.declared.line.Line.{Line}
 use Rattle.insert_model.specs.declared.piece.Piece.{Piece}
 use Rattle.msp_encode.specs.Spelled.{count}
+use Rattle.msp_encode.specs.Forms.{Pops}
 use Rattle.insert_model.specs.Words.{piece_words}
 use Rattle.insert_model.specs.Source.{own}
 use Rattle.insert_model.specs.Guards.{wide_guard}

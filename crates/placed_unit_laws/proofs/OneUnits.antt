@@ -15,16 +15,15 @@ use Rattle.msp_encode.specs.Spelling.{InstrFits, TakesWidth, src_words}
 use Rattle.machine_model.specs.Memory.{word_at}
 use Rattle.machine_model.specs.Context.{reg}
 use Rattle.machine_model.specs.Operands.{sum_of, source_value, after_source}
-use Rattle.machine_model.specs.Alu.{changes}
 use Rattle.machine_model.specs.Does.{Effect}
 use Rattle.machine_model.specs.Fetching.{IsFetched}
 use Rattle.code_model.specs.declared.object.Object.{Object}
 use Rattle.code_model.specs.declared.parts.RelKind.{RelKind}
-use Rattle.code_model.specs.Guards.{Stacks}
 use Rattle.load_model.specs.Domains.{Domain}
 use Rattle.insert_model.specs.declared.line.Line.{Line}
 use Rattle.insert_model.specs.declared.piece.Piece.{Piece}
 use Rattle.msp_encode.specs.Spelled.{count}
+use Rattle.msp_encode.specs.Forms.{Stacks, changes}
 use Rattle.insert_model.specs.Words.{piece_words}
 use Rattle.insert_model.specs.Source.{own}
 use Rattle.insert_model.specs.Guards as guard_piece

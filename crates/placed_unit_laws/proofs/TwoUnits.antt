@@ -14,13 +14,13 @@ use Rattle.machine_model.specs.Context.{reg}
 use Rattle.machine_model.specs.Alu as alu
 use Rattle.machine_model.specs.Does.{Effect}
 use Rattle.code_model.specs.declared.object.Object.{Object}
-use Rattle.code_model.specs.Guards.{IsMov, IsWide, DstIs, Pops}
 use Rattle.load_model.specs.Domains.{Domain}
 use Rattle.insert_model.specs.declared.aim.Aim.TheVariants.{ToPc, ToSp, ToMemory, Elsewhere}
 use Rattle.insert_model.specs.declared.line.Line.{Line}
 use Rattle.msp_encode.specs.Spelled.{count}
+use Rattle.msp_encode.specs.Forms.{IsMov, IsWide, DstIs, Pops, writes}
 use Rattle.insert_model.specs.Source.{own_piece, own}
-use Rattle.insert_model.specs.Units.{is_static, aim, writes, is_popped, is_immediate, is_pc, popping, writing, two_unit}
+use Rattle.insert_model.specs.Units.{is_static, aim, is_popped, is_immediate, is_pc, popping, writing, two_unit}
 use Rattle.insert_model.specs.Faults.{IsSourceTarget, TransferMisses, UsesCheck}
 use Rattle.unit_laws.specs.Rows.{ended, branch, Follows}
 use Rattle.placed_unit_laws.specs.Placed.{unit_at, unit_behind, word_in_place, placed_dst, source_does}

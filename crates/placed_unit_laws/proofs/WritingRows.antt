@@ -13,6 +13,7 @@ use Rattle.msp_encode.specs.declared.instr.Dst.TheVariants as dst
 use Rattle.msp_encode.specs.declared.instr.Instr.{Instr}
 use Rattle.msp_encode.specs.declared.instr.Instr.TheVariants as instr
 use Rattle.msp_encode.specs.Spelling.{IsBase, SrcFits, InstrFits, src_words, dst_words}
+use Rattle.msp_encode.specs.Forms.{Writes, DstIs, Pops, writes}
 use Rattle.machine_model.specs.Memory.{word_at, IsMemory}
 use Rattle.machine_model.specs.Context.{reg}
 use Rattle.machine_model.specs.Operands.{sum_of, source_value, after_source}
@@ -21,14 +22,13 @@ use Rattle.machine_model.specs.Does.{Effect}
 use Rattle.machine_model.specs.Fetching.{IsFetched}
 use Rattle.code_model.specs.declared.object.Object.{Object}
 use Rattle.code_model.specs.declared.parts.RelKind.{RelKind}
-use Rattle.code_model.specs.Guards.{Writes, DstIs, Pops}
 use Rattle.load_model.specs.Domains.{Domain}
 use Rattle.insert_model.specs.declared.line.Line.{Line}
 use Rattle.insert_model.specs.declared.piece.Piece.{Piece}
 use Rattle.insert_model.specs.Words.{piece_words}
 use Rattle.insert_model.specs.Source.{own}
 use Rattle.insert_model.specs.Guards as guard_piece
-use Rattle.insert_model.specs.Units.{writes, into_r4, through_r4, setting_sp}
+use Rattle.insert_model.specs.Units.{into_r4, through_r4, setting_sp}
 use Rattle.insert_model.specs.Faults.{StepsBase}
 use Rattle.unit_laws.specs.Lines.{IsIndexed}
 use Rattle.unit_laws.specs.Guards.{WordsAt, sp_words}

@@ -15,14 +15,13 @@ use Rattle.machine_model.specs.Operands.{source_value, stored}
 use Rattle.code_model.specs.declared.object.Object.{Object}
 use Rattle.code_model.specs.Fields.{fields}
 use Rattle.code_model.specs.Starts.{Start}
-use Rattle.code_model.specs.Guards.{DstIs}
-use Rattle.code_model.specs.Rules.{IsCall}
 use Rattle.load_model.specs.Domains.{Domain}
 use Rattle.load_model.specs.Images.{code_image}
 use Rattle.load_model.specs.Standing.{HasBytes}
 use Rattle.node_model.specs.Placed.{IsWellPlaced}
 use Rattle.insert_model.specs.declared.line.Line.{Line}
 use Rattle.msp_encode.specs.Spelled.{count}
+use Rattle.msp_encode.specs.Forms.{DstIs, IsCall}
 use Rattle.insert_model.specs.Source.{lines, own}
 use Rattle.insert_model.specs.Groups.{Group, alone, members, behind, groups}
 use Rattle.insert_model.specs.Faults.{IsInserted, IsSourceJump, IsSourceCall}

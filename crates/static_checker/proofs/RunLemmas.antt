@@ -3,6 +3,7 @@ use Rattle.std.proofs.Common.{◌≡◌, ℕ, zero, suc, ◌+◌, ◌≤◌, ◌
 use Rattle.std.proofs.Math.Nat.{eq-or-lt_of_le}
 use Rattle.std.proofs.lemmas.Bool.{cases_lt}
 use Rattle.msp_encode.specs.declared.instr.Instr.{Instr}
+use Rattle.msp_encode.specs.Forms.{IsReti}
 use Rattle.code_model.specs.declared.object.Object.{Object}
 use Rattle.code_model.specs.declared.guards.GuardKind.{GuardKind}
 use Rattle.code_model.specs.declared.guards.GuardKind.TheVariants as guard
@@ -10,7 +11,7 @@ use Rattle.code_model.specs.declared.rules.Rule.{Rule}
 use Rattle.code_model.specs.declared.rules.Rule.TheVariants as rule
 use Rattle.code_model.specs.Starts.{Stands, Start}
 use Rattle.code_model.specs.Guards.{Guarded, guard_words, FitAll, Serves, ServesAt, Run, most_served, least_version, CoversBy, Covers, Covered, Own, OwnBy, Interior, UnitStart}
-use Rattle.code_model.specs.Rules.{IsReti, Refuses}
+use Rattle.code_model.specs.Rules.{Refuses}
 use Rattle.code_laws.specs.Laws.{IsOneGuard}
 use Rattle.code_laws.proofs.Standing.{size_least, same_size, same_instr}
 use Rattle.code_laws.proofs.Starting.{starts_apart}

@@ -3,13 +3,14 @@ use Rattle.std.specs.Prelude.{◌≡◌, ◌⊎◌, ℕ, ◌+◌, ◌<◌, ◌�
 use Rattle.msp_encode.specs.declared.instr.Dst.TheVariants as dst
 use Rattle.msp_encode.specs.declared.instr.Instr.{Instr}
 use Rattle.msp_encode.specs.declared.instr.Instr.TheVariants as instr
+use Rattle.msp_encode.specs.Forms.{Pops, IsCall}
 use Rattle.code_model.specs.declared.object.Object.{Object}
 use Rattle.code_model.specs.declared.guards.GuardKind.{GuardKind}
 use Rattle.code_model.specs.declared.guards.GuardKind.TheVariants as guard
 use Rattle.code_model.specs.declared.rules.Rule.{Rule}
 use Rattle.code_model.specs.Starts.{Stands, Start}
-use Rattle.code_model.specs.Guards.{guard_words, FitAll, Pops, Serves, least_version, Run, Guarded, Own, Interior, UnitStart}
-use Rattle.code_model.specs.Rules.{IsBranch, IsCall, KeepsStores, Refuses}
+use Rattle.code_model.specs.Guards.{guard_words, FitAll, Serves, least_version, Run, Guarded, Own, Interior, UnitStart}
+use Rattle.code_model.specs.Rules.{IsBranch, KeepsStores, Refuses}
 use Rattle.static_checker.specs.declared.spot.Spot.{Spot}
 use Rattle.static_checker.specs.declared.code_units.CodeUnit.{CodeUnit}
 use Rattle.static_checker.specs.Spots.{IsSpot, IsStartSpot}

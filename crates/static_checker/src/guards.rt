@@ -10,10 +10,7 @@ ghost use Rattle.static_checker.specs.Loads.{TestsRegister};
 ghost use Rattle.static_checker.specs.CodeUnits.{wording, OnlyKind, IsServing, IsServedSpot};
 
 use crate::cursor::{Cursor, unrelocated};
-use crate::forms::{
-    changes, dst_is, is_at_r4, is_high, is_mov, is_quiet, is_wide, pops, src_is, src_size, stacks,
-    tests, writes,
-};
+use crate::forms::{is_at_r4, is_high, is_quiet};
 use crate::spot::{Spot, spot_at, word_at};
 use crate::stores::in_static;
 use code_model::guards::{GuardKind, Reach};
@@ -157,10 +154,10 @@ fn is_store_form(o: &Object, cursor: Cursor, at: usize, i: Instr) -> bool
     ensures { IsTrue result ↔ IsStoreForm o.now at i }
 {
     match i {
-        Instr::Two { op, src, dst, .. } => writes(op)
-            && is_plain_store(o, cursor, at + 1 + src_size(src), dst)
+        Instr::Two { op, src, dst, .. } => op.writes()
+            && is_plain_store(o, cursor, at + 1 + src.words(), dst)
             && is_quiet(src),
-        Instr::One { op, src, .. } => changes(op) && is_at_r4(src),
+        Instr::One { op, src, .. } => op.changes() && is_at_r4(src),
         _ => false,
     }
 }
@@ -186,8 +183,8 @@ fn is_wide_form(most: u16, o: &Object, cursor: Cursor, at: usize, i: Instr) -> b
     ensures { IsTrue result ↔ IsWideForm most o.now at i }
 {
     match i {
-        Instr::Two { op, src, dst, .. } => writes(op)
-            && is_near_store(most, o, cursor, at + 1 + src_size(src), dst)
+        Instr::Two { op, src, dst, .. } => op.writes()
+            && is_near_store(most, o, cursor, at + 1 + src.words(), dst)
             && is_quiet(src),
         _ => false,
     }
@@ -215,9 +212,9 @@ fn is_load_form(o: &Object, cursor: Cursor, at: usize, i: Instr) -> bool
 {
     match i {
         Instr::Two { op, src, dst, .. } => {
-            let place = at + 1 + src_size(src);
+            let place = at + 1 + src.words();
             (is_load_src(o, cursor, src) && is_own_dst(o, cursor, place, dst))
-                || (tests(op) && is_plain_store(o, cursor, place, dst) && is_quiet(src))
+                || (op.tests() && is_plain_store(o, cursor, place, dst) && is_quiet(src))
         }
         _ => false,
     }
@@ -267,7 +264,7 @@ fn is_growth_form(i: Instr) -> bool
     ensures { IsTrue result ↔ IsGrowthForm i }
 {
     match i {
-        Instr::One { op, src, .. } => stacks(op) && is_quiet(src),
+        Instr::One { op, src, .. } => op.stacks() && is_quiet(src),
         _ => false,
     }
 }
@@ -282,7 +279,7 @@ fn is_pop_form(i: Instr) -> bool
             width,
             src,
             dst,
-        } => is_mov(op) && is_wide(width) && pops(src, SP) && is_high(dst),
+        } => op.is_mov() && width.is_wide() && src.pops(SP) && is_high(dst),
         _ => false,
     }
 }
@@ -297,7 +294,7 @@ fn is_sp_form(i: Instr) -> bool
             width,
             src,
             dst,
-        } => is_mov(op) && is_wide(width) && src_is(src, CHECKED) && dst_is(dst, SP),
+        } => op.is_mov() && width.is_wide() && src.is_reg(CHECKED) && dst.is_reg(SP),
         _ => false,
     }
 }

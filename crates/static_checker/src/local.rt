@@ -11,7 +11,6 @@ ghost use Rattle.static_checker.specs.Spots.{IsStartSpot};
 
 use crate::code_units::CodeUnit;
 use crate::cursor::{Cursor, go_to};
-use crate::forms::{is_reti, pops};
 use crate::operand_words::has_wrong_reloc;
 use crate::refusal::Refusal;
 use crate::registers::{breaks_pc, breaks_pop, breaks_push, breaks_sp, breaks_sr};
@@ -69,7 +68,7 @@ fn is_plain(i: Instr) -> bool
             src,
             dst: Dst::Reg(n),
             ..
-        } => 4 <= n && !pops(src, SP),
+        } => 4 <= n && !src.pops(SP),
         Instr::Jump { .. } => true,
         _ => false,
     }
@@ -149,7 +148,7 @@ fn breaks(rule: Rule, o: &Object, cursor: Cursor, unit: &CodeUnit) -> bool
 {
     let i = unit.spot.instr;
     match rule {
-        Rule::Reti => is_reti(i),
+        Rule::Reti => i.is_reti(),
         Rule::Pc => breaks_pc(i),
         Rule::Sp => breaks_sp(i, unit.guard),
         Rule::Sr => breaks_sr(o, cursor, unit.spot.at, i),

@@ -6,7 +6,6 @@ ghost use Rattle.static_checker.specs.Cursors.{IsCursor};
 ghost use Rattle.static_checker.specs.Spots.{IsStartSpot};
 
 use crate::cursor::{Cursor, reloc_on};
-use crate::forms::src_size;
 use crate::spot::Spot;
 use code_model::object::Object;
 use code_model::parts::RelKind;
@@ -32,7 +31,7 @@ pub fn carries(i: Instr, word: usize, kind: RelKind) -> bool
 {
     match i {
         Instr::Two { src, dst, .. } => (word == 1 && src_carries(src, kind))
-            || (word == 1 + src_size(src) && dst_carries(dst, kind)),
+            || (word == 1 + src.words() && dst_carries(dst, kind)),
         Instr::One { src, .. } => word == 1 && src_carries(src, kind),
         _ => false,
     }

@@ -15,7 +15,6 @@ ghost use Rattle.static_checker.specs.Passed.{IsReached, IsGone, UnitsBelow, IsP
 
 use crate::code_units::{Advance, BegunGuard, CodeUnit, advance_from};
 use crate::cursor::{Cursor, at_start, go_to};
-use crate::forms::is_call;
 use crate::guards::{most_served, served_at};
 use crate::local::first_refusal;
 use crate::marking::mark;
@@ -173,7 +172,7 @@ fn is_transfer(i: Instr) -> bool
 {
     match i {
         Instr::Two { .. } => is_branch(i),
-        Instr::One { op, .. } => is_call(op),
+        Instr::One { op, .. } => op.is_call(),
         Instr::Jump { .. } => true,
         Instr::Reti => false,
     }

@@ -1,15 +1,14 @@
 //! The rules on registers and the stack: PC, SP, SR, pops and pushes.
 
 ghost use Rattle.std.specs.Prelude.{◌≡◌, ◌<◌, ◌≤◌, ◌↔◌, IsTrue};
+ghost use Rattle.msp_encode.specs.Forms.{WritesReg, IsImmediate};
 ghost use Rattle.code_model.specs.declared.object.TheConstants.{CODE_WORDS_MAX};
 ghost use Rattle.code_model.specs.declared.guards.GuardKind.TheVariants as kind;
 ghost use Rattle.static_checker.specs.Cursors.{IsCursor};
-ghost use Rattle.code_model.specs.Rules.{WritesReg, IsImmediate, IsBranch, NamesFlags, ChangesFlags, ReadsStack, IsPushOrCall};
+ghost use Rattle.code_model.specs.Rules.{IsBranch, NamesFlags, ChangesFlags, ReadsStack, IsPushOrCall};
 
 use crate::cursor::{Cursor, unrelocated};
-use crate::forms::{
-    const_value, dst_is, is_bis_or_bic, is_flags, is_mov, is_wide, pops, stacks, writes_reg,
-};
+use crate::forms::is_flags;
 use code_model::guards::GuardKind;
 use code_model::object::Object;
 use msp_encode::instr::{Instr, Src};
@@ -29,14 +28,14 @@ fn is_by(guard: Option<GuardKind>, by: GuardKind) -> bool
 pub fn breaks_pc(i: Instr) -> bool
     ensures { IsTrue result ↔ (WritesReg i 0 × (IsBranch i → ⊥)) }
 {
-    writes_reg(i, PC) && !is_branch(i)
+    i.writes_reg(PC) && !is_branch(i)
 }
 
 /// Tells whether SP is written without its guard.
 pub fn breaks_sp(i: Instr, guard: Option<GuardKind>) -> bool
     ensures { IsTrue result ↔ (WritesReg i 1 × (guard ≡ Some kind.Sp → ⊥)) }
 {
-    writes_reg(i, SP) && !is_by(guard, GuardKind::Sp)
+    i.writes_reg(SP) && !is_by(guard, GuardKind::Sp)
 }
 
 /// Tells whether more of SR than the flags is written.
@@ -46,7 +45,7 @@ pub fn breaks_sr(o: &Object, cursor: Cursor, at: usize, i: Instr) -> bool
     requires within { at < CODE_WORDS_MAX }
     ensures { IsTrue result ↔ (WritesReg i 2 × (ChangesFlags o.now at i → ⊥)) }
 {
-    writes_reg(i, SR) && !changes_flags(o, cursor, at, i)
+    i.writes_reg(SR) && !changes_flags(o, cursor, at, i)
 }
 
 /// Tells whether the stack is popped without a guard.
@@ -73,7 +72,7 @@ pub fn is_branch(i: Instr) -> bool
             width,
             src,
             dst,
-        } => is_mov(op) && is_wide(width) && is_immediate(src) && dst_is(dst, PC),
+        } => op.is_mov() && width.is_wide() && is_immediate(src) && dst.is_reg(PC),
         _ => false,
     }
 }
@@ -93,8 +92,8 @@ fn changes_flags(o: &Object, cursor: Cursor, at: usize, i: Instr) -> bool
     ensures { IsTrue result ↔ ChangesFlags o.now at i }
 {
     match i {
-        Instr::Two { op, width, src, .. } => is_bis_or_bic(op)
-            && is_wide(width)
+        Instr::Two { op, width, src, .. } => op.is_bis_or_bic()
+            && width.is_wide()
             && names_flags(o, cursor, at, src),
         _ => false,
     }
@@ -108,7 +107,7 @@ fn names_flags(o: &Object, cursor: Cursor, at: usize, src: Src) -> bool
     ensures { IsTrue result ↔ NamesFlags o.now at src }
 {
     match src {
-        Src::Const(constant) => is_flags(const_value(constant)),
+        Src::Const(constant) => is_flags(constant.value()),
         Src::Immediate(x) => unrelocated(o, cursor, at + 1) && is_flags(x),
         _ => false,
     }
@@ -119,7 +118,7 @@ fn reads_stack(i: Instr) -> bool
     ensures { IsTrue result ↔ ReadsStack i }
 {
     match i {
-        Instr::Two { src, .. } | Instr::One { src, .. } => pops(src, SP),
+        Instr::Two { src, .. } | Instr::One { src, .. } => src.pops(SP),
         _ => false,
     }
 }
@@ -129,7 +128,7 @@ fn is_push_or_call(i: Instr) -> bool
     ensures { IsTrue result ↔ IsPushOrCall i }
 {
     match i {
-        Instr::One { op, .. } => stacks(op),
+        Instr::One { op, .. } => op.stacks(),
         _ => false,
     }
 }

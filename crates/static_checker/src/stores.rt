@@ -8,7 +8,6 @@ ghost use Rattle.static_checker.specs.Cursors.{IsCursor};
 ghost use Rattle.static_checker.specs.CodeUnits.{IsStoreGuard};
 
 use crate::cursor::{Cursor, has_reloc};
-use crate::forms::{changes, src_size, writes};
 use code_model::guards::GuardKind;
 use code_model::object::Object;
 use code_model::parts::RelKind;
@@ -46,9 +45,9 @@ pub fn writes_wild(o: &Object, cursor: Cursor, at: usize, i: Instr) -> bool
     ensures { IsTrue result ↔ WritesWild o.now at i }
 {
     match i {
-        Instr::Two { op, src, dst, .. } => writes(op)
-            && is_wild_dst(o, cursor, at + 1 + src_size(src), dst),
-        Instr::One { op, src, .. } => changes(op) && is_wild_src(o, cursor, at + 1, src),
+        Instr::Two { op, src, dst, .. } => op.writes()
+            && is_wild_dst(o, cursor, at + 1 + src.words(), dst),
+        Instr::One { op, src, .. } => op.changes() && is_wild_src(o, cursor, at + 1, src),
         _ => false,
     }
 }
@@ -58,8 +57,8 @@ fn writes_memory(i: Instr) -> bool
     ensures { IsTrue result ↔ WritesMemory i }
 {
     match i {
-        Instr::Two { op, dst, .. } => writes(op) && is_memory_dst(dst),
-        Instr::One { op, src, .. } => changes(op) && is_memory_src(src),
+        Instr::Two { op, dst, .. } => op.writes() && is_memory_dst(dst),
+        Instr::One { op, src, .. } => op.changes() && is_memory_src(src),
         _ => false,
     }
 }

@@ -9,7 +9,6 @@ ghost use Rattle.static_checker.specs.Cursors.{IsCursor};
 ghost use Rattle.code_model.specs.Rules.{IsJumpEntry, IsCallEntry, IsUnitOffset, IsBranchTarget, IsCallTarget, TransferMissesTarget, IsJumpTarget, JumpMissesUnit, RunsOff};
 
 use crate::cursor::{Cursor, has_reloc, unrelocated};
-use crate::forms::{is_call, is_jmp};
 use crate::marking::{is_marked, jump_place};
 use crate::registers::is_branch;
 use code_model::marks::Marks;
@@ -28,7 +27,7 @@ pub fn transfer_misses_target(o: &Object, cursor: Cursor, units: &Marks, at: usi
 {
     match i {
         Instr::Two { src, .. } => is_branch(i) && !is_branch_target(o, cursor, units, at + 1, src),
-        Instr::One { op, src, .. } => is_call(op) && !is_call_target(o, cursor, units, at + 1, src),
+        Instr::One { op, src, .. } => op.is_call() && !is_call_target(o, cursor, units, at + 1, src),
         _ => false,
     }
 }
@@ -50,7 +49,7 @@ pub fn runs_off(o: &Object, at: usize, i: Instr, words: usize) -> bool
     requires { at + words ≤ length o.now.code }
     ensures { IsTrue result ↔ RunsOff o.now at i words }
 {
-    at + words == o.code.len() && !is_jmp(i) && !is_branch(i)
+    at + words == o.code.len() && !i.is_jmp() && !is_branch(i)
 }
 
 /// Tells whether a branch's operand, whose word is at a place, is an allowed target.

@@ -5,7 +5,7 @@ use Rattle.std.proofs.lemmas.List.{get_or-set_other}
 use Rattle.machine_model.specs.Memory.{even, word_at}
 use Rattle.machine_model.specs.Context.{reg, set_reg}
 use Rattle.machine_model.specs.Operands.{sum_of, low, load, step, source_value, after_source, place_to, place_of, value_in, put_context, put_pairs, stored}
-use Rattle.machine_model.specs.Alu.{alu, alu_one, writes}
+use Rattle.machine_model.specs.Alu.{alu, alu_one}
 use Rattle.machine_model.specs.Does.{does, two, one, change, push, call, reti, jump, holds, target, passed, lowered, raised, Effect}
 use Rattle.machine_model.specs.declared.place.Place.{Place}
 use Rattle.machine_model.specs.declared.place.Place.TheVariants.{InReg, At}
@@ -19,6 +19,7 @@ use Rattle.msp_encode.specs.declared.instr.Src.TheVariants as src
 use Rattle.msp_encode.specs.declared.instr.Dst.{Dst}
 use Rattle.msp_encode.specs.declared.instr.Dst.TheVariants as dst
 use Rattle.msp_encode.specs.declared.instr.Instr.TheVariants as instr
+use Rattle.msp_encode.specs.Forms.{writes}
 use Rattle.unit_laws.specs.Frame.{spread, spread_effect, Avoids, SrcAvoids, DstAvoids, FrameLaw}
 
 set-swap : (l : List ℕ) (i j a b : ℕ) → i ≢ j → set (set l i a) j b ≡ set (set l j b) i a

@@ -5,7 +5,6 @@ use Rattle.std.proofs.lemmas.List.{get_or-set_other}
 use Rattle.machine_model.specs.Memory.{even, word_at, put_all}
 use Rattle.machine_model.specs.Context.{reg, set_reg, IsContext}
 use Rattle.machine_model.specs.Operands.{sum_of, after_source, place_to, put_context, put_pairs, stored}
-use Rattle.machine_model.specs.Alu.{writes}
 use Rattle.machine_model.specs.Does.{does, two, passed, memory_after, Effect}
 use Rattle.machine_model.specs.Fetching.{IsFetched}
 use Rattle.msp_encode.specs.declared.instr.Op2.{Op2}
@@ -16,6 +15,7 @@ use Rattle.msp_encode.specs.declared.instr.Dst.TheVariants as dst
 use Rattle.msp_encode.specs.declared.instr.Instr.{Instr}
 use Rattle.msp_encode.specs.declared.instr.Instr.TheVariants as instr
 use Rattle.msp_encode.specs.Spelling.{Spells}
+use Rattle.msp_encode.specs.Forms.{writes}
 use Rattle.unit_laws.specs.Running.{IsInside, Runs, Stays, Goes}
 use Rattle.unit_laws.specs.Lines.{IsIndexed}
 use Rattle.unit_laws.specs.Guards.{store_words, Passes, StoreEnds}

@@ -3,7 +3,6 @@ use Rattle.std.proofs.Common.{◌≡◌, ◌≢◌, ℕ, zero, suc, ◌+◌, ◌
 use Rattle.std.proofs.lemmas.Bool.{false≢true}
 use Rattle.machine_model.specs.Context.{reg, set_reg, IsContext}
 use Rattle.machine_model.specs.Operands.{sum_of}
-use Rattle.machine_model.specs.Alu.{changes}
 use Rattle.machine_model.specs.Does.{does}
 use Rattle.machine_model.specs.Fetching.{IsFetched}
 use Rattle.msp_encode.specs.declared.instr.Width.{Width}
@@ -15,6 +14,7 @@ use Rattle.msp_encode.specs.declared.instr.Dst.{Dst}
 use Rattle.msp_encode.specs.declared.instr.Dst.TheVariants as dst
 use Rattle.msp_encode.specs.declared.instr.Instr.{Instr}
 use Rattle.msp_encode.specs.declared.instr.Instr.TheVariants as instr
+use Rattle.msp_encode.specs.Forms.{changes}
 use Rattle.unit_laws.specs.Running.{IsInside, Runs, RunsUnit}
 use Rattle.unit_laws.specs.Lines.{IsIndexed}
 use Rattle.unit_laws.specs.Guards.{WordsAt, store_words, IsAtGuard, Passes, Stops}

@@ -4,7 +4,7 @@ use Rattle.std.specs.Prelude.{if◌then◌else◌, ◌==◌}
 use Rattle.std.proofs.lemmas.Bool.Decides.{nat_tests}
 use Rattle.machine_model.specs.Context.{reg, set_reg, IsContext}
 use Rattle.machine_model.specs.Operands.{sum_of, low, load, step, source_value, after_source, place_to, value_in, put_context, put_pairs}
-use Rattle.machine_model.specs.Alu.{alu, writes}
+use Rattle.machine_model.specs.Alu.{alu}
 use Rattle.machine_model.specs.Does.{does, two, passed}
 use Rattle.machine_model.specs.Fetching.{IsFetched}
 use Rattle.machine_model.specs.declared.place.Place.TheVariants.{InReg}
@@ -17,6 +17,7 @@ use Rattle.msp_encode.specs.declared.instr.Src.TheVariants as src
 use Rattle.msp_encode.specs.declared.instr.Dst.TheVariants as dst
 use Rattle.msp_encode.specs.declared.instr.Instr.TheVariants as instr
 use Rattle.msp_encode.specs.Spelling.{IsBase, SrcFits}
+use Rattle.msp_encode.specs.Forms.{writes}
 use Rattle.unit_laws.specs.Running.{held, silent, Runs, Stays, Goes}
 use Rattle.unit_laws.specs.Frame.{SrcAvoids}
 use Rattle.unit_laws.specs.Rows.{IsFree, SrcFree}

@@ -5,7 +5,7 @@ use Rattle.std.specs.Prelude.{if◌then◌else◌}
 use Rattle.machine_model.specs.Memory.{even}
 use Rattle.machine_model.specs.Context.{reg, set_reg}
 use Rattle.machine_model.specs.Operands.{sum_of, low, step, source_value, after_source, place_to, place_of, value_in, put_context, put_pairs, stored}
-use Rattle.machine_model.specs.Alu.{alu, alu_one, writes}
+use Rattle.machine_model.specs.Alu.{alu, alu_one}
 use Rattle.machine_model.specs.Does.{does, two, one, change, push, passed, lowered}
 use Rattle.machine_model.specs.declared.place.Outcome.{Outcome}
 use Rattle.machine_model.specs.declared.place.Place.{Place}
@@ -20,6 +20,7 @@ use Rattle.msp_encode.specs.declared.instr.Dst.{Dst}
 use Rattle.msp_encode.specs.declared.instr.Dst.TheVariants as dst
 use Rattle.msp_encode.specs.declared.instr.Instr.{Instr}
 use Rattle.msp_encode.specs.declared.instr.Instr.TheVariants as instr
+use Rattle.msp_encode.specs.Forms.{writes}
 use Rattle.unit_laws.specs.Rows.{SrcFree, DstFree, GoesOn, SameButPc, PlaceLaw}
 use Rattle.unit_laws.proofs.Frame.{two_from}
 use Rattle.unit_laws.proofs.Guarded.{reg-other}

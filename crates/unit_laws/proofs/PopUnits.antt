@@ -4,7 +4,7 @@ use Rattle.std.specs.Prelude.{if◌then◌else◌}
 use Rattle.machine_model.specs.Memory.{even, word_at, IsMemory}
 use Rattle.machine_model.specs.Context.{reg, set_reg, IsContext}
 use Rattle.machine_model.specs.Operands.{sum_of, low, load, source_value, after_source, place_to, value_in, put_context}
-use Rattle.machine_model.specs.Alu.{alu, writes}
+use Rattle.machine_model.specs.Alu.{alu}
 use Rattle.machine_model.specs.Does.{does, two, Effect}
 use Rattle.machine_model.specs.Fetching.{IsFetched}
 use Rattle.machine_model.specs.declared.place.Place.{Place}
@@ -15,6 +15,7 @@ use Rattle.msp_encode.specs.declared.instr.Src.TheVariants as src
 use Rattle.msp_encode.specs.declared.instr.Dst.{Dst}
 use Rattle.msp_encode.specs.declared.instr.Dst.TheVariants as dst
 use Rattle.msp_encode.specs.declared.instr.Instr.TheVariants as instr
+use Rattle.msp_encode.specs.Forms.{writes}
 use Rattle.unit_laws.specs.Running.{held, IsInside, Runs, Stays, RunsUnit}
 use Rattle.unit_laws.specs.Guards.{pop_words}
 use Rattle.unit_laws.specs.Frame.{DstAvoids, spread, spread_effect}

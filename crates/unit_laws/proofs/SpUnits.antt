@@ -2,7 +2,7 @@
 use Rattle.std.proofs.Common.{◌≡◌, ℕ, ◌+◌, ◌-◌, ◌*◌, ◌%◌, ◌<◌, ◌≤◌, true, List, refl, sym, ap, ◌∙◌, subst, arith}
 use Rattle.machine_model.specs.Context.{reg, set_reg, IsContext}
 use Rattle.machine_model.specs.Operands.{low, source_value, after_source, place_to, value_in, put_context, put_pairs}
-use Rattle.machine_model.specs.Alu.{alu, writes}
+use Rattle.machine_model.specs.Alu.{alu}
 use Rattle.machine_model.specs.Does.{does, two, Effect}
 use Rattle.machine_model.specs.Fetching.{IsFetched}
 use Rattle.msp_encode.specs.declared.instr.Width.{Width}
@@ -13,6 +13,7 @@ use Rattle.msp_encode.specs.declared.instr.Src.TheVariants as src
 use Rattle.msp_encode.specs.declared.instr.Dst.TheVariants as dst
 use Rattle.msp_encode.specs.declared.instr.Instr.TheVariants as instr
 use Rattle.msp_encode.specs.Spelling.{SrcFits}
+use Rattle.msp_encode.specs.Forms.{writes}
 use Rattle.unit_laws.specs.Running.{held, silent, IsInside, Runs, RunsUnit}
 use Rattle.unit_laws.specs.Frame.{spread_effect}
 use Rattle.unit_laws.specs.Guarded.{Steps}

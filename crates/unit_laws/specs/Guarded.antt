@@ -7,13 +7,13 @@ use Rattle.machine_model.specs.Fetching.{IsFetched}
 use Rattle.msp_encode.specs.declared.instr.Width.{Width}
 use Rattle.msp_encode.specs.declared.instr.Op1.{Op1}
 use Rattle.msp_encode.specs.declared.instr.Op2.{Op2}
-use Rattle.machine_model.specs.Alu.{changes}
 use Rattle.msp_encode.specs.declared.instr.Src.{Src}
 use Rattle.msp_encode.specs.declared.instr.Src.TheVariants as src
 use Rattle.msp_encode.specs.declared.instr.Dst.{Dst}
 use Rattle.msp_encode.specs.declared.instr.Dst.TheVariants as dst
 use Rattle.msp_encode.specs.declared.instr.Instr.{Instr}
 use Rattle.msp_encode.specs.declared.instr.Instr.TheVariants as instr
+use Rattle.msp_encode.specs.Forms.{changes}
 use Rattle.unit_laws.specs.Running.{IsInside, RunsUnit}
 use Rattle.unit_laws.specs.Frame.{SrcAvoids, InstrAvoids, spread, spread_effect}
 use Rattle.unit_laws.specs.Guards.{Passes}

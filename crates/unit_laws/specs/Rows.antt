@@ -4,7 +4,7 @@ use Rattle.machine_model.specs.Memory.{word_at, even, IsMemory}
 use Rattle.machine_model.specs.Context.{reg, set_reg, IsContext}
 use Rattle.machine_model.specs.Operands.{sum_of, low, source_value, after_source}
 use Rattle.machine_model.specs.Status.{Flags, with_flags}
-use Rattle.machine_model.specs.Alu.{alu, writes, changes}
+use Rattle.machine_model.specs.Alu.{alu}
 use Rattle.machine_model.specs.Does.{does, Effect, holds, target}
 use Rattle.machine_model.specs.Fetching.{IsFetched}
 use Rattle.msp_encode.specs.declared.instr.Width.{Width}
@@ -22,6 +22,7 @@ use Rattle.msp_encode.specs.declared.instr.Dst.TheVariants as dst
 use Rattle.msp_encode.specs.declared.instr.Instr.{Instr}
 use Rattle.msp_encode.specs.declared.instr.Instr.TheVariants as instr
 use Rattle.msp_encode.specs.Spelling.{SrcFits}
+use Rattle.msp_encode.specs.Forms.{writes, changes}
 use Rattle.unit_laws.specs.Running.{held, silent, IsInside, RunsUnit}
 use Rattle.unit_laws.specs.Lines.{IsIndexed}
 use Rattle.unit_laws.specs.Guards.{WordsAt, store_words, growth_words, pop_words, sp_words}

@@ -1,6 +1,7 @@
+use Rattle.msp_encode.specs.Forms.{WritesReg}
 use Rattle.code_model.specs.declared.guards.GuardKind.TheVariants as guard
 use Rattle.code_model.specs.declared.rules.Rule.TheVariants as rule
-use Rattle.code_model.specs.Rules.{WritesReg, WritesMemory, ReadsStack, IsPushOrCall}
+use Rattle.code_model.specs.Rules.{WritesMemory, ReadsStack, IsPushOrCall}
 use Rattle.static_checker.proofs.LocalLemmas.{by_guard, by_store_guard, as_rule}
 use Rattle.static_checker.proofs.local.breaks.Goals as goal
 
