@@ -16,8 +16,8 @@ use Rattle.insert_model.specs.Units.{static_bytes}
 use Rattle.insert_model.specs.Groups.{Group}
 use Rattle.insert_model.specs.Layout.{Jumps, units, final, final_units}
 use Rattle.insert_model.specs.Faults.{number, LinesHave, LineHas, Hits, Precedes, most_words, Passes, IsUndecoded, IsFirstFault, IsTooLarge, IsFault, IsInserted, IsAnswer, SameAnswer}
-use Rattle.check_inserter.specs.declared.faults.Fault.{Fault}
-use Rattle.check_inserter.specs.Found.{IsFirstOf}
+use Rattle.source_faults.specs.declared.faults.Fault.{Fault}
+use Rattle.source_faults.specs.Found.{IsFirstOf}
 use Rattle.check_inserter.proofs.LaidUnits.{units_append}
 
 -- ---- a fault that was found

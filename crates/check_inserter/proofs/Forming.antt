@@ -22,7 +22,7 @@ use Rattle.insert_model.specs.Layout.{units, before, words_before, sized, final_
 use Rattle.insert_model.specs.Laws.{GroupsStand}
 use Rattle.insert_model.specs.Faults.{NoHit, IsStartOffset, ExportsMiss, most_words, IsInserted}
 use Rattle.check_inserter.specs.declared.laying.Laid.{Laid}
-use Rattle.check_inserter.specs.Read.{StartsIn, IsSource}
+use Rattle.source_faults.specs.Read.{StartsIn, IsSource}
 use Rattle.check_inserter.specs.Places.{IsLaid}
 use Rattle.check_inserter.proofs.Naming.{entry_named, export_named}
 use Rattle.check_inserter.proofs.UnitSizes.{head_moves, target_begins, some_units}

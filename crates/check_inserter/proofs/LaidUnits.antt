@@ -16,7 +16,7 @@ use Rattle.insert_model.specs.Units.{static_bytes}
 use Rattle.insert_model.specs.Groups.{later, Group, groups_from, groups}
 use Rattle.insert_model.specs.Layout.{Jumps, line_unit_of, line_unit, unit_of_lines, unit_in, units, before}
 use Rattle.check_inserter.specs.declared.laying.Laid.{Laid}
-use Rattle.check_inserter.specs.Read.{IsRow, IsSource}
+use Rattle.source_faults.specs.Read.{IsRow, IsSource}
 use Rattle.check_inserter.specs.Places.{IsLaidIn}
 
 -- ---- the groups before a place

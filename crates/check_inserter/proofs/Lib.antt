@@ -1,11 +1,5 @@
-pub mod Anys
-pub mod Firsts
-pub mod Reading
 pub mod LaidUnits
-pub mod WordKinds
 pub mod Growing
-pub mod Startings
-pub mod Faulty
 pub mod Placing
 pub mod Joins
 pub mod Answering

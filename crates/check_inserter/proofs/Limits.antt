@@ -17,7 +17,7 @@ use Rattle.insert_model.specs.Laws.{SizedLaw, ShortLaw}
 use Rattle.insert_model.specs.Faults.{most_words, Passes}
 use Rattle.check_inserter.specs.declared.laying.Laid.{Laid}
 use Rattle.check_inserter.specs.Fitting.{IsOffset, AreOffsets}
-use Rattle.check_inserter.specs.Read.{IsRow}
+use Rattle.source_faults.specs.Read.{IsRow}
 use Rattle.check_inserter.specs.Places.{ArePlaces, IsLaidIn, IsFinal}
 use Rattle.check_inserter.proofs.LaidUnits.{before_in, before_out, above, some_count}
 use Rattle.check_inserter.proofs.Placing.{units_cons, all_words}

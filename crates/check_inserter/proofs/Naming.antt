@@ -12,7 +12,7 @@ use Rattle.insert_model.specs.declared.line.Line.{Line}
 use Rattle.insert_model.specs.Source.{lines}
 use Rattle.insert_model.specs.Groups.{is_target}
 use Rattle.check_inserter.specs.Named.{AreAdded, JumpsTo, SomeJumpTo, Relocates, SomeRelocate, Exports, SomeExport, AreTargets}
-use Rattle.check_inserter.proofs.Anys.{any_cons, any_first, any_behind, any_more, any_none}
+use Rattle.source_faults.proofs.Anys.{any_cons, any_first, any_behind, any_more, any_none}
 
 -- ---- marks that are added
 

@@ -24,8 +24,8 @@ use Rattle.code_model.specs.Fields.{Fields}
 use Rattle.insert_model.specs.Groups.{Cell, cell, is_target, if_near, joins, Group, members}
 use Rattle.insert_model.specs.Layout.{Jumps, jump_by, line_unit_of, line_unit, wide_unit, wide_unit_of, unit_of_lines, unit_in, units, before}
 use Rattle.insert_model.specs.Laws.{Joins, IsGroup}
-use Rattle.check_inserter.specs.Read.{StartsIn}
-use Rattle.check_inserter.proofs.Anys.{any_cons, any_first, any_behind, any_none}
+use Rattle.source_faults.specs.Read.{StartsIn}
+use Rattle.source_faults.proofs.Anys.{any_cons, any_first, any_behind, any_none}
 use Rattle.check_inserter.proofs.LaidUnits.{before_in, before_out}
 use Rattle.check_inserter.proofs.Placing.{units_cons, units_before}
 

@@ -1,5 +1,3 @@
-pub mod Read
-pub mod Found
 pub mod Fitting
 pub mod Cells
 pub mod Named

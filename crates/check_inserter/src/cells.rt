@@ -6,10 +6,10 @@ ghost use Rattle.insert_model.specs.Groups.{cell, difference, if_near, is_data, 
 ghost use Rattle.insert_model.specs.Layout.{difference_of};
 ghost use Rattle.check_inserter.specs.Cells.{as_cell};
 
-use crate::targets::own;
 use code_model::parts::RelKind;
 use insert_model::line::Line;
 use msp_encode::instr::{Dst, Instr};
+use source_faults::source::own;
 
 /// Where an instruction stores: a base register, and an index with its relocation.
 #[derive(Clone, Copy, Drop)]

@@ -11,7 +11,6 @@ ghost use Rattle.check_inserter.specs.Fitting.{IsOffset, IsLegalLine, AreLegalLi
 
 use crate::cells::{Cell, cell_of, distance};
 use crate::guards::{jump, wide_guard};
-use crate::targets::own;
 use crate::units::put_unit;
 use crate::words::put_pieces;
 use code_model::guards::Reach;
@@ -19,6 +18,7 @@ use insert_model::line::Line;
 use insert_model::piece::{Piece, Word};
 use msp_encode::instr::{Dst, Instr};
 use msp_encode::registers::CHECKED;
+use source_faults::source::own;
 use std::alloc::AllocError;
 
 /// Appends the words of the unit of a group, beside a static part of `size` bytes: its first line, and those behind it. `short` is

@@ -12,15 +12,12 @@ ghost use Rattle.insert_model.specs.Laws.{StandsAlone};
 ghost use Rattle.insert_laws.specs.Laws.{IsAcceptable, HasNoLoads, PiecesStand};
 ghost use Rattle.insert_laws.specs.Lines.{LinesStand};
 ghost use Rattle.placed_unit_laws.specs.Ends.{UnitsEnd, GroupsEnd, CallsPush, UnitsStand, SourcesHide};
-ghost use Rattle.check_inserter.specs.Read.{IsSource};
+ghost use Rattle.source_faults.specs.Read.{IsSource};
 ghost use Rattle.check_inserter.specs.Places.{IsLaid};
 
-use crate::faults::first_fault;
 use crate::laws::one_answer;
 use crate::laying::{Laid, lay};
 use crate::moving::{all_relocs, moved_bytes, moved_exports, moved_words, place_of};
-use crate::source::read_lines;
-use crate::starts::starts;
 use code_model::object::Object;
 use insert_laws::{
     inserted_is_accepted, lines_are_spelled, no_load_guards, starts_are_pieces, verdict_accepts,
@@ -29,6 +26,9 @@ use insert_model::fault::InsertFault;
 use insert_model::laws::{first_version, groups_stand};
 use insert_model::line::Line;
 use placed_unit_laws::{call_pushes, group_ends, source_place_hidden, unit_ends, unit_stands};
+use source_faults::faults::first_fault;
+use source_faults::source::read_lines;
+use source_faults::starts::starts;
 use std::alloc::Global;
 
 /// The object with guards for an object without, or the first fault of the source object: where an instruction isn't spelled

@@ -4,7 +4,7 @@ ghost use Rattle.std.specs.Prelude.{◌≡◌, ℕ, ◌+◌, ◌*◌, ◌<◌, �
 ghost use Rattle.code_model.specs.Fields.{fields};
 ghost use Rattle.insert_model.specs.Units.{target_offset};
 ghost use Rattle.insert_model.specs.Layout.{Jumps, words_before, longest, span_between, is_near, is_near_in, is_short, sized, final_offset, final};
-ghost use Rattle.check_inserter.specs.Read.{IsWhole, IsSource};
+ghost use Rattle.source_faults.specs.Read.{IsWhole, IsSource};
 ghost use Rattle.check_inserter.specs.Places.{ArePlaces};
 
 use crate::units::target_offset;

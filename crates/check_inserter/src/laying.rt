@@ -7,7 +7,7 @@ ghost use Rattle.insert_model.specs.Layout.{Jumps, longest, sized};
 ghost use Rattle.insert_model.specs.Faults.{most_words, Passes};
 ghost use Rattle.check_inserter.specs.Named.{AreTargets};
 ghost use Rattle.check_inserter.specs.Fitting.{AreOffsets};
-ghost use Rattle.check_inserter.specs.Read.{IsRow, IsSource};
+ghost use Rattle.source_faults.specs.Read.{IsRow, IsSource};
 ghost use Rattle.check_inserter.specs.Places.{ArePlaces, IsLaidIn, IsFinal, IsLaid, IsUnlaid};
 
 use crate::group_units::put_group;

@@ -5,8 +5,8 @@
 //! object the units make, and what is wrong with a source object. The layers above call `insert`: its answer is that object
 //! or the first fault with its offset, and no other answer is. `laws` has that an object has one answer, for callers.
 //!
-//! The inserter reads the instructions once as lines (`source`), looks for the first fault (`faults`), lays the units of the
-//! lines one after another and keeps where each source word's unit stands (`laying`), and then gives the words, the
+//! The lines of the source and its first fault come from `source_faults`. The inserter lays the units of the lines one after
+//! another and keeps where each source word's unit stands (`laying`), and then gives the words, the
 //! relocations, the initialised bytes, the entry and the exports their new places (`moving`). In version 2 up to four stores
 //! near each other are a group with one unit (`named`, `groups`, `group_units`), and the units are laid three times: with each
 //! jump in its longest unit, whose places tell which jumps are one word (`jumps`), with a word for each of these, whose places
@@ -14,9 +14,6 @@
 #![tactic(auto)]
 
 mod cells;
-mod faults;
-mod forbidden;
-mod forms;
 mod group_units;
 mod groups;
 mod guards;
@@ -27,9 +24,6 @@ mod laying;
 mod moving;
 mod named;
 mod operands;
-mod source;
-mod starts;
-mod targets;
 mod units;
 mod words;
 

@@ -9,7 +9,6 @@ ghost use Rattle.code_model.specs.Fields.{fields};
 ghost use Rattle.insert_model.specs.declared.piece.Word.{Word};
 ghost use Rattle.insert_model.specs.Inserted.{moved_value, moved, with_reloc, relocs_from, with_word, moved_at, moved_data, of_data, moved_export};
 ghost use Rattle.insert_model.specs.Layout.{place_map};
-ghost use Rattle.insert_model.specs.Source.{word_in};
 ghost use Rattle.check_inserter.specs.Places.{IsLaid};
 
 use crate::jumps::words_before;
@@ -19,6 +18,7 @@ use code_model::object::Object;
 use code_model::parts::{Export, RelKind, Reloc};
 use edge_io::lists::Bytes;
 use insert_model::piece::Word;
+use source_faults::source::word_in;
 use std::alloc::{AllocError, Global};
 
 /// Where a source offset went.
@@ -153,14 +153,6 @@ fn move_datum(o: &Object, laid: &Laid, bytes: &mut [u8], reloc: Reloc)
         bytes[at] = halves[0];
         bytes[at + 1] = halves[1];
     }
-}
-
-/// The word at an offset of bytes.
-pub(crate) fn word_in(bytes: &[u8], at: usize) -> u16
-    requires { at + 2 ≤ length bytes.now }
-    ensures { result ≡ word_in bytes.now at }
-{
-    u16::from_le_bytes([bytes[at], bytes[at + 1]])
 }
 
 /// The exports with their new offsets.

@@ -10,17 +10,17 @@ ghost use Rattle.code_model.specs.Fields.{fields};
 ghost use Rattle.code_model.specs.Form.{RelocFits};
 ghost use Rattle.insert_model.specs.declared.line.Line.{Line};
 ghost use Rattle.insert_model.specs.Groups.{relocated_word};
-ghost use Rattle.check_inserter.specs.Read.{IsSource};
+ghost use Rattle.source_faults.specs.Read.{IsSource};
 ghost use Rattle.check_inserter.specs.Fitting.{IsLegalLine, AreLegalLines};
 ghost use Rattle.check_inserter.specs.Named.{AreAdded, JumpsTo, SomeJumpTo, Relocates, SomeRelocate, SomeExport, AreTargets};
 
-use crate::moving::word_in;
 use crate::units::target_offset;
 use code_model::marks::Marks;
 use code_model::object::{CODE_BYTES_MAX, Object};
 use code_model::parts::{Export, RelKind, Reloc};
 use insert_model::line::Line;
 use msp_encode::instr::Instr;
+use source_faults::source::word_in;
 
 /// The offsets that a jump, a word to which the code's address is added, the entry or an export names, as marks.
 pub(crate) fn targets(o: &Object, lines: &[Line]) -> Marks

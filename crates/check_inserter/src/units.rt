@@ -13,7 +13,6 @@ use crate::guards::{
 use crate::operands::{
     aim, aim_one, from_r4, into_r4, is_immediate, is_plain_pop, through_r4,
 };
-use crate::targets::own;
 use crate::words::{put_both, put_pieces};
 use code_model::parts::RelKind;
 use insert_model::aim::Aim;
@@ -22,6 +21,7 @@ use insert_model::piece::{Piece, Word};
 use kernel_model::entries::{CALLS, GOES};
 use msp_encode::instr::{Cond, Dst, Instr, Op1, Op2, Src, Width};
 use msp_encode::registers::{CHECKED, PC, SP};
+use source_faults::source::own;
 use std::alloc::AllocError;
 
 /// Appends the words of a line's unit, beside a static part of `size` bytes.

@@ -47,7 +47,7 @@ use Rattle.placed_unit_laws.proofs.Fetching.{count-place, src-count, own-instr}
 use Rattle.placed_unit_laws.proofs.Pieces.{Stands, cut, head, end, region-stands, region-size}
 use Rattle.placed_unit_laws.proofs.Clean.{IsTwoLine, src-placed, steps-placed, two-fits, two-source, pops-aright, stores-aright}
 use Rattle.placed_unit_laws.proofs.Results.{Outcome, of-store}
-use Rattle.placed_unit_laws.proofs.WritingRows.{writes-so, alu-writes, indexed, steps-base, word-small}
+use Rattle.placed_unit_laws.proofs.WritingRows.{writes-so, indexed, steps-base, word-small}
 use Rattle.kernel_model.specs.declared.entries.TheConstants.{STORE_FAULT}
 
 -- ---- numbers
@@ -138,7 +138,7 @@ module _ (o : Object) (d : Domain) (from : Cell) (most : ℕ) where
         by : (b : Bool) → is_popped h.source ≡ b
             → check_of_two (static_bytes (fields o)) h.op h.width h.source (dst.Indexed from.base h.index) (own l) ≡ OfStore from.base h.index (own l).destination
         by true e = absurd (pops-aright o l h.op h.width h.source (dst.Indexed from.base h.index) two-line (popped h.source e) (writes-so h.op h.stores) (inr (inr tt)))
-        by false e = rw (e, alu-writes h.op h.stores) refl
+        by false e = rw (e, h.stores) refl
 
   -- one after another
   pub after-is : (ls : List Line) (hs : AllByRecursion (StoresBehind o from most) ls) (m r : List ℕ) → source_after o d m r ls ≡ stores_after from.base m r (stores-of ls hs)

@@ -11,7 +11,6 @@ use Rattle.msp_encode.specs.declared.instr.Dst.TheVariants as dst
 use Rattle.msp_encode.specs.declared.instr.Instr.{Instr}
 use Rattle.msp_encode.specs.declared.instr.Instr.TheVariants as instr
 use Rattle.machine_model.specs.Context.{reg}
-use Rattle.machine_model.specs.Alu as alu
 use Rattle.machine_model.specs.Does.{Effect}
 use Rattle.code_model.specs.declared.object.Object.{Object}
 use Rattle.load_model.specs.Domains.{Domain}
@@ -80,21 +79,6 @@ module _ (g : RowLaws) (o : Object) (d : Domain) (low top : ℕ) (m r : List ℕ
         follows = subst (Follows m r first past) (sym does) (g.own m r first past source n (at-first g o d low top m r l a st) f.0 (end o d m (first + 2 * n) past f.1) (λ i. goal.outside (subst (λ (p : ℕ). (first < p) × (p < past)) there i)));
         lands = subst (Lands o d l) (sym leads) goal.lands;
       }
-
--- the operations that write are the machine's
-same-writes : (op : Op2) → writes op ≡ alu.writes op
-same-writes Mov = refl
-same-writes Add = refl
-same-writes Addc = refl
-same-writes Subc = refl
-same-writes Sub = refl
-same-writes Cmp = refl
-same-writes Dadd = refl
-same-writes Bit = refl
-same-writes Bic = refl
-same-writes Bis = refl
-same-writes Xor = refl
-same-writes And = refl
 
 -- ---- by the destination
 
@@ -187,8 +171,7 @@ module _ (g : RowLaws) (o : Object) (d : Domain) (low top : ℕ) (m r : List ℕ
   pub two-row : (bytes : ℕ) (s : Src) (t : Dst) → IsTwoLine o l op w s t → Stands o d m (unit_at o d l) (unit_behind o d l) (two_unit bytes op w s t (own l))
       → Row o d low top m r l (check_of_two bytes op w s t (own l)) (instr.Two op w s t) (handed (instr.Two op w s t))
   two-row bytes s t is h =
-      subst (λ (c : Bool). Row o d low top m r l (if is_popped s then OfPop else (if c then check_of_aim op w s (own l).source (aim bytes t (own l).destination) else Unchecked)) (instr.Two op w s t) (handed (instr.Two op w s t))) (same-writes op)
-      (by (is_popped s) (writes op) refl refl h)
+      by (is_popped s) (writes op) refl refl h
     where
       popped : s ≡ src.AutoInc 1 → Stands o d m (unit_at o d l) (unit_behind o d l) (popping op w t (own l)) → Result o d low top m r l OfPop r (handed (instr.Two op w s t))
       popped e = subst (λ (y : Src). IsTwoLine o l op w y t → Stands o d m (unit_at o d l) (unit_behind o d l) (popping op w t (own l)) → Result o d low top m r l OfPop r (handed (instr.Two op w y t))) (sym e)

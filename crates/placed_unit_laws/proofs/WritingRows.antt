@@ -17,7 +17,6 @@ use Rattle.msp_encode.specs.Forms.{Writes, DstIs, Pops, writes}
 use Rattle.machine_model.specs.Memory.{word_at, IsMemory}
 use Rattle.machine_model.specs.Context.{reg}
 use Rattle.machine_model.specs.Operands.{sum_of, source_value, after_source}
-use Rattle.machine_model.specs.Alu as alu
 use Rattle.machine_model.specs.Does.{Effect}
 use Rattle.machine_model.specs.Fetching.{IsFetched}
 use Rattle.code_model.specs.declared.object.Object.{Object}
@@ -62,20 +61,6 @@ writes-so Bic e = tt
 writes-so Bis e = tt
 writes-so Xor e = tt
 writes-so And e = tt
-
-pub alu-writes : (op : Op2) → writes op ≡ true → alu.writes op ≡ true
-alu-writes Mov e = refl
-alu-writes Add e = refl
-alu-writes Addc e = refl
-alu-writes Subc e = refl
-alu-writes Sub e = refl
-alu-writes Cmp e = e
-alu-writes Dadd e = refl
-alu-writes Bit e = e
-alu-writes Bic e = refl
-alu-writes Bis e = refl
-alu-writes Xor e = refl
-alu-writes And e = refl
 
 -- a base register that isn't R4 or R5 makes addresses
 pub indexed : (n : ℕ) → n < 16 → IsBase n → n ≢ 4 → n ≢ 5 → IsIndexed n
@@ -192,7 +177,7 @@ module _ (g : RowLaws) (o : Object) (d : Domain) (low top : ℕ) (m r : List ℕ
       let goes : GoesOn source = (free-source g o d low top m r l a st op w s t is, dst-placed o d (own l).destination t free) in
       let same : instr.Two op w s_here (dst.Reg 1) ≡ source = ap (λ (y : Dst). instr.Two op w s_here (placed_dst o d (own l).destination y)) (sym e) in
       let v = new_sp m r op w s_here in
-      let law = g.set_sp m r first past op w s_here n_here (at-first g o d low top m r l a st) f1.0 f2.0 (omega arith) words f3.0 z (alu-writes op wr) (src-fits o d (own l).source s (two-fits o l op w s t is).0) goes.0
+      let law = g.set_sp m r first past op w s_here n_here (at-first g o d low top m r l a st) f1.0 f2.0 (omega arith) words f3.0 z wr (src-fits o d (own l).source s (two-fits o l op w s t is).0) goes.0
       (λ q. pops (steps-pops s 1 (steps-placed o d (own l).source s 1 q))) in
       let tiny = few g o d low top m r l a st op w s t is in
       checked g o d low top m r l a st (OfSp op w s (own l).source) (after_source w s_here r) None (IsWithin m v) (IsBeyond m v) (Follows m r first past (ended past m r (instr.Two op w s_here (dst.Reg 1)) n_here)) law (of-sp (word_at m STACK_LIMIT) (word_at m STACK_TOP) v)
