@@ -73,12 +73,7 @@ pub(crate) fn count_at_end(class: Class, text: &[u8]) -> usize
 pub(crate) fn all(class: Class, text: &[u8]) -> bool
     ensures { result ≡ list_all (passes class) text.now }
 {
-    for i in 0..text.len() {
-        if !is_of(class, text[i]) {
-            return false;
-        }
-    }
-    true
+    text.iter().all(|byte| is_of(class, *byte))
 }
 
 /// Whether all bytes may stand in a line.

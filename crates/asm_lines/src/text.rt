@@ -27,10 +27,9 @@ pub fn cut(text: &[u8], byte: u8) -> (&[u8], Option<&[u8]>)
 fn strip_return(line: &[u8]) -> &[u8]
     ensures { result.now ≡ without_return line.now }
 {
-    if last(line) == b'\r' {
-        &line[..line.len() - 1]
-    } else {
-        line
+    match line.strip_suffix(b"\r") {
+        Some(front) => front,
+        None => line,
     }
 }
 
