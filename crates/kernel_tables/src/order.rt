@@ -166,12 +166,7 @@ fn in_order(m: &FlatMem, ready: &[u8], sleepers: &[u8]) -> bool
 pub fn all_below(list: &[u8]) -> bool
     ensures { IsTrue result ↔ All (λ t. t < 32) list.now }
 {
-    for t in list {
-        if *t >= 32 {
-            return false;
-        }
-    }
-    true
+    list.iter().all(|t| *t < 32)
 }
 
 /// Whether no member stands twice.
@@ -191,12 +186,7 @@ pub fn new_at(list: &[u8], t: u8, count: usize) -> bool
     requires { count ≤ length list.now }
     ensures { IsTrue result ↔ IsNewAt list.now t count }
 {
-    for i in 0..count {
-        if list[i] == t {
-            return false;
-        }
-    }
-    true
+    !list[..count].contains(&t)
 }
 
 /// Whether no member of the first list stands in the second.
