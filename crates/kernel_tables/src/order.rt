@@ -193,12 +193,7 @@ pub fn new_at(list: &[u8], t: u8, count: usize) -> bool
 fn apart(first: &[u8], second: &[u8]) -> bool
     ensures { IsTrue result ↔ AreApart first.now second.now }
 {
-    for i in 0..first.len() {
-        if !new_at(second, first[i], second.len()) {
-            return false;
-        }
-    }
-    true
+    first.iter().all(|t| !second.contains(t))
 }
 
 /// Whether each thread's priority is at most 7.
