@@ -201,12 +201,7 @@ fn in_range(m: &FlatMem, list: &[u8]) -> bool
     requires { All (λ t. t < 32) list.now }
     ensures { IsTrue result ↔ All (λ t. priority_of (kernel_of m.now) t ≤ 7) list.now }
 {
-    for i in 0..list.len() {
-        if priority(m, list[i]) > 7 {
-            return false;
-        }
-    }
-    true
+    list.iter().all(|t| priority(m, *t) <= 7)
 }
 
 /// Whether higher priorities stand before lower ones.
