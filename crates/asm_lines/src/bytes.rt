@@ -2,7 +2,7 @@
 
 ghost use Rattle.std.specs.Prelude.{◌≡◌, ◌≤◌, length};
 ghost use Rattle.std.specs.List.{position_or_len, suffix_len, list_all, slice_index_or};
-ghost use Rattle.asm_model.specs.Lines.{is_nil, is_text_byte, last_byte};
+ghost use Rattle.asm_model.specs.Lines.{is_nil, is_text_byte};
 ghost use Rattle.asm_model.specs.Numbers.{first_byte};
 ghost use Rattle.asm_lines.specs.Classes.{passes};
 
@@ -73,12 +73,7 @@ pub(crate) fn count_at_end(class: Class, text: &[u8]) -> usize
 pub(crate) fn all(class: Class, text: &[u8]) -> bool
     ensures { result ≡ list_all (passes class) text.now }
 {
-    for i in 0..text.len() {
-        if !is_of(class, text[i]) {
-            return false;
-        }
-    }
-    true
+    text.iter().all(|byte| is_of(class, *byte))
 }
 
 /// Whether all bytes may stand in a line.
@@ -93,16 +88,6 @@ pub(crate) fn byte_at(text: &[u8], at: usize) -> u8
     ensures { result ≡ slice_index_or text.now at 0 }
 {
     match text.get(at) {
-        Some(byte) => *byte,
-        None => 0,
-    }
-}
-
-/// The last byte, or 0 where there is none.
-pub(crate) fn last(text: &[u8]) -> u8
-    ensures { result ≡ last_byte text.now }
-{
-    match text.last() {
         Some(byte) => *byte,
         None => 0,
     }

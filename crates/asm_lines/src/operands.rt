@@ -3,7 +3,7 @@
 ghost use Rattle.std.specs.Prelude.{◌≡◌, ◌-◌, take, drop, length};
 ghost use Rattle.asm_model.specs.Operands.{plain_only, label_only, address_of, distance_of, hash_operand, at_operand, indexed, indexed_operand, plain_operand, operand_of};
 
-use crate::bytes::{Class, byte_at, last, position};
+use crate::bytes::{Class, byte_at, position};
 use crate::expressions::{expression, over_label, plain};
 use crate::names::{Names, register};
 use asm_model::expression::Expression;
@@ -14,13 +14,6 @@ fn tail(word: &[u8]) -> &[u8]
     ensures { result.now ≡ drop 1 word.now }
 {
     if word.is_empty() { word } else { &word[1..] }
-}
-
-/// What stands before the last byte.
-fn front(word: &[u8]) -> &[u8]
-    ensures { result.now ≡ take (length word.now - 1) word.now }
-{
-    &word[..word.len().saturating_sub(1)]
 }
 
 /// A number or a label of static data.
@@ -53,10 +46,9 @@ fn distance(names: &Names, word: &[u8]) -> Option<Expression>
 fn after_hash(names: &Names, word: &[u8]) -> Option<Operand>
     ensures { result ≡ hash_operand names.now word.now }
 {
-    if byte_at(word, 0) == b'#' {
-        Some(Operand::Immediate(expression(names, tail(word))?))
-    } else {
-        Some(Operand::Value(expression(names, word)?))
+    match word.strip_prefix(b"#") {
+        Some(rest) => Some(Operand::Immediate(expression(names, rest)?)),
+        None => Some(Operand::Value(expression(names, word)?)),
     }
 }
 
@@ -65,10 +57,9 @@ fn after_hash(names: &Names, word: &[u8]) -> Option<Operand>
 fn after_at(word: &[u8]) -> Option<Operand>
     ensures { result ≡ at_operand word.now }
 {
-    if last(word) == b'+' {
-        Some(Operand::AutoInc(register(front(word))?))
-    } else {
-        Some(Operand::Indirect(register(word)?))
+    match word.strip_suffix(b"+") {
+        Some(front) => Some(Operand::AutoInc(register(front)?)),
+        None => Some(Operand::Indirect(register(word)?)),
     }
 }
 
@@ -94,13 +85,10 @@ fn before_bracket(names: &Names, word: &[u8]) -> Option<Operand>
 fn without_sign(names: &Names, register: Option<u8>, word: &[u8]) -> Option<Operand>
     ensures { result ≡ plain_operand names.now register word.now }
 {
-    match register {
-        Some(register) => Some(Operand::Reg(register)),
-        None if last(word) == b')' => before_bracket(names, front(word)),
-        None => match distance(names, word) {
-            None => None,
-            Some(e) => Some(Operand::Symbolic(e)),
-        },
+    match (register, word.strip_suffix(b")")) {
+        (Some(register), _) => Some(Operand::Reg(register)),
+        (None, Some(front)) => before_bracket(names, front),
+        (None, None) => Some(Operand::Symbolic(distance(names, word)?)),
     }
 }
 

@@ -5,7 +5,7 @@ ghost use Rattle.std.specs.List.{slice_split, before_first};
 ghost use Rattle.asm_model.specs.Lines.{without_return, lines_of};
 ghost use Rattle.asm_model.specs.Words.{is_semicolon, trimmed_start, trimmed_end, trimmed, first_word, behind_word, body_of, word_end, has_colon, before_colon, behind_colon, word_is};
 
-use crate::bytes::{Class, byte_at, count_at_end, last, position};
+use crate::bytes::{Class, byte_at, count_at_end, position};
 
 /// What stands before the first of a byte, and what stands behind it, if it is there.
 pub fn cut(text: &[u8], byte: u8) -> (&[u8], Option<&[u8]>)
@@ -27,10 +27,9 @@ pub fn cut(text: &[u8], byte: u8) -> (&[u8], Option<&[u8]>)
 fn strip_return(line: &[u8]) -> &[u8]
     ensures { result.now ≡ without_return line.now }
 {
-    if last(line) == b'\r' {
-        &line[..line.len() - 1]
-    } else {
-        line
+    match line.strip_suffix(b"\r") {
+        Some(front) => front,
+        None => line,
     }
 }
 

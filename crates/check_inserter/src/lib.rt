@@ -1,6 +1,6 @@
 //! The inserter: an object whose instructions have the guards that the checker asks for, made from one that has none.
 //!
-//! It stands on the decoder and the encoder, on objects (`object_form`), on what the checker asks of instructions
+//! It stands on the decoder and the encoder, on objects as data (`code_model`), on what the checker asks of instructions
 //! (`static_checker`) and on the definitions of `insert_model`, which say what the unit of each source instruction is, what
 //! object the units make, and what is wrong with a source object. The layers above call `insert`: its answer is that object
 //! or the first fault with its offset, and no other answer is. `laws` has that an object has one answer, for callers.

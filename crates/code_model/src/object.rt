@@ -19,6 +19,24 @@ pub const STATIC_BYTES_MAX: usize = 16384;
 /// The largest number of relocations.
 pub const RELOCS_MAX: usize = 16384;
 
+/// The first version of the form.
+pub const VERSION_MIN: u8 = 1;
+
+/// The last version of the form.
+pub const VERSION_MAX: u8 = 2;
+
+/// The smallest stack of an application's thread, in bytes.
+pub const STACK_BYTES_MIN: u16 = 16;
+
+/// The largest stack of an application's thread, in bytes.
+pub const STACK_BYTES_MAX: u16 = 1024;
+
+/// The largest number of exports.
+pub const EXPORTS_MAX: u8 = 64;
+
+/// The last number that an export may have; the first is 0.
+pub const EXPORT_NUMBER_MAX: u8 = 63;
+
 /// An object as data. It always meets the form.
 #[derive(Drop)]
 pub struct Object {

@@ -166,12 +166,7 @@ fn in_order(m: &FlatMem, ready: &[u8], sleepers: &[u8]) -> bool
 pub fn all_below(list: &[u8]) -> bool
     ensures { IsTrue result ↔ All (λ t. t < 32) list.now }
 {
-    for t in list {
-        if *t >= 32 {
-            return false;
-        }
-    }
-    true
+    list.iter().all(|t| *t < 32)
 }
 
 /// Whether no member stands twice.
@@ -191,24 +186,14 @@ pub fn new_at(list: &[u8], t: u8, count: usize) -> bool
     requires { count ≤ length list.now }
     ensures { IsTrue result ↔ IsNewAt list.now t count }
 {
-    for i in 0..count {
-        if list[i] == t {
-            return false;
-        }
-    }
-    true
+    !list[..count].contains(&t)
 }
 
 /// Whether no member of the first list stands in the second.
 fn apart(first: &[u8], second: &[u8]) -> bool
     ensures { IsTrue result ↔ AreApart first.now second.now }
 {
-    for i in 0..first.len() {
-        if !new_at(second, first[i], second.len()) {
-            return false;
-        }
-    }
-    true
+    first.iter().all(|t| !second.contains(t))
 }
 
 /// Whether each thread's priority is at most 7.
@@ -216,12 +201,7 @@ fn in_range(m: &FlatMem, list: &[u8]) -> bool
     requires { All (λ t. t < 32) list.now }
     ensures { IsTrue result ↔ All (λ t. priority_of (kernel_of m.now) t ≤ 7) list.now }
 {
-    for i in 0..list.len() {
-        if priority(m, list[i]) > 7 {
-            return false;
-        }
-    }
-    true
+    list.iter().all(|t| priority(m, *t) <= 7)
 }
 
 /// Whether higher priorities stand before lower ones.

@@ -4,6 +4,7 @@ use Rattle.object_form.specs.declared.head.Head.{Head}
 use Rattle.object_form.specs.declared.reading.Parts.{Parts}
 use Rattle.object_form.specs.declared.fault.FormFault.{FormFault}
 use Rattle.code_model.specs.Fields.{Fields, fields_by}
+use Rattle.object_form.specs.declared.layout.TheConstants.{CODE_COUNT_AT, ENTRY_AT, EXPORT_COUNT_AT, INIT_COUNT_AT, KIND_AT, RELOC_COUNT_AT, STACK_AT, THREADS_AT, VERSION_AT, ZEROED_AT}
 use Rattle.object_form.specs.Reading.{byte_at, word_at, kind_of, fields_in}
 use Rattle.object_form.specs.Faults.{Field, field_fault, first_fault, first_form_fault, Names}
 
@@ -19,16 +20,16 @@ ReadsFields t fs (Err e) P = Names e (first_fault t fs)
 
 -- these are the numbers of the head
 pub record IsHead (t : List ℕ) (h : Head) : Type 0 where
-  pub kind_is : h.kind ≡ kind_of (byte_at t 5)
-  pub version_is : h.version ≡ byte_at t 4
-  pub code_is : h.code ≡ word_at t 6
-  pub init_is : h.init ≡ word_at t 8
-  pub zeroed_is : h.zeroed ≡ word_at t 10
-  pub stack_is : h.stack ≡ word_at t 12
-  pub threads_is : h.threads ≡ byte_at t 14
-  pub exports_is : h.exports ≡ byte_at t 15
-  pub entry_is : h.entry ≡ word_at t 16
-  pub relocs_is : h.relocs ≡ word_at t 18
+  pub kind_is : h.kind ≡ kind_of (byte_at t KIND_AT)
+  pub version_is : h.version ≡ byte_at t VERSION_AT
+  pub code_is : h.code ≡ word_at t CODE_COUNT_AT
+  pub init_is : h.init ≡ word_at t INIT_COUNT_AT
+  pub zeroed_is : h.zeroed ≡ word_at t ZEROED_AT
+  pub stack_is : h.stack ≡ word_at t STACK_AT
+  pub threads_is : h.threads ≡ byte_at t THREADS_AT
+  pub exports_is : h.exports ≡ byte_at t EXPORT_COUNT_AT
+  pub entry_is : h.entry ≡ word_at t ENTRY_AT
+  pub relocs_is : h.relocs ≡ word_at t RELOC_COUNT_AT
 
 -- the fields that were read
 abbrev pub fields_read : Parts → Fields

@@ -7,6 +7,7 @@ use Rattle.code_model.specs.declared.parts.Reloc.{Reloc}
 use Rattle.code_model.specs.declared.parts.Export.{Export}
 use Rattle.code_model.specs.declared.object.Object.{Object}
 use Rattle.code_model.specs.Form.{kind_code}
+use Rattle.object_form.specs.declared.layout.TheConstants.{APP_NUMBER, CODE_SECTION, INIT_SECTION, MAGIC, MODULE_NUMBER}
 use Rattle.code_model.specs.Fields.{Fields, fields}
 
 -- a word, its low byte first
@@ -14,13 +15,13 @@ abbrev pub word_bytes : ℕ → List ℕ
 word_bytes w = w % 256 ∷ w / 256 ∷ []
 
 abbrev pub kind_number : Kind → ℕ
-kind_number App = 1
-kind_number Module = 2
+kind_number App = APP_NUMBER
+kind_number Module = MODULE_NUMBER
 
 -- the number of a relocation's section
 abbrev pub section_number : Bool → ℕ
-section_number true = 0
-section_number false = 1
+section_number true = CODE_SECTION
+section_number false = INIT_SECTION
 
 abbrev pub reloc_bytes : Reloc → List ℕ
 reloc_bytes r = section_number r.in_code ∷ kind_code r.kind ∷ word_bytes r.offset
@@ -28,9 +29,9 @@ reloc_bytes r = section_number r.in_code ∷ kind_code r.kind ∷ word_bytes r.o
 abbrev pub export_bytes : Export → List ℕ
 export_bytes e = e.number ∷ 0 ∷ word_bytes e.offset
 
--- the four bytes of `RETO`, the version and the kind
+-- the magic bytes, the version and the kind
 abbrev pub start_bytes : Fields → List ℕ
-start_bytes f = 0x52 ∷ 0x45 ∷ 0x54 ∷ 0x4F ∷ f.version ∷ kind_number f.kind ∷ []
+start_bytes f = MAGIC ++ f.version ∷ kind_number f.kind ∷ []
 
 -- how many code words, initialised and zeroed bytes there are
 abbrev pub size_bytes : Fields → List ℕ
@@ -40,7 +41,7 @@ size_bytes f = word_bytes (length f.code) ++ word_bytes (length f.init) ++ word_
 abbrev pub run_bytes : Fields → List ℕ
 run_bytes f = word_bytes f.stack ++ f.threads ∷ length f.exports ∷ word_bytes f.entry ++ word_bytes (length f.relocs)
 
--- the twenty bytes before the code
+-- the head, the bytes before the code
 abbrev pub head_bytes : Fields → List ℕ
 head_bytes f = start_bytes f ++ size_bytes f ++ run_bytes f
 

@@ -1,4 +1,4 @@
-//! Reading the twenty bytes before an object's code.
+//! Reading the head: the bytes before an object's code.
 
 ghost use Rattle.std.specs.Prelude.{◌≡◌, ℕ, ◌+◌, ◌*◌, ◌<◌, ◌≤◌, ◌^◌, length, MatchResult};
 ghost use Rattle.object_form.specs.Reading.{byte_at, word_at, kind_of};
@@ -6,10 +6,20 @@ ghost use Rattle.object_form.specs.Faults.{magic_field, version_field, kind_fiel
 ghost use Rattle.object_form.specs.Given.{ReadsField, ReadsFields, IsHead};
 ghost use Rattle.object_form.specs.declared.fault.FormKind.TheVariants as kinds;
 ghost use Rattle.object_form.specs.declared.fault.FormFault.TheVariants.{At};
+ghost use Rattle.object_form.specs.declared.layout.TheConstants.{CODE_COUNT_AT, ENTRY_AT, EXPORT_COUNT_AT, HEAD_BYTES, INIT_COUNT_AT, KIND_AT, MAGIC_BYTES, RELOC_COUNT_AT, STACK_AT, THREADS_AT, VERSION_AT, ZEROED_AT};
 
 use super::fault::{FormFault, FormKind};
-use code_model::object::{CODE_WORDS_MAX, RELOCS_MAX, STATIC_BYTES_MAX};
+use super::layout::{
+    APP_NUMBER, CODE_COUNT_AT, ENTRY_AT, EXPORT_COUNT_AT, INIT_COUNT_AT, KIND_AT, MAGIC, MAGIC_AT,
+    MAGIC_BYTES, MODULE_NUMBER, RELOC_COUNT_AT, STACK_AT, THREADS_AT, VERSION_AT, WORD_BYTES,
+    ZEROED_AT,
+};
+use code_model::object::{
+    CODE_WORDS_MAX, EXPORTS_MAX, RELOCS_MAX, STACK_BYTES_MAX, STACK_BYTES_MIN, STATIC_BYTES_MAX,
+    VERSION_MAX, VERSION_MIN,
+};
 use code_model::parts::Kind;
+use kernel_model::map::THREADS_OF_APP;
 
 /// A fault of this kind at an offset.
 pub(crate) fn wrong(kind: FormKind, offset: usize) -> FormFault
@@ -24,7 +34,7 @@ pub(crate) fn wrong(kind: FormKind, offset: usize) -> FormFault
 
 /// The byte at a place, or that the text is short of it.
 fn byte(text: &[u8], at: usize) -> Result<u8, FormFault>
-    requires { at < 20 }
+    requires { at < HEAD_BYTES }
     ensures { MatchResult result
         (λ b. (at + 1 ≤ length text.now) × (b ≡ byte_at text.now at))
         (λ e. (length text.now < at + 1) × (e ≡ At kinds.Short (length text.now))) }
@@ -46,7 +56,7 @@ pub(crate) fn word_in(text: &[u8], at: usize) -> u16
 
 /// The word at a place, or that the text is short of it.
 fn word(text: &[u8], at: usize) -> Result<u16, FormFault>
-    requires { at < 20 }
+    requires { at < HEAD_BYTES }
     ensures { MatchResult result
         (λ w. (at + 2 ≤ length text.now) × (w ≡ word_at text.now at))
         (λ e. (length text.now < at + 2) × (e ≡ At kinds.Short (length text.now))) }
@@ -60,146 +70,146 @@ fn word(text: &[u8], at: usize) -> Result<u16, FormFault>
 
 #[tactic(auto, unfolding(crate::specs::Faults::magic_field))]
 fn magic(text: &[u8]) -> Result<(), FormFault>
-    ensures { ReadsField text.now (magic_field text.now) result (λ _. 4 ≤ length text.now) }
+    ensures { ReadsField text.now (magic_field text.now) result (λ _. MAGIC_BYTES ≤ length text.now) }
 {
-    if text.len() < 4 {
+    if text.len() < MAGIC_BYTES {
         return Err(wrong(FormKind::Short, text.len()));
     }
-    if text[0] == 0x52 && text[1] == 0x45 && text[2] == 0x54 && text[3] == 0x4F {
+    if text[0] == MAGIC[0] && text[1] == MAGIC[1] && text[2] == MAGIC[2] && text[3] == MAGIC[3] {
         Ok(())
     } else {
-        Err(wrong(FormKind::Magic, 0))
+        Err(wrong(FormKind::Magic, MAGIC_AT))
     }
 }
 
 #[tactic(auto, unfolding(crate::specs::Faults::version_field))]
 fn version(text: &[u8]) -> Result<u8, FormFault>
-    ensures { ReadsField text.now (version_field text.now) result (λ v. v ≡ byte_at text.now 4) }
+    ensures { ReadsField text.now (version_field text.now) result (λ v. v ≡ byte_at text.now VERSION_AT) }
 {
-    let version = byte(text, 4)?;
-    if version != 1 && version != 2 {
-        return Err(wrong(FormKind::Version, 4));
+    let version = byte(text, VERSION_AT)?;
+    if version < VERSION_MIN || version > VERSION_MAX {
+        return Err(wrong(FormKind::Version, VERSION_AT));
     }
     Ok(version)
 }
 
 #[tactic(auto, unfolding(crate::specs::Faults::kind_field))]
 fn kind(text: &[u8]) -> Result<Kind, FormFault>
-    ensures { ReadsField text.now (kind_field text.now) result (λ k. k ≡ kind_of (byte_at text.now 5)) }
+    ensures { ReadsField text.now (kind_field text.now) result (λ k. k ≡ kind_of (byte_at text.now KIND_AT)) }
 {
-    match byte(text, 5)? {
-        1 => Ok(Kind::App),
-        2 => Ok(Kind::Module),
-        _ => Err(wrong(FormKind::Kind, 5)),
+    match byte(text, KIND_AT)? {
+        APP_NUMBER => Ok(Kind::App),
+        MODULE_NUMBER => Ok(Kind::Module),
+        _ => Err(wrong(FormKind::Kind, KIND_AT)),
     }
 }
 
 #[tactic(auto, unfolding(crate::specs::Faults::code_count_field))]
 fn code_count(text: &[u8]) -> Result<u16, FormFault>
-    ensures { ReadsField text.now (code_count_field text.now) result (λ n. n ≡ word_at text.now 6) }
+    ensures { ReadsField text.now (code_count_field text.now) result (λ n. n ≡ word_at text.now CODE_COUNT_AT) }
 {
-    let count = word(text, 6)?;
+    let count = word(text, CODE_COUNT_AT)?;
     if count == 0 || count as usize > CODE_WORDS_MAX {
-        return Err(wrong(FormKind::Limit, 6));
+        return Err(wrong(FormKind::Limit, CODE_COUNT_AT));
     }
     Ok(count)
 }
 
 #[tactic(auto, unfolding(crate::specs::Faults::init_count_field))]
 fn init_count(text: &[u8]) -> Result<u16, FormFault>
-    ensures { ReadsField text.now (init_count_field text.now) result (λ n. n ≡ word_at text.now 8) }
+    ensures { ReadsField text.now (init_count_field text.now) result (λ n. n ≡ word_at text.now INIT_COUNT_AT) }
 {
-    let count = word(text, 8)?;
+    let count = word(text, INIT_COUNT_AT)?;
     if count as usize > STATIC_BYTES_MAX {
-        return Err(wrong(FormKind::Limit, 8));
+        return Err(wrong(FormKind::Limit, INIT_COUNT_AT));
     }
     Ok(count)
 }
 
 #[tactic(auto, unfolding(crate::specs::Faults::zeroed_field))]
 fn zeroed(text: &[u8], init: u16) -> Result<u16, FormFault>
-    requires { init ≡ word_at text.now 8 }
-    ensures { ReadsField text.now (zeroed_field text.now) result (λ n. n ≡ word_at text.now 10) }
+    requires { init ≡ word_at text.now INIT_COUNT_AT }
+    ensures { ReadsField text.now (zeroed_field text.now) result (λ n. n ≡ word_at text.now ZEROED_AT) }
 {
-    let count = word(text, 10)?;
+    let count = word(text, ZEROED_AT)?;
     if init as usize + count as usize > STATIC_BYTES_MAX {
-        return Err(wrong(FormKind::Limit, 10));
+        return Err(wrong(FormKind::Limit, ZEROED_AT));
     }
     Ok(count)
 }
 
 #[tactic(auto, unfolding(crate::specs::Faults::stack_field))]
 fn stack(text: &[u8], kind: Kind) -> Result<u16, FormFault>
-    requires { kind ≡ kind_of (byte_at text.now 5) }
-    ensures { ReadsField text.now (stack_field text.now) result (λ n. n ≡ word_at text.now 12) }
+    requires { kind ≡ kind_of (byte_at text.now KIND_AT) }
+    ensures { ReadsField text.now (stack_field text.now) result (λ n. n ≡ word_at text.now STACK_AT) }
 {
-    let stack = word(text, 12)?;
+    let stack = word(text, STACK_AT)?;
     let serves = match kind {
-        Kind::App => stack % 2 == 0 && stack >= 16 && stack <= 1024,
+        Kind::App => stack % 2 == 0 && stack >= STACK_BYTES_MIN && stack <= STACK_BYTES_MAX,
         Kind::Module => stack == 0,
     };
     if !serves {
-        return Err(wrong(FormKind::Limit, 12));
+        return Err(wrong(FormKind::Limit, STACK_AT));
     }
     Ok(stack)
 }
 
 #[tactic(auto, unfolding(crate::specs::Faults::threads_field))]
 fn threads(text: &[u8], kind: Kind) -> Result<u8, FormFault>
-    requires { kind ≡ kind_of (byte_at text.now 5) }
-    ensures { ReadsField text.now (threads_field text.now) result (λ n. n ≡ byte_at text.now 14) }
+    requires { kind ≡ kind_of (byte_at text.now KIND_AT) }
+    ensures { ReadsField text.now (threads_field text.now) result (λ n. n ≡ byte_at text.now THREADS_AT) }
 {
-    let threads = byte(text, 14)?;
+    let threads = byte(text, THREADS_AT)?;
     let serves = match kind {
-        Kind::App => threads >= 1 && threads <= 4,
+        Kind::App => threads >= 1 && threads <= THREADS_OF_APP,
         Kind::Module => threads == 0,
     };
     if !serves {
-        return Err(wrong(FormKind::Limit, 14));
+        return Err(wrong(FormKind::Limit, THREADS_AT));
     }
     Ok(threads)
 }
 
 #[tactic(auto, unfolding(crate::specs::Faults::export_count_field))]
 fn export_count(text: &[u8], kind: Kind) -> Result<u8, FormFault>
-    requires { kind ≡ kind_of (byte_at text.now 5) }
-    ensures { ReadsField text.now (export_count_field text.now) result (λ n. n ≡ byte_at text.now 15) }
+    requires { kind ≡ kind_of (byte_at text.now KIND_AT) }
+    ensures { ReadsField text.now (export_count_field text.now) result (λ n. n ≡ byte_at text.now EXPORT_COUNT_AT) }
 {
-    let count = byte(text, 15)?;
+    let count = byte(text, EXPORT_COUNT_AT)?;
     let serves = match kind {
         Kind::App => count == 0,
-        Kind::Module => count >= 1 && count <= 64,
+        Kind::Module => count >= 1 && count <= EXPORTS_MAX,
     };
     if !serves {
-        return Err(wrong(FormKind::Limit, 15));
+        return Err(wrong(FormKind::Limit, EXPORT_COUNT_AT));
     }
     Ok(count)
 }
 
 #[tactic(auto, unfolding(crate::specs::Faults::entry_field))]
 fn entry(text: &[u8], kind: Kind, code: u16) -> Result<u16, FormFault>
-    requires kind_is { kind ≡ kind_of (byte_at text.now 5) }
-    requires code_is { code ≡ word_at text.now 6 }
-    ensures { ReadsField text.now (entry_field text.now) result (λ n. n ≡ word_at text.now 16) }
+    requires kind_is { kind ≡ kind_of (byte_at text.now KIND_AT) }
+    requires code_is { code ≡ word_at text.now CODE_COUNT_AT }
+    ensures { ReadsField text.now (entry_field text.now) result (λ n. n ≡ word_at text.now ENTRY_AT) }
 {
-    let entry = word(text, 16)?;
+    let entry = word(text, ENTRY_AT)?;
     let serves = match kind {
-        Kind::App => entry % 2 == 0 && (entry as usize) < 2 * code as usize,
+        Kind::App => entry % 2 == 0 && (entry as usize) < WORD_BYTES * code as usize,
         Kind::Module => entry == 0,
     };
     if !serves {
-        return Err(wrong(FormKind::Place, 16));
+        return Err(wrong(FormKind::Place, ENTRY_AT));
     }
     Ok(entry)
 }
 
 #[tactic(auto, unfolding(crate::specs::Faults::reloc_count_field))]
 fn reloc_count(text: &[u8]) -> Result<u16, FormFault>
-    ensures { ReadsField text.now (reloc_count_field text.now) result (λ n. n ≡ word_at text.now 18) }
+    ensures { ReadsField text.now (reloc_count_field text.now) result (λ n. n ≡ word_at text.now RELOC_COUNT_AT) }
 {
-    let count = word(text, 18)?;
+    let count = word(text, RELOC_COUNT_AT)?;
     if count as usize > RELOCS_MAX {
-        return Err(wrong(FormKind::Limit, 18));
+        return Err(wrong(FormKind::Limit, RELOC_COUNT_AT));
     }
     Ok(count)
 }

@@ -5,6 +5,7 @@
 //! is wrong with a text that is no object's: the fields of a text are a table, each with its place, its
 //! size and its conditions in order, and the first condition of the first field that fails is the fault.
 //!
+//! - `layout` is the table that both sides and the definitions share: where each field stands, and its size.
 //! - `reading::read_object` gives the object of a text, or exactly that fault.
 //! - `writing::write_object` gives the text of an object.
 //! - `laws` has what callers need of both: no object's text has a fault, a text without fault is an
@@ -16,6 +17,7 @@ mod entries;
 pub mod fault;
 mod head;
 pub mod laws;
+pub mod layout;
 pub mod reading;
 mod sections;
 pub mod writing;

@@ -10,6 +10,7 @@ use super::entries::{Sizes, read_exports, read_relocs};
 use super::fault::{FormFault, FormKind};
 use super::head::{Head, read_head, wrong};
 use super::laws::one_object_has_a_text;
+use super::layout::{HEAD_BYTES, RECORD_BYTES, WORD_BYTES};
 use super::sections::read_sections;
 use code_model::lists::{CodeWords, Exports, Relocs};
 use code_model::object::Object;
@@ -33,14 +34,14 @@ fn read_all(alloc: Global, text: &[u8]) -> Result<Parts, FormFault>
     let head = read_head(text)?;
     let (code, init) = read_sections(alloc, text, head.code, head.init)?;
     let sizes = Sizes {
-        code: 2 * head.code as usize,
+        code: WORD_BYTES * head.code as usize,
         init: head.init as usize,
     };
-    let start = 20 + sizes.code + sizes.init;
+    let start = HEAD_BYTES + sizes.code + sizes.init;
     let relocs = read_relocs(alloc, text, start, head.relocs as usize, sizes)?;
-    let start = start + 4 * head.relocs as usize;
+    let start = start + RECORD_BYTES * head.relocs as usize;
     let exports = read_exports(alloc, text, start, head.exports as usize, sizes.code)?;
-    let end = start + 4 * head.exports as usize;
+    let end = start + RECORD_BYTES * head.exports as usize;
     if text.len() > end {
         return Err(wrong(FormKind::Trailing, end));
     }

@@ -4,21 +4,23 @@ ghost use Rattle.std.specs.Prelude.{◌≡◌, ◌+◌, ◌*◌, ◌≤◌, leng
 ghost use Rattle.object_form.specs.Reading.{word_at, init_start, words_from, bytes_from};
 ghost use Rattle.object_form.specs.Faults.{part_fields};
 ghost use Rattle.object_form.specs.Given.{ReadsFields};
+ghost use Rattle.object_form.specs.declared.layout.TheConstants.{CODE_COUNT_AT, HEAD_BYTES, INIT_COUNT_AT, WORD_BYTES};
 
 use super::fault::{FormFault, FormKind};
 use super::head::{word_in, wrong};
+use super::layout::{HEAD_BYTES, WORD_BYTES};
 use code_model::lists::CodeWords;
 use edge_io::lists::Bytes;
 use std::alloc::{AllocError, Global};
 
 /// So many code words behind the head.
 fn code_words(alloc: Global, text: &[u8], count: usize) -> Result<CodeWords, AllocError>
-    requires { 20 + 2 * count ≤ length text.now }
-    ensures { IfOk result (λ words. words ≡ words_from text.now 20 count) }
+    requires { HEAD_BYTES + WORD_BYTES * count ≤ length text.now }
+    ensures { IfOk result (λ words. words ≡ words_from text.now HEAD_BYTES count) }
 {
     let mut words = CodeWords::with_room(alloc, count)?;
     for k in 0..count {
-        words.push(word_in(text, 20 + 2 * k))?;
+        words.push(word_in(text, HEAD_BYTES + WORD_BYTES * k))?;
     }
     Ok(words)
 }
@@ -39,12 +41,12 @@ pub(crate) fn read_sections(
     code: u16,
     init: u16,
 ) -> Result<(CodeWords, Bytes), FormFault>
-    requires code { code ≡ word_at text.now 6 }
-    requires init { init ≡ word_at text.now 8 }
+    requires code { code ≡ word_at text.now CODE_COUNT_AT }
+    requires init { init ≡ word_at text.now INIT_COUNT_AT }
     ensures { ReadsFields text.now (part_fields text.now) result
-        (λ x. (x.0 ≡ words_from text.now 20 code) × (x.1 ≡ bytes_from text.now (init_start text.now) init)) }
+        (λ x. (x.0 ≡ words_from text.now HEAD_BYTES code) × (x.1 ≡ bytes_from text.now (init_start text.now) init)) }
 {
-    let start = 20 + 2 * code as usize;
+    let start = HEAD_BYTES + WORD_BYTES * code as usize;
     if text.len() < start {
         return Err(wrong(FormKind::Short, text.len()));
     }

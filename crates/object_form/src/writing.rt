@@ -6,6 +6,10 @@ ghost use Rattle.code_model.specs.Form.{kind_code};
 ghost use Rattle.object_form.specs.Spelling.{word_bytes, kind_number, section_number, reloc_bytes, export_bytes, start_bytes, size_bytes, run_bytes, head_bytes, object_bytes};
 ghost use Rattle.code_model.specs.Fields.{fields};
 
+use super::layout::{
+    APP_NUMBER, CODE_SECTION, INIT_SECTION, MAGIC, MODULE_NUMBER, RELOC_CODE, RELOC_DATA, RELOC_HI,
+    RELOC_LO,
+};
 use code_model::object::Object;
 use code_model::parts::{Export, Kind, RelKind, Reloc};
 use edge_io::lists::Bytes;
@@ -16,8 +20,8 @@ fn kind_byte(kind: Kind) -> u8
     ensures { result ≡ kind_number kind }
 {
     match kind {
-        Kind::App => 1,
-        Kind::Module => 2,
+        Kind::App => APP_NUMBER,
+        Kind::Module => MODULE_NUMBER,
     }
 }
 
@@ -26,10 +30,10 @@ fn rel_kind_byte(kind: RelKind) -> u8
     ensures { result ≡ kind_code kind }
 {
     match kind {
-        RelKind::Code => 1,
-        RelKind::Data => 2,
-        RelKind::Lo => 3,
-        RelKind::Hi => 4,
+        RelKind::Code => RELOC_CODE,
+        RelKind::Data => RELOC_DATA,
+        RelKind::Lo => RELOC_LO,
+        RelKind::Hi => RELOC_HI,
     }
 }
 
@@ -37,7 +41,7 @@ fn rel_kind_byte(kind: RelKind) -> u8
 fn section_byte(in_code: bool) -> u8
     ensures { result ≡ section_number in_code }
 {
-    if in_code { 0 } else { 1 }
+    if in_code { CODE_SECTION } else { INIT_SECTION }
 }
 
 /// Appends a word, its low byte first.
@@ -111,12 +115,11 @@ fn put_exports(out: &mut Bytes, exports: &[Export]) -> Result<(), AllocError>
     Ok(())
 }
 
-/// Appends the first six bytes.
+/// Appends the magic bytes, the version and the kind.
 fn put_start(out: &mut Bytes, o: &Object) -> Result<(), AllocError>
     ensures { OnOk result (out.new ≡ out.old ++ start_bytes (fields o.now)) }
 {
-    put_two(out, 0x52, 0x45)?;
-    put_two(out, 0x54, 0x4F)?;
+    out.extend_from_slice(&MAGIC)?;
     put_two(out, o.version, kind_byte(o.kind))
 }
 
@@ -139,7 +142,7 @@ fn put_run(out: &mut Bytes, o: &Object) -> Result<(), AllocError>
     put_word(out, o.relocs.len() as u16)
 }
 
-/// Appends the twenty bytes before the code.
+/// Appends the head, the bytes before the code.
 fn put_head(out: &mut Bytes, o: &Object) -> Result<(), AllocError>
     ensures { OnOk result (out.new ≡ out.old ++ head_bytes (fields o.now)) }
 {
