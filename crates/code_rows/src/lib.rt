@@ -1,4 +1,4 @@
-//! Rows on code: words and what they spell, what instructions do, and texts of objects.
+//! Rows on code: words and what they spell, what instructions do, the memory that they do it in, texts of objects, and marks.
 //!
 //! Nothing but tests stands here. They make public calls of the crates whose names they have, so none of those is proved a second
 //! time for them. What is expected is worked out by hand from the tables, or comes from outside of the program.
@@ -11,4 +11,8 @@ mod encoder;
 #[cfg(test)]
 mod machine;
 #[cfg(test)]
+mod memory;
+#[cfg(test)]
 mod object_texts;
+#[cfg(test)]
+mod unit_marks;

@@ -13,6 +13,3 @@ pub mod lines;
 
 pub use acceptance::accept;
 pub use lines::Lines;
-
-#[cfg(test)]
-mod tests;

@@ -16,6 +16,3 @@ pub use kernel_threads::Code;
 pub use leaving::{end_module, leave};
 pub use loading::load_module;
 pub use region_table::NoRoom;
-
-#[cfg(test)]
-mod tests;

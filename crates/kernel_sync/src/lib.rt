@@ -17,6 +17,3 @@ mod waiting;
 pub use conditions::{broadcast, signal, wait};
 pub use kernel_threads::Code;
 pub use mutexes::{hand_over_all, lock, unlock};
-
-#[cfg(test)]
-mod tests;

@@ -1,14 +1,12 @@
 -- Lists in order.
-use Rattle.std.proofs.Common.{◌≡◌, ◌≢◌, ℕ, ◌+◌, ◌-◌, ◌<◌, ◌≤◌, true, false, IsTrue, zero, suc, List, ◌++◌, length, get_or, eqb, refl, ap, sym, ◌∙◌, subst, arith, length-append, AllPairs, Contains}
-use Rattle.std.specs.List.{position_or_len}
-use Rattle.std.proofs.lemmas.Bool.{false≢true, eqb-true}
-use Rattle.std.proofs.lemmas.List.Sums.{passes_at_first}
+use Rattle.std.proofs.Common.{◌≡◌, ◌≢◌, ℕ, ◌+◌, ◌-◌, ◌<◌, ◌≤◌, true, false, IsTrue, zero, suc, List, ◌++◌, length, get_or, refl, ap, sym, ◌∙◌, subst, arith, length-append, AllPairs, Contains}
+use Rattle.std.proofs.lemmas.Bool.{false≢true}
 use Rattle.std.proofs.lemmas.List.{get_or_append_left, get_or-append-add, get_or_default, ext_get_or}
 use Rattle.kernel_model.specs.Bytes.{part}
 use Rattle.kernel_model.proofs.BytesLemmas.{length-part}
 use Rattle.kernel_model.proofs.OrderlyLemmas.{pairs_apart}
 use Rattle.kernel_tables.proofs.Patches.{byte_in}
-use Rattle.kernel_tables.specs.Lists.{AreApart, IsNewAt}
+use Rattle.kernel_tables.specs.Lists.{AreApart}
 
 -- what an answer says
 pub no : {P : Type 0} → (P → ⊥) → (IsTrue false → P) × (P → IsTrue false)
@@ -80,17 +78,3 @@ chain_up f xs h i j d lt l =
     let first_f : f (get_or xs i d) ≡ f (get_or xs i 0) = ap f first in
     let last_f : f (get_or xs j d) ≡ f (get_or xs (i + (j - i)) 0) = ap f last in
     omega arith
-
--- ---- whether a thread stands in a list
-
-pub not_listed : (ks xs : List ℕ) (t n : ℕ) → IsNewAt xs t n → n ≡ length xs → xs ≡ ks → Contains ks t → ⊥
-not_listed ks xs t n h e s c =
-    let d : Contains xs t = subst (λ (ys : List ℕ). Contains ys t) (sym s) c in
-    let within : d.0 < n = (let in' : d.0 < length xs = d.1 in omega arith) in
-    h d.0 within (get_or_default xs d.0 0 t d.1 ∙ d.2)
-
-pub listed_at : (ks xs : List ℕ) (t n : ℕ) → n ≡ position_or_len (λ x. eqb x t) xs → n < length xs → xs ≡ ks → Contains ks t
-listed_at ks xs t n e l s =
-    let within : position_or_len (λ x. eqb x t) xs < length xs = omega arith in
-    subst (λ (ys : List ℕ). Contains ys t) s
-    (position_or_len (λ x. eqb x t) xs, within, eqb-true (get_or xs (position_or_len (λ x. eqb x t) xs) t) t (passes_at_first (λ x. eqb x t) xs t within))

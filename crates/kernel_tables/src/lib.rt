@@ -32,6 +32,3 @@ pub use queues::{
 pub use threads::{set_register, set_thread, thread};
 pub use waiting::{cond, line, mutex, set_cond, set_line, set_mutex};
 pub use words::{get, put};
-
-#[cfg(test)]
-mod tests;

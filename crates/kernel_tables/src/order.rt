@@ -163,7 +163,7 @@ fn in_order(m: &FlatMem, ready: &[u8], sleepers: &[u8]) -> bool
 }
 
 /// Whether all members are identities.
-pub fn all_below(list: &[u8]) -> bool
+fn all_below(list: &[u8]) -> bool
     ensures { IsTrue result ↔ All (λ t. t < 32) list.now }
 {
     list.iter().all(|t| *t < 32)
@@ -182,7 +182,7 @@ fn distinct(list: &[u8]) -> bool
 }
 
 /// Whether none of the first members is t.
-pub fn new_at(list: &[u8], t: u8, count: usize) -> bool
+fn new_at(list: &[u8], t: u8, count: usize) -> bool
     requires { count ≤ length list.now }
     ensures { IsTrue result ↔ IsNewAt list.now t count }
 {

@@ -2,8 +2,8 @@
 //!
 //! Each priority's ready threads are one doubly linked queue, and the sleepers are one.
 
-ghost use Rattle.std.specs.Prelude.{◌≡◌, ◌+◌, ◌*◌, ◌<◌, ◌≤◌, ◌==◌, nat_le, All, Contains, length};
-ghost use Rattle.std.specs.List.{position_or_len, prefix_len};
+ghost use Rattle.std.specs.Prelude.{◌≡◌, ◌+◌, ◌*◌, ◌<◌, ◌≤◌, nat_le, All, Contains, length};
+ghost use Rattle.std.specs.List.{prefix_len};
 ghost use Rattle.kernel_model.specs.Kernel.{with_ready, with_sleepers};
 ghost use Rattle.kernel_model.specs.Words.{priority_of, wake_time};
 ghost use Rattle.kernel_model.specs.Layout.{kernel_of};
@@ -119,19 +119,6 @@ pub fn first_later(m: &FlatMem, list: &[u8], tick: u32) -> usize
 {
     for i in 0..list.len() {
         if wake_time(m, list[i]) > tick {
-            return i;
-        }
-    }
-    list.len()
-}
-
-/// The place of a member, or the list's length.
-pub fn place_of(list: &[u8], t: u8) -> usize
-    ensures value { result ≡ position_or_len (λ x. x == t) list.now }
-    ensures within { result ≤ length list.now }
-{
-    for i in 0..list.len() {
-        if list[i] == t {
             return i;
         }
     }

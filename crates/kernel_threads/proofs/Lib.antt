@@ -10,7 +10,5 @@ pub mod LineLemmas
 pub mod FoldLemmas
 pub mod EndingLemmas
 pub mod ExitLemmas
-pub mod FixtureLemmas
 pub mod WakingSteps
 pub mod TickLemmas
-pub mod EightApps

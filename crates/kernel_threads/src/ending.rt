@@ -134,7 +134,7 @@ fn empty_rows(m: &mut FlatMem, a: u8)
 }
 
 /// Makes the mutexes and the conditions of application a, a below 8, as new.
-pub fn end_waits(m: &mut FlatMem, a: u8)
+fn end_waits(m: &mut FlatMem, a: u8)
     requires { a < 8 }
     ensures { Leaves m.old m.new (waits_ended (kernel_of m.old) a) }
 {

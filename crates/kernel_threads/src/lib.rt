@@ -34,6 +34,3 @@ pub use returning::{jump, take_return};
 pub use stacks::{run_none, running};
 pub use starting::{get_ready, start};
 pub use time::{sleep, tick};
-
-#[cfg(test)]
-mod tests;

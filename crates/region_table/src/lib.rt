@@ -15,6 +15,3 @@ mod search;
 pub use marking::{is_marked, set_marks};
 pub use place_model::places::{NoRoom, Regions};
 pub use placing::{free_row, place};
-
-#[cfg(test)]
-mod tests;

@@ -70,8 +70,9 @@ pub fn put_module(m: &mut FlatMem, o: &Object, marks: &Marks) -> Result<u8, NoRo
     }
 }
 
-/// Loads an object with any marks, a module without its functions, and answers its places: the least free number of its kind,
-/// and the lowest gaps that fit.
+/// Loads any object with any marks, accepted or not, a module without its functions, as `load` and `put_module` load accepted ones,
+/// and answers its places: the least free number of its kind, and the lowest gaps that fit. Refusals leave memory as it was, and
+/// memory is settled before and after.
 pub fn loaded(m: &mut FlatMem, o: &Object, marks: &Marks) -> Result<Regions, NoRoom>
     requires settled { IsSettled m.old }
     ensures answer { result ≡ placing (kernel_of m.old) (o.now).kind (code_length o.now) (region_length o.now) }

@@ -3,7 +3,7 @@
 use read_script::read_script;
 use std::alloc::Global;
 use std::test::*;
-use trace_model::scripts::{At, AtKind, Every, Script, ScriptFault};
+use trace_model::scripts::{At, AtKind, Ats, Every, Script, ScriptFault};
 
 /// The most bytes of a script.
 const TEXT_MAX: usize = 1_048_576;
@@ -197,5 +197,19 @@ fn a_text_of_a_mebibyte_is_read(rt: HostRuntime) -> Result<(), Fail> {
     let script = read_script(rt.alloc(), all)?;
     assert_eq!(rt; script.ats.len(), 80_659);
     assert_eq!(rt; script.ats.get(80_658), Some(raise(1, 1)));
+    Ok(())
+}
+
+#[test]
+fn a_list_of_at_lines_grows_at_its_end(rt: HostRuntime) -> Result<(), Fail> {
+    let mut ats = Ats::new(rt.alloc());
+    assert_eq!(rt; ats.len(), 0);
+    assert_eq!(rt; ats.get(0), None);
+    ats.push(raise(3, 13))?;
+    ats.push(pick(3, u32::MAX))?;
+    assert_eq!(rt; ats.len(), 2);
+    assert_eq!(rt; ats.get(0), Some(raise(3, 13)));
+    assert_eq!(rt; ats.get(1), Some(pick(3, u32::MAX)));
+    assert_eq!(rt; ats.get(2), None);
     Ok(())
 }

@@ -1,5 +1,0 @@
-use Rattle.place_model.specs.Settled.{IsSettled}
-use Rattle.kernel_threads.proofs.tests.all_sleep.Given as goal
-
-abbrev pub invariant-loop-a : goal.invariant-loop-a
-invariant-loop-a l = IsSettled l.m

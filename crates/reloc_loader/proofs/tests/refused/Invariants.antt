@@ -1,5 +1,0 @@
-use Rattle.place_model.specs.Settled.{IsSettled}
-use Rattle.reloc_loader.proofs.tests.refused.Given as goal
-
-abbrev pub invariant-loop-count : goal.invariant-loop-count
-invariant-loop-count l = IsSettled l.m
