@@ -24,16 +24,16 @@ loop-i-preserved g c =
           (laid_steps g.js c.args.o.now c.args.lines.now c.loop-i.i c.loop-i.skip _ _ c.loop-i.invariant c.loop-i-test.true _ _ refl w.if-skip-eq0.true w.later-skip.result
           (later_behind (fields c.args.o.now) _ c.args.lines.now (c.loop-i.i + 1) _ w.later-skip.ensures.is) _ (ap (λ (ls : List Line). take w.later-skip.result ls) e) _
           (offset_at g.js c.args.lines.now c.args.offsets.now c.loop-i.i _ _ c.requires.1.1.0 c.loop-i-test.true) c.from-size.result (c.from-size.ensures ∙ c.static_bytes.ensures.size)
-          w.put_places.new.places.items _ w.put_group.new.out.items (w.word_count.result - 1)
-          (subst (λ (x : ℕ). w.put_places.new.places.items ≡ c.loop-i.places.items ++ replicate 1 x) a w.in_ok-put_places.ensures) w.in_ok-put_group.ensures (ap (λ (m : ℕ). m - 1) w.word_count.ensures.is)
-          (subst (λ (x : ℕ). w.put_places-then-skip-eq0.new.places.items ≡ w.put_places.new.places.items ++ replicate (w.word_count.result - 1) x) b w.in_ok-put_places-2.ensures))
+          w.put_places.new.places.items _ w.put_group.new.out.items (w.words.result - 1)
+          (subst (λ (x : ℕ). w.put_places.new.places.items ≡ c.loop-i.places.items ++ replicate 1 x) a w.in_ok-put_places.ensures) w.in_ok-put_group.ensures (ap (λ (m : ℕ). m - 1) w.words.ensures.is)
+          (subst (λ (x : ℕ). w.put_places-then-skip-eq0.new.places.items ≡ w.put_places.new.places.items ++ replicate (w.words.result - 1) x) b w.in_ok-put_places-2.ensures))
           w.skip-is (ap (λ v. v.items) w.words-is) (ap (λ v. v.items) w.places-is)
       | else-skip-eq0+in_ok-put_places-3 w ↦
           let a : w.len-else-skip-eq0.result ≡ length c.loop-i.words.items = omega (arith, w.len-else-skip-eq0.ensures, c.loop-i.words.ok.0) in
           let s : c.loop-i.skip ≡ suc (c.loop-i.skip - 1) = omega arith in
           carried g.js c.args.o.now c.args.lines.now (c.loop-i.i + 1) (c.loop-i.skip - 1) _ c.loop-i.words.items _ w.put_places-else-skip-eq0.new.places.items _
-          (laid_skips g.js c.args.o.now c.args.lines.now c.loop-i.i c.loop-i.skip _ _ c.loop-i.invariant c.loop-i-test.true _ _ refl (c.loop-i.skip - 1) w.word_count-else-skip-eq0.result s _ w.word_count-else-skip-eq0.ensures.is
-          (subst (λ (x : ℕ). w.put_places-else-skip-eq0.new.places.items ≡ c.loop-i.places.items ++ replicate w.word_count-else-skip-eq0.result x) a w.in_ok-put_places-3.ensures))
+          (laid_skips g.js c.args.o.now c.args.lines.now c.loop-i.i c.loop-i.skip _ _ c.loop-i.invariant c.loop-i-test.true _ _ refl (c.loop-i.skip - 1) w.words-else-skip-eq0.result s _ w.words-else-skip-eq0.ensures.is
+          (subst (λ (x : ℕ). w.put_places-else-skip-eq0.new.places.items ≡ c.loop-i.places.items ++ replicate w.words-else-skip-eq0.result x) a w.in_ok-put_places-3.ensures))
           w.skip-is (ap (λ v. v.items) w.words-is) (ap (λ v. v.items) w.places-is)
     ]
 
