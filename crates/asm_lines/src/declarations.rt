@@ -12,6 +12,8 @@ use asm_model::expression::Numeral;
 use asm_model::fault::AsmKind;
 use asm_model::name::{Name, Value};
 use asm_model::progress::Header;
+use code_model::object::{STACK_BYTES_MAX, STACK_BYTES_MIN};
+use kernel_model::map::THREADS_OF_APP;
 
 /// An application's header.
 fn application(stack: Option<Numeral>, threads: Option<Numeral>) -> Result<Header, AsmKind>
@@ -20,7 +22,10 @@ fn application(stack: Option<Numeral>, threads: Option<Numeral>) -> Result<Heade
     let (Some(stack), Some(threads)) = (stack, threads) else {
         return Err(AsmKind::BadDirective);
     };
-    if between(16, 1024, stack) && stack.size % 2 == 0 && between(1, 4, threads) {
+    if between(u32::from(STACK_BYTES_MIN), u32::from(STACK_BYTES_MAX), stack)
+        && stack.size % 2 == 0
+        && between(1, u32::from(THREADS_OF_APP), threads)
+    {
         Ok(Header::App {
             stack: stack.size as u16,
             threads: threads.size as u8,

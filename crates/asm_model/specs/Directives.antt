@@ -28,7 +28,8 @@ use Rattle.asm_model.specs.Names.{has_name_form, name_of, is_taken}
 use Rattle.asm_model.specs.Operands.{address_of}
 use Rattle.asm_model.specs.Instructions.{label_of}
 use Rattle.asm_model.specs.Drafts.{by_progress, grown}
-use Rattle.code_model.specs.declared.object.TheConstants.{STATIC_BYTES_MAX}
+use Rattle.code_model.specs.declared.object.TheConstants.{EXPORT_NUMBER_MAX, STACK_BYTES_MAX, STACK_BYTES_MIN, STATIC_BYTES_MAX}
+use Rattle.kernel_model.specs.declared.map.TheConstants.{THREADS_OF_APP}
 
 -- ---- the header, before all other statements and once
 
@@ -40,7 +41,7 @@ abbrev pub application : Option Numeral → Option Numeral → Result Header Asm
 application None threads = Err BadDirective
 application (Some stack) None = Err BadDirective
 application (Some stack) (Some threads) =
-    if (is_between 16 1024 stack && stack.size % 2 == 0) && is_between 1 4 threads then Ok (header.App stack.size threads.size)
+    if (is_between STACK_BYTES_MIN STACK_BYTES_MAX stack && stack.size % 2 == 0) && is_between 1 THREADS_OF_APP threads then Ok (header.App stack.size threads.size)
     else Err NumberRange
 
 -- the header of `.app`
@@ -114,7 +115,7 @@ entry_of names p rest = if is_application p.header && not p.entered then entry_b
 abbrev pub export_by : ℕ → Option Numeral → Option Name → Result Piece AsmKind
 export_by least None label = Err BadDirective
 export_by least (Some number) None = Err BadDirective
-export_by least (Some number) (Some label) = if is_between least 63 number then Ok (piece.Export number.size label) else Err NumberRange
+export_by least (Some number) (Some label) = if is_between least EXPORT_NUMBER_MAX number then Ok (piece.Export number.size label) else Err NumberRange
 
 -- a module's export, whose number is greater than the one before
 unfoldable pub export_of : List (Name × Value) → Progress → List ℕ → Result Piece AsmKind

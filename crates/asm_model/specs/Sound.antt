@@ -8,7 +8,8 @@ use Rattle.asm_model.specs.declared.progress.Header.TheVariants as header
 use Rattle.asm_model.specs.Expressions.{is_plain}
 use Rattle.asm_model.specs.Instructions.{is_legal}
 use Rattle.asm_model.specs.Drafts.{Draft, code_words, initialised_bytes}
-use Rattle.code_model.specs.declared.object.TheConstants.{CODE_WORDS_MAX, STATIC_BYTES_MAX}
+use Rattle.code_model.specs.declared.object.TheConstants.{CODE_WORDS_MAX, EXPORT_NUMBER_MAX, STACK_BYTES_MAX, STACK_BYTES_MIN, STATIC_BYTES_MAX}
+use Rattle.kernel_model.specs.declared.map.TheConstants.{THREADS_OF_APP}
 
 -- the words that the pieces add to the code, and their bytes of static data
 abbrev pub code_total : List Placed → ℕ
@@ -26,7 +27,7 @@ IsSoundPiece at least (piece.Jump condition target) = Unit {0}
 IsSoundPiece at least (piece.Word base word) = (at % 2 ≡ 0) × (is_plain base ≡ true)
 IsSoundPiece at least (piece.Byte b) = Unit {0}
 IsSoundPiece at least (piece.Entry label) = Unit {0}
-IsSoundPiece at least (piece.Export number label) = (least ≤ number) × (number ≤ 63)
+IsSoundPiece at least (piece.Export number label) = (least ≤ number) × (number ≤ EXPORT_NUMBER_MAX)
 
 -- the least number that an export behind a piece may have
 abbrev pub least_behind : ℕ → Piece → ℕ
@@ -79,7 +80,7 @@ StartsSuit (Some header.Module) entries exports = entries ≡ 0
 -- stack and threads are in their ranges
 abbrev pub IsHeader : Option Header → Type 0
 IsHeader None = Unit {0}
-IsHeader (Some (header.App stack threads)) = (stack % 2 ≡ 0) × (16 ≤ stack) × (stack ≤ 1024) × (1 ≤ threads) × (threads ≤ 4)
+IsHeader (Some (header.App stack threads)) = (stack % 2 ≡ 0) × (STACK_BYTES_MIN ≤ stack) × (stack ≤ STACK_BYTES_MAX) × (1 ≤ threads) × (threads ≤ THREADS_OF_APP)
 IsHeader (Some header.Module) = Unit {0}
 
 pub record IsSound (d : Draft) : Type 0 where

@@ -1,20 +1,18 @@
 -- In an accepted object each dangerous instruction is guarded.
-use Rattle.std.proofs.Common.{◌≡◌, ℕ, zero, suc, ◌+◌, ◌≤◌, List, [], ◌∷◌, inl, inr, length, drop, slice_index, subst, ap, ◌∙◌, arith}
+use Rattle.std.proofs.Common.{◌≡◌, ℕ, List, inl, inr, slice_index, subst, arith}
 use Rattle.std.proofs.Math.Nat.{eq-or-lt_of_le}
-use Rattle.std.proofs.lemmas.List.{get_or-drop}
-use Rattle.msp_encode.specs.declared.instr.Src.{Src}
 use Rattle.msp_encode.specs.declared.instr.Src.TheVariants as src
 use Rattle.msp_encode.specs.declared.instr.Dst.TheVariants as dst
 use Rattle.msp_encode.specs.declared.instr.Instr.{Instr}
 use Rattle.msp_encode.specs.declared.instr.Instr.TheVariants as instr
-use Rattle.msp_encode.specs.Spelling.{First, SrcRow}
+use Rattle.msp_encode.specs.Spelling.{First}
 use Rattle.msp_encode.specs.Forms.{WritesReg}
 use Rattle.code_model.specs.declared.object.Object.{Object}
 use Rattle.code_model.specs.declared.guards.GuardKind.{GuardKind}
 use Rattle.code_model.specs.declared.guards.GuardKind.TheVariants as guard
 use Rattle.code_model.specs.declared.rules.Rule.{Rule}
 use Rattle.code_model.specs.declared.rules.Rule.TheVariants as rule
-use Rattle.code_model.specs.Starts.{Begins, Stands}
+use Rattle.code_model.specs.Starts.{Stands}
 use Rattle.code_model.specs.Guards.{Guarded, CoversBy, Covers, Covered, OwnBy, Own, Interior, UnitStart}
 use Rattle.code_model.specs.Rules.{IsGuardedStore, Breaks, BreaksAt, ReadsStack}
 use Rattle.code_model.specs.Verdicts.{IsAccepted}

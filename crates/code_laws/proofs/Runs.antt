@@ -1,5 +1,5 @@
 -- The instructions that a guard serves, one behind another.
-use Rattle.std.proofs.Common.{◌≡◌, ℕ, zero, suc, ◌+◌, ◌≤◌, ◌<◌, inl, inr, length, drop, refl, sym, subst, ◌∙◌, arith}
+use Rattle.std.proofs.Common.{◌≡◌, ℕ, zero, suc, ◌+◌, ◌≤◌, ◌<◌, inl, inr, length, refl, sym, subst, arith}
 use Rattle.std.proofs.Math.Nat.{eq-or-lt_of_le}
 use Rattle.std.proofs.lemmas.Bool.{cases_lt}
 use Rattle.code_model.specs.declared.object.Object.{Object}
@@ -7,7 +7,6 @@ use Rattle.code_model.specs.declared.guards.GuardKind.{GuardKind}
 use Rattle.code_model.specs.declared.guards.GuardKind.TheVariants as guard
 use Rattle.code_model.specs.Starts.{Start}
 use Rattle.code_model.specs.Guards.{Guarded, guard_words, ServesAt, Run, most_served}
-use Rattle.code_laws.proofs.Standing.{size_least}
 use Rattle.code_laws.proofs.Starting.{starts_apart, next_start}
 use Rattle.code_laws.proofs.Lines.{guard_reaches}
 

@@ -2,7 +2,8 @@
 use Rattle.std.specs.Prelude.{◌≡◌, ℕ, ◌+◌, ◌*◌, ◌%◌, ◌<◌, ◌≤◌, List, length, true, false, slice_index, slice_index_or, if◌then◌else◌}
 use Rattle.kernel_model.specs.declared.kinds.Kind.{Kind}
 use Rattle.kernel_model.specs.declared.kinds.Kind.TheVariants.{App, Module}
-use Rattle.code_model.specs.declared.object.TheConstants.{CODE_WORDS_MAX, RELOCS_MAX, STATIC_BYTES_MAX}
+use Rattle.code_model.specs.declared.object.TheConstants.{CODE_WORDS_MAX, EXPORTS_MAX, EXPORT_NUMBER_MAX, RELOCS_MAX, STACK_BYTES_MAX, STACK_BYTES_MIN, STATIC_BYTES_MAX, VERSION_MAX, VERSION_MIN}
+use Rattle.kernel_model.specs.declared.map.TheConstants.{THREADS_OF_APP}
 use Rattle.code_model.specs.declared.parts.RelKind.{RelKind}
 use Rattle.code_model.specs.declared.parts.RelKind.TheVariants.{Code, Data, Lo, Hi}
 use Rattle.code_model.specs.declared.parts.Reloc.{Reloc}
@@ -42,10 +43,10 @@ pub record RelocFits (code init : List ℕ) (r : Reloc) : Type 0 where
 -- what an application's fields are
 pub record AppForm (code : List ℕ) (stack threads entry : ℕ) (exports : List Export) : Type 0 where
   pub stack_even : stack % 2 ≡ 0
-  pub stack_least : 16 ≤ stack
-  pub stack_most : stack ≤ 1024
+  pub stack_least : STACK_BYTES_MIN ≤ stack
+  pub stack_most : stack ≤ STACK_BYTES_MAX
   pub threads_least : 1 ≤ threads
-  pub threads_most : threads ≤ 4
+  pub threads_most : threads ≤ THREADS_OF_APP
   pub no_exports : length exports ≡ 0
   pub entry_in_code : IsInCode code entry
 
@@ -55,11 +56,11 @@ pub record ModuleForm (stack threads entry : ℕ) (exports : List Export) : Type
   pub no_threads : threads ≡ 0
   pub entry_zero : entry ≡ 0
   pub exports_least : 1 ≤ length exports
-  pub exports_most : length exports ≤ 64
+  pub exports_most : length exports ≤ EXPORTS_MAX
 
 pub record MeetsForm (kind : Kind) (version : ℕ) (code init : List ℕ) (zeroed stack threads entry : ℕ) (relocs : List Reloc) (exports : List Export) : Type 0 where
-  pub version_least : 1 ≤ version
-  pub version_most : version ≤ 2
+  pub version_least : VERSION_MIN ≤ version
+  pub version_most : version ≤ VERSION_MAX
   pub code_least : 1 ≤ length code
   pub code_most : length code ≤ CODE_WORDS_MAX
   pub static_most : length init + zeroed ≤ STATIC_BYTES_MAX
@@ -69,7 +70,7 @@ pub record MeetsForm (kind : Kind) (version : ℕ) (code init : List ℕ) (zeroe
   pub relocs_fit : (k : ℕ) (d : Reloc) → k < length relocs → RelocFits code init (slice_index_or relocs k d)
   pub relocs_rise : InOrder relocs
   pub exports_fit : (k : ℕ) (d : Export) → k < length exports → IsInCode code (slice_index_or exports k d).offset
-  pub exports_small : (k : ℕ) (d : Export) → k < length exports → (slice_index_or exports k d).number ≤ 63
+  pub exports_small : (k : ℕ) (d : Export) → k < length exports → (slice_index_or exports k d).number ≤ EXPORT_NUMBER_MAX
   pub exports_rise : NumbersRise exports
   -- each word has 16 bits, and each byte 8
   pub words_small : (k : ℕ) → slice_index code k < 65536

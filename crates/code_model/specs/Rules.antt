@@ -1,5 +1,5 @@
 -- What each rule refuses.
-use Rattle.std.specs.Prelude.{◌≡◌, ℕ, ◌+◌, ◌*◌, ◌/◌, ◌%◌, ◌<◌, ◌≤◌, ◌⊎◌, List, length, ℤ, pos, ◌+ℤ◌, bit_and}
+use Rattle.std.specs.Prelude.{◌≡◌, ℕ, ◌+◌, ◌*◌, ◌%◌, ◌≤◌, ◌⊎◌, List, length, ℤ, pos, ◌+ℤ◌, bit_and}
 use Rattle.std.specs.List.{Contains}
 use Rattle.msp_encode.specs.declared.registers.TheConstants.{PC, SP, SR}
 use Rattle.msp_encode.specs.declared.instr.Src.{Src}
@@ -9,7 +9,7 @@ use Rattle.msp_encode.specs.declared.instr.Dst.TheVariants as dst
 use Rattle.msp_encode.specs.declared.instr.Instr.{Instr}
 use Rattle.msp_encode.specs.declared.instr.Instr.TheVariants as instr
 use Rattle.msp_encode.specs.Spelling.{src_words}
-use Rattle.msp_encode.specs.Forms.{Writes, Changes, Stacks, IsMov, IsWide, IsBisOrBic, IsCall, DstIs, SrcIs, Pops, IsImmediate, IsReti, IsJmp, WritesReg, const_value}
+use Rattle.msp_encode.specs.Forms.{Writes, Changes, Stacks, IsMov, IsWide, IsBisOrBic, IsCall, DstIs, Pops, IsImmediate, IsReti, IsJmp, WritesReg, const_value}
 use Rattle.code_model.specs.declared.object.Object.{Object}
 use Rattle.code_model.specs.declared.parts.Export.{Export}
 use Rattle.kernel_model.specs.declared.entries.TheConstants.{CALLS, EMITS, GOES, LEAVE, STACK_FAULT, STORE_FAULT, TICKS}

@@ -2,7 +2,7 @@
 use Rattle.std.specs.Prelude.{ℕ, ◌+◌, ◌-◌, ◌*◌, ◌/◌, ◌==◌, ◌&&◌, Bool, true, false, nat_le, nat_lt, if◌then◌else◌, List, [], ◌∷◌, ◌++◌, length, ℤ, pos, negsuc, Option, None, Some}
 use Rattle.msp_encode.specs.declared.registers.TheConstants.{CHECKED, PC, SP}
 use Rattle.msp_encode.specs.declared.instr.Op2.{Op2}
-use Rattle.msp_encode.specs.declared.instr.Op2.TheVariants.{Mov, Add, Addc, Subc, Sub, Cmp, Dadd, Bit, Bic, Bis, Xor, And}
+use Rattle.msp_encode.specs.declared.instr.Op2.TheVariants.{Mov}
 use Rattle.msp_encode.specs.declared.instr.Op1.{Op1}
 use Rattle.msp_encode.specs.declared.instr.Op1.TheVariants.{Rrc, Swpb, Rra, Sxt, Push, Call}
 use Rattle.msp_encode.specs.declared.instr.Cond.{Cond}

@@ -13,6 +13,7 @@ ghost use Rattle.kernel_threads.specs.Entries.{AnswersBy};
 ghost use Rattle.kernel_modules.specs.Calls.{BecomesBy};
 
 use crate::Code;
+use code_model::object::EXPORT_NUMBER_MAX;
 use flat_mem::FlatMem;
 use kernel_model::map::{KERNEL_LIMIT, KERNEL_TOP};
 use kernel_model::states::{CALLING, ENDED};
@@ -27,7 +28,7 @@ use msp_machine::regs::{PC, SP};
 const FUNCTION: u8 = 12;
 
 /// The greatest number of a function.
-const LAST_FUNCTION: u16 = 63;
+const LAST_FUNCTION: u16 = EXPORT_NUMBER_MAX as u16;
 
 /// The registers of a module's arguments.
 pub const FIRST_ARGUMENT: u8 = 12;

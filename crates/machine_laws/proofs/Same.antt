@@ -1,13 +1,12 @@
 -- The address that a guard tests stays the register's that it was taken from.
-use Rattle.std.proofs.Common.{◌≡◌, ℕ, ◌+◌, ◌%◌, ◌<◌, ◌≤◌, ◌==◌, Bool, false, if◌then◌else◌, List, refl, sym, ap, ◌∙◌, subst, true, arith}
-use Rattle.std.specs.Prelude.{pos, ℤ}
+use Rattle.std.proofs.Common.{◌≡◌, ℕ, ◌%◌, ◌<◌, ◌≤◌, ◌==◌, Bool, false, if◌then◌else◌, List, refl, sym, ap, ◌∙◌, subst, arith}
+use Rattle.std.specs.Prelude.{ℤ}
 use Rattle.std.proofs.lemmas.Bool.Decides.{nat_tests}
 use Rattle.machine_model.specs.Context.{reg, set_reg, IsContext}
 use Rattle.machine_model.specs.Operands.{sum_of, source_value, after_source, place_to, value_in, put_context}
 use Rattle.machine_model.specs.Alu.{alu, added}
 use Rattle.machine_model.specs.Does.{does, Effect, passed, jump}
 use Rattle.msp_encode.specs.declared.instr.Width.TheVariants.{Wide}
-use Rattle.msp_encode.specs.declared.instr.Op2.{Op2}
 use Rattle.msp_encode.specs.declared.instr.Op2.TheVariants.{Mov, Add, Cmp}
 use Rattle.msp_encode.specs.declared.instr.Cond.{Cond}
 use Rattle.msp_encode.specs.declared.instr.Src.{Src}
@@ -15,13 +14,12 @@ use Rattle.msp_encode.specs.declared.instr.Src.TheVariants as src
 use Rattle.msp_encode.specs.declared.instr.Dst.TheVariants as dst
 use Rattle.msp_encode.specs.declared.instr.Instr.{Instr}
 use Rattle.msp_encode.specs.declared.instr.Instr.TheVariants as instr
-use Rattle.msp_encode.specs.Forms.{writes}
 use Rattle.machine_laws.specs.Places.{TakesAddress, AddsIndex, ComparesLow, JumpsIfLow, ComparesHigh, JumpsIfHigh, StoreFails, StoreRestores, Stores, ComparesLimit, JumpsIfRoom, GrowthFails, GrowthRestores, Grows, ComparesTop, JumpsIfFilled, PopFails, PopRestores, Pops, ComparesNewLow, JumpsIfNewLow, ComparesNewHigh, JumpsIfNewHigh, SpFails, SpRestores, SetsSp}
 use Rattle.machine_laws.specs.Own.{SameLaw}
 use Rattle.machine_model.proofs.Flags.{with_flags-small}
 use Rattle.machine_model.proofs.Contexts.{set-context}
 use Rattle.machine_laws.proofs.Registers.{reg_other, high_same}
-use Rattle.machine_laws.proofs.Operations.{behind, outcome, two-writes, two-tests}
+use Rattle.machine_laws.proofs.Operations.{outcome, two-writes, two-tests}
 
 -- R4 and the register have one value
 abbrev Same : ℕ → Effect → Type 0

@@ -1,5 +1,5 @@
 -- Results and flags.
-use Rattle.std.specs.Prelude.{ℕ, ◌+◌, ◌-◌, ◌*◌, ◌/◌, ◌%◌, Bool, true, false, bit_and, bit_or, bit_xor, nat_lt, nat_le, ◌==◌, ◌&&◌, not, if◌then◌else◌}
+use Rattle.std.specs.Prelude.{ℕ, ◌+◌, ◌-◌, ◌*◌, ◌/◌, ◌%◌, Bool, false, bit_and, bit_or, bit_xor, nat_lt, nat_le, ◌==◌, ◌&&◌, not, if◌then◌else◌}
 use Rattle.machine_model.specs.Status.{with_flags}
 use Rattle.machine_model.specs.Operands.{size, sign_bit}
 use Rattle.msp_encode.specs.declared.instr.Width.{Width}

@@ -1,5 +1,6 @@
 -- What the parts of the first pass give.
 use Rattle.std.specs.Prelude.{◌≡◌, ℕ, ◌≤◌, true, List, Result, Ok, Err}
+use Rattle.code_model.specs.declared.object.TheConstants.{EXPORT_NUMBER_MAX}
 use Rattle.asm_model.specs.declared.fault.AsmKind.{AsmKind}
 use Rattle.asm_model.specs.declared.fault.AsmFault.{AsmFault}
 use Rattle.asm_model.specs.declared.fault.AsmFault.TheVariants as faults
@@ -30,7 +31,7 @@ HasSmallNumber (piece.Jump condition target) = Unit {0}
 HasSmallNumber (piece.Word base word) = Unit {0}
 HasSmallNumber (piece.Byte b) = Unit {0}
 HasSmallNumber (piece.Entry label) = Unit {0}
-HasSmallNumber (piece.Export number label) = number ≤ 63
+HasSmallNumber (piece.Export number label) = number ≤ EXPORT_NUMBER_MAX
 
 -- this output, or this fault; or there was no memory
 abbrev pub Puts : Result (Unit {0}) Stop → Result Output AsmKind → Output → Type 0

@@ -16,7 +16,7 @@ use asm_model::fault::AsmKind;
 use asm_model::name::Name;
 use asm_model::piece::Piece;
 use asm_model::progress::{Header, Progress, Section, Version};
-use code_model::object::STATIC_BYTES_MAX;
+use code_model::object::{EXPORT_NUMBER_MAX, STATIC_BYTES_MAX};
 
 /// With a header, where there is none yet.
 pub(crate) fn head(p: Progress, header: Result<Header, AsmKind>) -> Result<Progress, AsmKind>
@@ -111,7 +111,7 @@ fn exported(least: u8, number: Option<Numeral>, label: Option<Name>) -> Result<P
     let (Some(number), Some(label)) = (number, label) else {
         return Err(AsmKind::BadDirective);
     };
-    if between(least as u32, 63, number) {
+    if between(u32::from(least), u32::from(EXPORT_NUMBER_MAX), number) {
         Ok(Piece::Export {
             number: number.size as u8,
             label,

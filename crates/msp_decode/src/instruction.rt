@@ -41,11 +41,7 @@ fn two(word: u16, first: u16, second: u16) -> Option<Instr>
 {
     let op = operation_of_two(two_code(word))?;
     let src = source(high_register(word), source_mode(word), first)?;
-    let behind = if src.words() == 0 {
-        first
-    } else {
-        second
-    };
+    let behind = if src.words() == 0 { first } else { second };
     let dst = destination(low_register(word), destination_mode(word), behind)?;
     Some(Instr::Two {
         op,

@@ -13,12 +13,13 @@ ghost use Rattle.msp_encode.specs.Spelling.{
 
 use crate::instr::{Dst, Instr, Op1, Src, Width};
 use crate::laws::legal_by_cases;
+use crate::registers::{CHECKED, CONSTANTS, SP};
 
 /// Whether an address can be made of a register: SP or 4 to 15.
 fn is_base(register: u8) -> bool
     ensures { IsTrue result ↔ ((register < 16) × IsBase register) }
 {
-    register == 1 || register >= 4 && register < 16
+    register == SP || register >= CHECKED && register < 16
 }
 
 /// Whether a source can be spelled in an operation of two operands.
@@ -26,7 +27,7 @@ fn source_fits(src: &Src) -> bool
     ensures { IsTrue result ↔ SrcFits src.now }
 {
     match *src {
-        Src::Reg(register) => register < 16 && register != 3,
+        Src::Reg(register) => register < 16 && register != CONSTANTS,
         Src::Indexed(register, _) => is_base(register),
         Src::Indirect(register) | Src::AutoInc(register) => is_base(register),
         Src::Symbolic(_) | Src::Absolute(_) | Src::Immediate(_) | Src::Const(_) => true,

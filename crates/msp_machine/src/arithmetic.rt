@@ -77,7 +77,8 @@ fn flagged(width: Width, value: u16, c: bool, v: bool, sr: u16) -> Outcome
 fn overflows(width: Width, s: u16, d: u16, value: u16) -> bool
     ensures { result ≡ overflows width s d value }
 {
-    has_sign_bit(width, s) == has_sign_bit(width, d) && has_sign_bit(width, value) != has_sign_bit(width, d)
+    has_sign_bit(width, s) == has_sign_bit(width, d)
+        && has_sign_bit(width, value) != has_sign_bit(width, d)
 }
 
 /// The sum of two values and a carry.
@@ -130,7 +131,12 @@ pub(crate) fn alu(op: Op2, width: Width, s: u16, d: u16, sr: u16) -> Outcome
         Op2::And | Op2::Bit => logical(width, d & s, false, sr),
         Op2::Bic => plain(d & complement(width, s), sr),
         Op2::Bis => plain(d | s, sr),
-        Op2::Xor => logical(width, d ^ s, has_sign_bit(width, s) && has_sign_bit(width, d), sr),
+        Op2::Xor => logical(
+            width,
+            d ^ s,
+            has_sign_bit(width, s) && has_sign_bit(width, d),
+            sr,
+        ),
     }
 }
 
@@ -173,5 +179,9 @@ pub(crate) fn alu_one(op: Op1, width: Width, value: u16, sr: u16) -> Outcome
 fn kept_top(width: Width, value: u16) -> u16
     ensures { result ≡ (if has_sign_bit width value then sign_bit width else 0) }
 {
-    if has_sign_bit(width, value) { sign_bit(width) } else { 0 }
+    if has_sign_bit(width, value) {
+        sign_bit(width)
+    } else {
+        0
+    }
 }

@@ -1,6 +1,7 @@
 //! Instructions that have no unit.
 
 ghost use Rattle.std.specs.Prelude.{ℕ, ◌<◌, ◌↔◌, IsTrue};
+ghost use Rattle.msp_encode.specs.declared.registers.TheConstants.{PC, SR};
 ghost use Rattle.msp_encode.specs.Forms.{WritesReg};
 ghost use Rattle.insert_model.specs.Faults.{IsCheck, SrcUsesCheck, DstUsesCheck, UsesCheck, NamesFlags, ChangesFlags, SetsPc, ReadsPc, HasSymbolic, IsSpecial, HasBadOperand, IsNoPopTarget, HasForbiddenPop, StepsBase, HasForbiddenStore, IsWrongWord, IsWrongWithin, HasWrongWord, HasForbiddenWrite, HasForbiddenRead, IsForbidden};
 
@@ -66,13 +67,13 @@ fn has_forbidden_write(line: &Line) -> bool
 }
 
 fn has_forbidden_status_write(line: &Line) -> bool
-    ensures { IsTrue result ↔ (WritesReg line.now.instr 2 × (ChangesFlags line.now.instr line.now.second → ⊥)) }
+    ensures { IsTrue result ↔ (WritesReg line.now.instr SR × (ChangesFlags line.now.instr line.now.second → ⊥)) }
 {
-    line.instr.writes_reg(2) && !changes_flags(line.instr, line.second)
+    line.instr.writes_reg(SR) && !changes_flags(line.instr, line.second)
 }
 
 fn has_forbidden_pc_write(i: Instr) -> bool
-    ensures { IsTrue result ↔ (WritesReg i 0 × (SetsPc i → ⊥)) }
+    ensures { IsTrue result ↔ (WritesReg i PC × (SetsPc i → ⊥)) }
 {
     i.writes_reg(PC) && !sets_pc(i)
 }
