@@ -1,15 +1,16 @@
 -- Which case a step is, by the line to accept and by PC.
-use Rattle.std.proofs.Common.{◌≡◌, ◌≢◌, ℕ, ◌+◌, ◌*◌, ◌%◌, ◌<◌, ◌≤◌, ◌⊎◌, inl, inr, Bool, false, eqb, List, [], ◌∷◌, Option, Some, None, refl, ap, ◌∙◌, arith}
+use Rattle.std.proofs.Common.{◌≡◌, ◌≢◌, ℕ, ◌+◌, ◌*◌, ◌%◌, ◌<◌, ◌≤◌, ◌⊎◌, inl, inr, Bool, false, cond, ◌&&◌, nat_le, eqb, List, [], ◌∷◌, Option, Some, None, refl, ap, ◌∙◌, arith}
 use Rattle.std.specs.List.{find, AllByRecursion}
 use Rattle.std.proofs.lemmas.Bool.{cases_eq, cond-false, ne_eqb}
 use Rattle.machine_model.specs.Context.{reg}
 use Rattle.kernel_model.specs.declared.map.TheConstants.{FIRST_ROUTINE, IDLE, LAST_ROUTINE}
 use Rattle.kernel_model.specs.declared.entries.TheConstants.{FIRST_ENTRY, GOES, LAST_ENTRY, LEAVE, STACK_FAULT, STORE_FAULT}
 use Rattle.kernel_model.specs.declared.kinds.Kind.TheVariants.{App}
-use Rattle.kernel_model.specs.Kernel.{Kernel}
+use Rattle.kernel_model.specs.Kernel.{Kernel, word_of}
+use Rattle.kernel_model.specs.declared.rows.SysWord.TheVariants.{Budget}
 use Rattle.kernel_model.specs.Words.{none}
-use Rattle.node_model.specs.Entries.{Call, StoreFault, StackFault, Goes, Leave, calls, entry_address}
-use Rattle.node_model.specs.Steps.{Accepts, IsIdle, Serves, case_of, case_by_line, case_at, case_in_code, entry_at, routine_at, lines_down}
+use Rattle.node_model.specs.Entries.{Call, StoreFault, StackFault, Goes, Leave, calls, entry_address, module_runs}
+use Rattle.node_model.specs.Steps.{Accepts, IsIdle, OverBudget, Runs, Serves, case_of, case_by_line, case_at, case_in_code, entry_at, lines_down, most_instructions, routine_at}
 use Rattle.node_laws.proofs.Casing.{StandsAt, named, entry-least, entry-found, enters-at, find-none}
 use Rattle.node_laws.proofs.Composing.{routine-found}
 use Rattle.retos_node.specs.Cases.{line_to_accept, IsAtEntry}
@@ -98,3 +99,7 @@ at_entry k r none l u e =
       at = ap entry_at c.1 ∙ entry-found c.0;
       enters = by_line k r None none ∙ enters-at k (reg r 0) c.0 c.1;
     }
+
+-- an application's instruction is next where no line is accepted, PC lies below the entries and no module runs
+pub runs_plainly : (k : Kernel) (r : List ℕ) → line_to_accept k r ≡ None → reg r 0 < FIRST_ENTRY → module_runs k ≡ false → case_of k r ≡ Runs
+runs_plainly k r none low e = in_code k r none (inl low) ∙ ap (λ (b : Bool). cond (b && nat_le most_instructions (word_of k Budget)) OverBudget Runs) e

@@ -5,6 +5,7 @@ use Rattle.std.proofs.lemmas.List.{append-nil}
 use Rattle.std.proofs.lemmas.List.Folds.{concat-append}
 use Rattle.std.proofs.lemmas.List.Elements.{filter-append}
 use Rattle.trace_model.specs.declared.records.Record.{Record}
+use Rattle.trace_model.specs.declared.records.Who.{Who}
 use Rattle.trace_model.specs.declared.scripts.Script.{Script}
 use Rattle.trace_model.specs.Texts.{is_emit, is_fault, is_instr, last_instrs, shown_text, shown_after, shown_texts, tail_line, tail_text, record_text, is_always_shown}
 use Rattle.trace_model.specs.declared.records.Record.TheVariants as record_of
@@ -22,7 +23,7 @@ use Rattle.retos_node.specs.declared.running.Counts.{Counts}
 use Rattle.retos_node.specs.declared.node.Show.{Show}
 use Rattle.retos_node.specs.Printing.{placement_lines, shown_line, tail_lines, told_lines, lines_after, shown_lines, trace_lines}
 use Rattle.retos_node.specs.Tails.{kept_of, kept_with, last_kept}
-use Rattle.retos_node.specs.Underway.{one_if, AreCounted, IsNext, behind, quiet_in, IsUnderWay, HasReached, HasEnded}
+use Rattle.retos_node.specs.Underway.{one_if, AreCounted, AreWithin, IsNext, behind, quiet_in, IsUnderWay, HasReached, HasEnded}
 
 -- ---- the run, a step further
 
@@ -374,3 +375,21 @@ not_true false h = refl
 pub not_false : (b : Bool) → not b ≡ false → b ≡ true
 not_false true h = refl
 not_false false h = cc
+
+-- an instruction's record isn't counted
+pub uncounted : (c : Counts) (step : ℕ) (w : Who) (pc word : ℕ) (writes : List (ℕ × ℕ)) → AreCounted c c (record_of.Instr step w pc word writes)
+uncounted c step w pc word writes = record { emits = omega arith; faults = omega arith }
+
+-- nor is a turn of the idle machine
+pub idle_uncounted : (c : Counts) (step : ℕ) → AreCounted c c (record_of.IdleTurn step)
+idle_uncounted c step = record { emits = omega arith; faults = omega arith }
+
+one_at_most : (b : Bool) → one_if b ≤ 1
+one_at_most true = omega arith
+one_at_most false = omega arith
+
+pub within_more : (n m : ℕ) (c d : Counts) (r : Record) → AreWithin n c → AreCounted c d r → m ≡ n + 1 → AreWithin m d
+within_more n m c d r w k e = record {
+  emits = omega (arith, w.emits, k.emits, one_at_most (is_emit r), e);
+  faults = omega (arith, w.faults, k.faults, one_at_most (is_fault r), e);
+}

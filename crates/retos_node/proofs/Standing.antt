@@ -31,7 +31,7 @@ use Rattle.node_model.specs.Confined.{IsConfined, IsJustAccepted, IsPushed}
 use Rattle.node_model.specs.Laws.{StepLaw, FetchedLaw, RowlessLaw, RaisedLaw}
 use Rattle.node_model.specs.Nodes.{Parts, Represents, Stepped, most_steps}
 use Rattle.load_model.specs.Loading.{Loadable}
-use Rattle.node_model.specs.Code.{StandsLaw, ShownLaw, Shows, SettledLaw, KnownLaw, OwnMarkLaw, GivesNext, TurnStandsLaw, IsWritten, InstructionStandsLaw, DoneWritesLaw, AcceptanceStandsLaw, AcceptedWritesLaw}
+use Rattle.node_model.specs.Code.{StandsLaw, ShownLaw, Shows, SettledLaw, KnownLaw, OwnMarkLaw, NoneRaisedLaw, GivesNext, TurnStandsLaw, IsWritten, InstructionStandsLaw, DoneWritesLaw, AcceptanceStandsLaw, AcceptedWritesLaw}
 use Rattle.node_laws.proofs.Stepping.{domain-runs}
 use Rattle.node_laws.proofs.Within.{domain-module}
 use Rattle.node_laws.proofs.Idling.{idle-is}
@@ -361,3 +361,18 @@ stepped law old new os s raised pick shown r h few made same gives = law old new
   steps = made;
   owner = same;
 }
+
+-- where no line is raised, the next system is that of the system itself
+unraised : NoneRaisedLaw → (s : System) (raised : ℕ) (pick : Option ℕ) (m r : List ℕ) (shown : Record) → raised ≡ 0
+    → GivesNext m r shown (step_of s pick) → GivesNext m r shown (step_of (with_raised s raised) pick)
+unraised law s raised pick m r shown e h =
+    subst (λ (x : System). GivesNext m r shown (step_of x pick)) (sym (law s) ∙ ap (λ (n : ℕ). with_raised s n) (sym e)) h
+
+-- a step before which no line is raised, by what it gives the system
+pub untold_stepped : StandsLaw → ShownLaw → NoneRaisedLaw → (old new : Parts) (os : List Loadable) (s : System) (raised : ℕ) (pick : Option ℕ) (shown : Record)
+    → Represents old os s → IsSound s → old.steps < most_steps → new.steps ≡ old.steps + 1 → new.owner ≡ old.owner → raised ≡ 0
+    → ((t : System) → Stands old.mem old.regs (old.steps + 1) t → GivesNext new.mem new.regs shown (step_of t pick))
+    → Stepped new os s raised pick shown
+untold_stepped law seen none old new os s raised pick shown r h few made same e gives =
+    stepped law old new os s raised pick shown r h few made same
+    (unraised none s raised pick new.mem new.regs shown e (gives s (node_stands seen old os s r h few)))

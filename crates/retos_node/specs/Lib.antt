@@ -6,5 +6,6 @@ pub mod Readiness
 pub mod Printing
 pub mod Tails
 pub mod Underway
+pub mod Untold
 pub mod EntryPoints
 pub mod Boots

@@ -49,11 +49,11 @@ fn rests(m: &FlatMem, r: &Regs, script: &Script, schedule: &Schedule, made: u32)
     requires ready { IsReady script.now made schedule.now }
     ensures { result ≡ rests_in script.now made (kernel_of m.now) r.now }
 {
-    ready(m).is_empty()
-        && !is_serving(r.get(PC))
-        && get(m, SysWord::Pending) == 0
-        && !schedule.has_later(script, made)
+    !schedule.has_later(script, made)
         && (script.everys.is_empty() || !has_live_app(m))
+        && get(m, SysWord::Pending) == 0
+        && !is_serving(r.get(PC))
+        && ready(m).is_empty()
 }
 
 /// Whether a vector routine is at an address.

@@ -127,7 +127,7 @@ pub(crate) fn run_steps<S: Sink>(
     Ok(Ended { quiet, counts })
 }
 
-/// One step, with its line if it is shown.
+/// One step, with its line if it is shown. Most steps have no line, and the record of such a one isn't made.
 #[inline(always)]
 fn turn<S: Sink>(
     node: &mut Node,
@@ -154,6 +154,14 @@ fn turn<S: Sink>(
     ensures cause { HasCause (S.state out.old).faults (S.state out.new).faults result }
 {
     let stimulus = schedule.next(script, node.steps);
+    if let Some((instr, words)) = node.untold_instruction(stimulus.raised) {
+        node.run_untold(&instr, words, stimulus.raised, stimulus.pick, objects);
+        return Ok(());
+    }
+    if node.idles_untold(stimulus.raised) {
+        node.idle_untold(stimulus.raised, stimulus.pick, objects);
+        return Ok(());
+    }
     let record = node.step(stimulus.raised, stimulus.pick, objects);
     match tell(node.show, &node.tail, &record, counts, out) {
         Ok(()) => Ok(()),

@@ -104,7 +104,7 @@ fn raise(m: &mut FlatMem, mask: u16)
 
 /// The highest pending line, if SR lets interrupts be accepted.
 #[inline(always)]
-fn line_to_accept(m: &FlatMem, r: &Regs) -> Option<u8>
+pub(crate) fn line_to_accept(m: &FlatMem, r: &Regs) -> Option<u8>
     ensures value { result ≡ line_to_accept (kernel_of m.now) r.now }
     ensures line { IfSome result (λ n. n < LINES) }
     ensures pending { IfSome result (λ n. 2 ^ n ≤ pending (kernel_of m.now)) }
@@ -395,7 +395,7 @@ fn execute(
 
 /// The word at an address.
 #[tactic(auto, unfolding(machine_model::specs::Memory::word_at))]
-fn word(m: &FlatMem, at: u16) -> u16
+pub(crate) fn word(m: &FlatMem, at: u16) -> u16
     ensures { result ≡ word_at m.now at }
 {
     m.word(at)

@@ -3,6 +3,7 @@
 ghost use Rattle.std.specs.Prelude.{◌≡◌, ◌≤◌, ◌∷◌, [], ◌++◌, List, ℕ, codes, length, map, IfErr, OnOk};
 ghost use Rattle.edge_io.specs.Causes.{HasCause};
 ghost use Rattle.trace_model.specs.declared.records.Record.{Record as RecordOf};
+ghost use Rattle.trace_model.specs.declared.records.Record.TheVariants as told;
 ghost use Rattle.trace_model.specs.Texts.{is_fault, tail_line};
 ghost use Rattle.retos_node.specs.Printing.{Printed, PrintedUpTo, tail_lines};
 ghost use Rattle.retos_node.specs.Tails.{kept_of, kept_with};
@@ -12,7 +13,8 @@ use crate::printing::print_line;
 use edge_io::sink::Sink;
 use edge_io::whole::SinkFault;
 use line_text::line::Line;
-use trace_model::records::Record;
+use machine_model::writes::Writes;
+use trace_model::records::{Record, Who};
 use trace_print::Tail;
 
 /// Keeps a record, where the last instructions are shown and it is an instruction's.
@@ -24,6 +26,26 @@ pub(crate) fn keep(show: Show, tail: &mut Tail, rec: &Record)
     if show.tail {
         tail.push(rec);
     }
+}
+
+/// Keeps an instruction's record, of these parts, where the last instructions are shown. Only there it is made.
+#[inline(always)]
+pub(crate) fn keep_instr(
+    show: Show,
+    tail: &mut Tail,
+    step: u32,
+    who: Who,
+    pc: u16,
+    word: u16,
+    writes: Writes,
+)
+    ensures kept { tail.new ≡ kept_with show tail.old (told.Instr step who pc word writes) }
+    ensures holds { (made : List RecordOf) → tail.old ≡ kept_of show made → tail.new ≡ kept_of show (made ++ told.Instr step who pc word writes ∷ []) }
+{
+    if !show.tail {
+        return;
+    }
+    tail.keep(step, who, pc, word, writes);
 }
 
 /// Prints the lines of the last instructions, if they are shown and a fault's line is next.

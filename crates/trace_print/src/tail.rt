@@ -3,6 +3,7 @@
 ghost use Rattle.std.specs.Prelude.{◌≡◌, ◌∷◌, ◌++◌, [], List, IsTrue, IsFalse, slice_get, length, ◌<◌, IfOk, IfSome};
 ghost use Rattle.std.specs.Option.{option_map};
 ghost use Rattle.trace_model.specs.declared.records.Record.{Record};
+ghost use Rattle.trace_model.specs.declared.records.Record.TheVariants as told;
 ghost use Rattle.trace_model.specs.Texts.{is_instr, last_instrs, record_text, tail_length};
 ghost use Rattle.circular_buffer.specs.Buffer.{keep_last};
 
@@ -12,7 +13,7 @@ use circular_buffer::HeapCircularBuffer;
 use machine_model::writes::Writes;
 use std::alloc::{AllocError, Global};
 use std::marker::Model;
-use trace_model::records::Record;
+use trace_model::records::{Record, Who};
 
 /// How many instructions are kept.
 pub const TAIL_LENGTH: usize = 8;
@@ -60,15 +61,24 @@ impl Tail {
             writes,
         } = rec
         {
-            let copy = Record::Instr {
-                step: *step,
-                who: *who,
-                pc: *pc,
-                word: *word,
-                writes: copied(writes),
-            };
-            let _oldest = self.kept.push_back(copy);
+            self.keep(*step, *who, *pc, *word, copied(writes));
         }
+    }
+
+    /// Keeps an instruction's record, of these parts, and gives up the oldest where there were eight.
+    #[inline(always)]
+    #[tactic(auto, using(crate::proofs::Following::last_with_instr))]
+    pub fn keep(&mut self, step: u32, who: Who, pc: u16, word: u16, writes: Writes)
+        ensures kept { self.new ≡ keep_last tail_length (self.old ++ told.Instr step who pc word writes ∷ []) }
+        ensures follows { (earlier : List Record) → self.old ≡ last_instrs earlier → self.new ≡ last_instrs (earlier ++ told.Instr step who pc word writes ∷ []) }
+    {
+        let _oldest = self.kept.push_back(Record::Instr {
+            step,
+            who,
+            pc,
+            word,
+            writes,
+        });
     }
 
     /// The line of the record at a place, the oldest at 0. None exactly past the last.
