@@ -56,3 +56,6 @@ pub const THREADS_OF_APP: u8 = 4;
 pub const MUTEXES: u8 = 4;
 /// How many interrupt lines a node has.
 pub const LINES: u8 = 14;
+
+/// How many instructions a call of a module may take.
+pub const MODULE_BUDGET: u16 = 4096;

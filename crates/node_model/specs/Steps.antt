@@ -8,7 +8,7 @@ use Rattle.machine_model.specs.Memory.{word_at, put_all}
 use Rattle.machine_model.specs.Context.{reg}
 use Rattle.machine_model.specs.Operands.{sum_of}
 use Rattle.machine_model.specs.Does.{does, Effect}
-use Rattle.kernel_model.specs.declared.map.TheConstants.{FIRST_ROUTINE, IDLE}
+use Rattle.kernel_model.specs.declared.map.TheConstants.{FIRST_ROUTINE, IDLE, MODULE_BUDGET}
 use Rattle.kernel_model.specs.Kernel.{Kernel, word_of, with_word}
 use Rattle.kernel_model.specs.declared.rows.SysWord.TheVariants.{Pending, Budget}
 use Rattle.trace_model.specs.declared.records.FaultKind.TheVariants as fault
@@ -55,7 +55,7 @@ pub data Case : Type 0 where
   Runs : Case
 
 abbrev pub most_instructions : ℕ
-most_instructions = 4096
+most_instructions = MODULE_BUDGET
 
 abbrev pub allows_interrupts : (sr : ℕ) → Bool
 allows_interrupts sr = sr / 8 % 2 == 1

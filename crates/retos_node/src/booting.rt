@@ -14,12 +14,13 @@ ghost use Rattle.node_model.specs.Nodes.{IsBootRefusal};
 ghost use Rattle.node_model.specs.Systems.{System};
 ghost use Rattle.retos_node.specs.Boots.{IsStarting, IsUnderway, StartsTo};
 
-use crate::lines::APPS;
 use crate::objects::ObjectList;
 use code_model::marks::Marks;
 use code_model::object::Object;
 use code_model::parts::Kind;
 use flat_mem::FlatMem;
+use kernel_model::map::APPS;
+use kernel_model::states::FREE;
 use kernel_modules::load_module;
 use kernel_tables::{app, clear};
 use kernel_threads::laws::contexts_are_taken;
@@ -31,9 +32,6 @@ use node_laws::{dispatch_is_sound, started_is_sound};
 use place_model::places::NoRoom;
 use reloc_loader::load;
 use std::alloc::{AllocError, Global};
-
-/// The state of a row that no domain has.
-const FREE: u16 = 0;
 
 /// The number of the object of a domain that isn't there.
 pub(crate) const NOBODY: u8 = 255;

@@ -7,11 +7,9 @@ ghost use Rattle.kernel_model.specs.Layout.{kernel_of};
 ghost use Rattle.node_model.specs.Nodes.{placement_line, reason_text};
 
 use flat_mem::FlatMem;
+use kernel_model::map::APPS;
 use kernel_tables::{app, module};
 use line_text::line::Line;
-
-/// How many domains an application's number may have.
-pub(crate) const APPS: u8 = 8;
 
 /// Where the domain with this number, below 12, was placed.
 pub(crate) fn of_placement(m: &FlatMem, number: u8) -> Line

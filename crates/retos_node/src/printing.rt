@@ -16,11 +16,9 @@ use crate::tails::print_before;
 use edge_io::sink::Sink;
 use edge_io::whole::{SinkFault, write_all};
 use flat_mem::FlatMem;
+use kernel_model::map::{APPS, MODULES};
 use trace_model::records::Record;
 use trace_print::{Tail, text};
-
-/// How many domains there are.
-const DOMAINS: u8 = 12;
 
 /// Writes a line whole.
 pub(crate) fn print_line<S: Sink>(line: &[u8], out: &mut S) -> Result<(), SinkFault>
@@ -65,7 +63,7 @@ fn print_object<S: Sink>(
     ensures prefix { IfErr result (λ fault. PrintedUpTo S.called S.state out.old out.new (map (placement_line (kernel_of m.now)) (numbers_of owner.now object)) fault) }
     ensures cause { HasCause (S.state out.old).faults (S.state out.new).faults result }
 {
-    for number in 0..DOMAINS {
+    for number in 0..APPS + MODULES {
         match print_owned(m, owner, object, number, out) {
             Ok(()) => {}
             Err(fault) => return Err(fault),

@@ -8,19 +8,17 @@ ghost use Rattle.node_model.specs.Runs.{is_live_app, is_serving};
 ghost use Rattle.retos_node.specs.Readiness.{IsReady};
 ghost use Rattle.retos_node.specs.Underway.{quiet_in, rests_in};
 
-use crate::lines::APPS;
 use crate::schedule::Schedule;
 use crate::stepping::{FIRST_ROUTINE, LAST_ROUTINE};
 use flat_mem::FlatMem;
+use kernel_model::map::APPS;
+use kernel_model::states::LIVE;
 use kernel_tables::laws::kernel_fits;
 use kernel_tables::{SysWord, app, get, ready};
 use kernel_threads::NONE;
 use msp_machine::Regs;
 use msp_machine::regs::PC;
 use trace_model::scripts::Script;
-
-/// The state of a live application.
-const LIVE: u16 = 1;
 
 /// Whether a run is at its quiet end, after so many steps.
 #[inline(always)]

@@ -43,6 +43,7 @@ use interrupts::lines::LINES;
 use interrupts::{Lines, accept};
 pub(crate) use kernel_model::entries::FIRST_ENTRY;
 use kernel_model::entries::LAST_ENTRY;
+use kernel_model::map::MODULE_BUDGET;
 pub(crate) use kernel_model::map::{FIRST_ROUTINE, IDLE, LAST_ROUTINE};
 use kernel_tables::{SysWord, get, put};
 use kernel_threads::NONE;
@@ -63,9 +64,6 @@ const MASKS: u16 = 0x4000;
 
 /// The value of GIE, the bit of SR that lets interrupts be accepted.
 const GIE: u16 = 8;
-
-/// How many instructions a module may run in one call.
-const MOST_INSTRUCTIONS: u16 = 4096;
 
 /// One step, with this number: the lines of a mask are raised before it, and a dispatch in it takes this pick.
 #[inline(always)]
@@ -293,7 +291,7 @@ fn in_module(m: &mut FlatMem, r: &mut Regs, who: Who, moment: Moment) -> Record
     ensures { Gives m.old m.new r.old r.new moment result }
 {
     let count = get(m, SysWord::Budget);
-    if count < MOST_INSTRUCTIONS {
+    if count < MODULE_BUDGET {
         counted_instruction(m, r, who, count, moment)
     } else {
         over_budget(m, r, moment)
@@ -328,7 +326,7 @@ fn counted_instruction(
     requires who { who ≡ who_runs (kernel_of m.old) }
     requires runs { module_runs (kernel_of m.old) ≡ true }
     requires count { count ≡ word_of (kernel_of m.old) Budget }
-    requires few { count < MOST_INSTRUCTIONS }
+    requires few { count < MODULE_BUDGET }
     ensures { Gives m.old m.new r.old r.new moment result }
 {
     instruction_law();
