@@ -22,8 +22,11 @@ fn application(stack: Option<Numeral>, threads: Option<Numeral>) -> Result<Heade
     let (Some(stack), Some(threads)) = (stack, threads) else {
         return Err(AsmKind::BadDirective);
     };
-    if between(u32::from(STACK_BYTES_MIN), u32::from(STACK_BYTES_MAX), stack)
-        && stack.size % 2 == 0
+    if between(
+        u32::from(STACK_BYTES_MIN),
+        u32::from(STACK_BYTES_MAX),
+        stack,
+    ) && stack.size % 2 == 0
         && between(1, u32::from(THREADS_OF_APP), threads)
     {
         Ok(Header::App {

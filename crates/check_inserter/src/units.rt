@@ -10,9 +10,7 @@ ghost use Rattle.code_model.specs.declared.object.TheConstants.{CODE_WORDS_MAX};
 use crate::guards::{
     branch, give_sp, growth_guard, jump, plain, pop_guard, pop_r4, sp_guard, store_guard, take_sp,
 };
-use crate::operands::{
-    aim, aim_one, from_r4, into_r4, is_immediate, is_plain_pop, through_r4,
-};
+use crate::operands::{aim, aim_one, from_r4, into_r4, is_immediate, is_plain_pop, through_r4};
 use crate::words::{put_both, put_pieces};
 use code_model::parts::RelKind;
 use insert_model::aim::Aim;

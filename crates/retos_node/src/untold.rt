@@ -114,7 +114,7 @@ impl Node {
         ensures same { (self.new).show ≡ (self.old).show }
         ensures holds { (made : List RecordOf) → (self.old).tail ≡ kept_of (self.old).show made
             → (self.new).tail ≡ kept_of (self.old).show
-                (made ++ plain_record (self.old).mem (self.old).regs instr.now words ((self.old).steps + 1) ∷ []) }
+            (made ++ plain_record (self.old).mem (self.old).regs instr.now words ((self.old).steps + 1) ∷ []) }
     {
         step_law();
         memory_is_shown();

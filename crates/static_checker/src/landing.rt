@@ -19,7 +19,7 @@ use crate::named::named_places;
 use crate::pass::Pass;
 use crate::refusal::Refusal;
 use crate::spot::spot_at;
-use crate::targets::{transfer_misses_target, jump_misses_unit};
+use crate::targets::{jump_misses_unit, transfer_misses_target};
 use code_model::marks::Marks;
 use code_model::object::Object;
 use code_model::rules::Rule;

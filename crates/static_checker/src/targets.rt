@@ -18,7 +18,13 @@ use kernel_model::entries::{CALLS, EMITS, GOES, LEAVE, STACK_FAULT, STORE_FAULT,
 use msp_encode::instr::{Instr, Src};
 
 /// Tells whether an instruction at a place is a branch or a call without an allowed target.
-pub fn transfer_misses_target(o: &Object, cursor: Cursor, units: &Marks, at: usize, i: Instr) -> bool
+pub fn transfer_misses_target(
+    o: &Object,
+    cursor: Cursor,
+    units: &Marks,
+    at: usize,
+    i: Instr,
+) -> bool
     requires cursor { IsCursor o.now.relocs cursor }
     requires order { cursor.at ≤ at }
     requires units { AreUnits o.now units.now }
@@ -27,7 +33,8 @@ pub fn transfer_misses_target(o: &Object, cursor: Cursor, units: &Marks, at: usi
 {
     match i {
         Instr::Two { src, .. } => is_branch(i) && !is_branch_target(o, cursor, units, at + 1, src),
-        Instr::One { op, src, .. } => op.is_call() && !is_call_target(o, cursor, units, at + 1, src),
+        Instr::One { op, src, .. } => op.is_call()
+            && !is_call_target(o, cursor, units, at + 1, src),
         _ => false,
     }
 }
