@@ -1,13 +1,9 @@
 -- Unit starts and guards.
-use Rattle.std.proofs.Common.{◌≡◌, ℕ, zero, suc, ◌+◌, ◌⊎◌, List, [], ◌∷◌, get_or, drop, sym, ap, ◌∙◌, subst, inl, inr, arith}
-use Rattle.std.proofs.lemmas.Bool.{cases_order}
-use Rattle.std.proofs.lemmas.List.{get_or-drop}
+use Rattle.std.proofs.Common.{◌≡◌, ℕ, ◌+◌, ◌⊎◌, get_or, drop, sym, ap, ◌∙◌, subst, inl, inr}
 use Rattle.msp_encode.specs.declared.instr.Instr.{Instr}
-use Rattle.msp_encode.specs.Spelling.{First}
 use Rattle.code_model.specs.declared.object.Object.{Object}
-use Rattle.code_model.specs.declared.guards.GuardKind.{GuardKind}
-use Rattle.code_model.specs.Starts.{Begins, Stands, Start}
-use Rattle.code_model.specs.Guards.{Guarded, CoversBy, Covers, Covered, OwnBy, Own, Interior, UnitStart}
+use Rattle.code_model.specs.Starts.{Stands, Start}
+use Rattle.code_model.specs.Guards.{CoversBy, Covers, Covered, Own, Interior, UnitStart}
 use Rattle.code_laws.specs.Laws.{GoesOnFirst}
 use Rattle.code_laws.proofs.Standing.{same_instr, same_size}
 use Rattle.code_laws.proofs.DangerLemmas.{BeginsAt, own_first}

@@ -1,12 +1,6 @@
 -- The load guard.
-use Rattle.std.proofs.Common.{◌≡◌, ℕ, ◌+◌, ◌*◌, ◌<◌, ◌⊎◌, List, ap, ◌∙◌, sym, subst, refl, inl, inr, arith}
-use Rattle.msp_encode.specs.declared.instr.Width.TheVariants.{Wide}
-use Rattle.msp_encode.specs.declared.instr.Op2.TheVariants.{Mov}
-use Rattle.msp_encode.specs.declared.instr.Src.TheVariants as src
-use Rattle.msp_encode.specs.declared.instr.Dst.TheVariants as dst
+use Rattle.std.proofs.Common.{◌≡◌, ℕ, ◌+◌, ◌*◌, ◌<◌, ◌⊎◌, List, sym, subst, refl, inl, inr, arith}
 use Rattle.msp_encode.specs.declared.instr.Instr.{Instr}
-use Rattle.msp_encode.specs.declared.instr.Instr.TheVariants as instr
-use Rattle.code_model.specs.declared.object.Object.{Object}
 use Rattle.code_model.specs.declared.guards.GuardKind.{GuardKind}
 use Rattle.code_model.specs.declared.guards.GuardKind.TheVariants as guard
 use Rattle.code_model.specs.Guards.{IsLoadForm, Guarded}
