@@ -5,7 +5,6 @@ pub mod TurnLemmas
 pub mod AnswerLemmas
 pub mod EntryLemmas
 pub mod Fitting
-pub mod Scheduling
 pub mod Writing
 pub mod Naming
 pub mod Course

@@ -2,7 +2,6 @@ pub mod Parts
 pub mod Turns
 pub mod Cases
 pub mod Codes
-pub mod Readiness
 pub mod Printing
 pub mod Tails
 pub mod Underway

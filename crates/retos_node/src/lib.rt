@@ -3,8 +3,8 @@
 //! Read `node.rt`' contracts first: a `Node` stands for a system of `node_model` (`Represents`), and `boot`, `step` and `run` leave
 //! nodes that stand for the systems of its definitions. `objects` has the list of accepted objects that a node is given; `entries`,
 //! `turns`, `calls`, `locks`, `modules` and `routines` what each entry and each vector routine does, `stepping` the cases of a
-//! step, `untold` the steps of which no line tells, `booting` placing and starting, `running` a run with its lines, `tails` the
-//! last instructions before a fault, and `schedule` what a script gives for the next step.
+//! step, `untold` the steps of which no line tells, `booting` placing and starting, `running` a run with its lines, and `tails` the
+//! last instructions before a fault. What a script gives for the next step is `script_schedule`'s.
 #![tactic(auto)]
 
 mod booting;
@@ -20,7 +20,6 @@ mod printing;
 mod quiet;
 mod routines;
 mod running;
-mod schedule;
 mod step_laws;
 mod stepping;
 mod tails;

@@ -5,10 +5,9 @@ ghost use Rattle.std.specs.List.{list_any};
 ghost use Rattle.kernel_model.specs.Layout.{kernel_of};
 ghost use Rattle.kernel_model.specs.Queues.{QueuesHold};
 ghost use Rattle.node_model.specs.Runs.{is_live_app, is_serving};
-ghost use Rattle.retos_node.specs.Readiness.{IsReady};
+ghost use Rattle.script_schedule.specs.Readiness.{IsReady};
 ghost use Rattle.retos_node.specs.Underway.{quiet_in, rests_in};
 
-use crate::schedule::Schedule;
 use crate::stepping::{FIRST_ROUTINE, LAST_ROUTINE};
 use flat_mem::FlatMem;
 use kernel_model::map::APPS;
@@ -18,6 +17,7 @@ use kernel_tables::{SysWord, app, get, ready};
 use kernel_threads::NONE;
 use msp_machine::Regs;
 use msp_machine::regs::PC;
+use script_schedule::schedule::Schedule;
 use trace_model::scripts::Script;
 
 /// Whether a run is at its quiet end, after so many steps.

@@ -12,7 +12,7 @@ ghost use Rattle.node_model.specs.Sound.{IsSound};
 ghost use Rattle.node_model.specs.Runs.{is_quiet, next, run, Run};
 ghost use Rattle.node_model.specs.Nodes.{most_steps, IsSoundNode, reason_text, IsEnd, Parts, Represents, RunLaw};
 ghost use Rattle.retos_node.specs.Parts.{parts, HoldLocks, HoldsLast, IsRunEnd};
-ghost use Rattle.retos_node.specs.Readiness.{IsReady};
+ghost use Rattle.script_schedule.specs.Readiness.{IsReady};
 ghost use Rattle.retos_node.specs.Printing.{Printed, PrintedUpTo, shown_lines, told_lines};
 ghost use Rattle.retos_node.specs.Tails.{kept_of};
 ghost use Rattle.retos_node.specs.Underway.{AreWithin, IsNext, HasReached, HasEnded};
@@ -22,7 +22,6 @@ use crate::node::{End, Node};
 use crate::objects::ObjectList;
 use crate::printing::tell;
 use crate::quiet::is_quiet;
-use crate::schedule::Schedule;
 use crate::step_laws::next_law;
 use edge_io::sink::Sink;
 use edge_io::whole::SinkFault;
@@ -30,6 +29,7 @@ use kernel_tables::laws::orderly_queues_hold;
 use line_text::line::Line;
 use node_laws::code::{locks_are_held, memory_is_shown};
 use node_laws::runs_are_sound;
+use script_schedule::schedule::Schedule;
 use trace_model::scripts::Script;
 
 /// How many values were printed, and how many faults came.

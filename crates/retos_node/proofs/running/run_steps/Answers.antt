@@ -2,7 +2,7 @@ use Rattle.std.proofs.Common.{◌≡◌, List, ℕ, false, refl, sym, ◌∙◌,
 use Rattle.node_model.specs.Runs.{run, next}
 use Rattle.retos_node.specs.declared.running.Counts.{Counts}
 use Rattle.retos_node.specs.Parts.{parts}
-use Rattle.retos_node.specs.Readiness.{IsReady}
+use Rattle.script_schedule.specs.Readiness.{IsReady}
 use Rattle.retos_node.specs.Printing.{Printed, shown_lines}
 use Rattle.retos_node.specs.Tails.{AreTold, kept_of}
 use Rattle.retos_node.proofs.Writing.{printed_none}

@@ -4,7 +4,7 @@ use Rattle.node_model.specs.Sound.{IsSound}
 use Rattle.node_model.specs.Runs.{is_quiet}
 use Rattle.node_model.specs.Nodes.{IsSoundNode, Represents}
 use Rattle.retos_node.specs.Parts.{parts}
-use Rattle.retos_node.specs.Readiness.{IsReady}
+use Rattle.script_schedule.specs.Readiness.{IsReady}
 use Rattle.retos_node.specs.Tails.{AreTold}
 use Rattle.retos_node.specs.Underway.{AreWithin, IsUnderWay}
 use Rattle.retos_node.proofs.running.run_steps.Given as goal

@@ -1,6 +1,6 @@
 use Rattle.std.proofs.Common.{◌+◌, refl, arith}
-use Rattle.retos_node.proofs.Scheduling.{idle_raised, idle_pick}
-use Rattle.retos_node.proofs.schedule.Schedule.next.Goals as goal
+use Rattle.script_schedule.proofs.Scheduling.{idle_raised, idle_pick}
+use Rattle.script_schedule.proofs.schedule.Schedule.next.Goals as goal
 
 pub returns-then-step-self-clause-raised : goal.returns-then-step-self-clause-raised
 returns-then-step-self-clause-raised c =

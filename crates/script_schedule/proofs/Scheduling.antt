@@ -16,10 +16,10 @@ use Rattle.trace_model.specs.declared.scripts.Every.{Every}
 use Rattle.trace_model.specs.declared.scripts.Script.{Script}
 use Rattle.trace_model.specs.Scripts.{IsAt, IsKind, Rises}
 use Rattle.trace_model.specs.Draws.{kind_mask, at_mask, kind_pick, at_pick, all_masks, every_mask, first_or, mix_pick, raised_at, pick_at}
-use Rattle.retos_node.specs.declared.schedule.Schedule.{Schedule}
-use Rattle.retos_node.specs.declared.schedule.AtLines.{AtLines}
-use Rattle.retos_node.specs.declared.schedule.EveryLines.{EveryLines}
-use Rattle.retos_node.specs.Readiness.{ArePassed, AreAhead, IsReady, listed, or_kind_pick, AreTaken, AreAtLines, AreEveryLines}
+use Rattle.script_schedule.specs.declared.schedule.Schedule.{Schedule}
+use Rattle.script_schedule.specs.declared.schedule.AtLines.{AtLines}
+use Rattle.script_schedule.specs.declared.schedule.EveryLines.{EveryLines}
+use Rattle.script_schedule.specs.Readiness.{ArePassed, AreAhead, IsReady, listed, or_kind_pick, AreTaken, AreAtLines, AreEveryLines}
 
 -- ---- lines of other steps
 

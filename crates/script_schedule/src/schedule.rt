@@ -8,7 +8,7 @@ ghost use Rattle.std.specs.List.{list_any};
 ghost use Rattle.node_model.specs.Nodes.{most_steps};
 ghost use Rattle.trace_model.specs.Draws.{kind_mask, every_mask, mix_pick, raised_at, pick_at};
 ghost use Rattle.trace_model.specs.Scripts.{IsScript, IsKind, IsEvery};
-ghost use Rattle.retos_node.specs.Readiness.{IsReady, IsDrawn, ArePassed, AreAhead, or_kind_pick, AreAtLines, AreEveryLines};
+ghost use Rattle.script_schedule.specs.Readiness.{IsReady, IsDrawn, ArePassed, AreAhead, or_kind_pick, AreAtLines, AreEveryLines};
 
 use trace_model::scripts::{AtKind, Every, Script};
 

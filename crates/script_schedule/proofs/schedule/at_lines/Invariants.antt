@@ -1,6 +1,6 @@
 use Rattle.std.proofs.Common.{◌≡◌, ◌-◌, length}
-use Rattle.retos_node.specs.Readiness.{AreTaken, AreAhead}
-use Rattle.retos_node.proofs.schedule.at_lines.Given as goal
+use Rattle.script_schedule.specs.Readiness.{AreTaken, AreAhead}
+use Rattle.script_schedule.proofs.schedule.at_lines.Given as goal
 
 abbrev pub invariant-loop-lines : goal.invariant-loop-lines
 invariant-loop-lines l = record {

@@ -6,9 +6,9 @@ use Rattle.trace_model.specs.declared.scripts.At.{At}
 use Rattle.trace_model.specs.declared.scripts.Every.{Every}
 use Rattle.trace_model.specs.declared.scripts.Script.{Script}
 use Rattle.trace_model.specs.Draws.{at_mask, at_pick, kind_pick, all_masks, every_mask, first_or, mixed}
-use Rattle.retos_node.specs.declared.schedule.Schedule.{Schedule}
-use Rattle.retos_node.specs.declared.schedule.AtLines.{AtLines}
-use Rattle.retos_node.specs.declared.schedule.EveryLines.{EveryLines}
+use Rattle.script_schedule.specs.declared.schedule.Schedule.{Schedule}
+use Rattle.script_schedule.specs.declared.schedule.AtLines.{AtLines}
+use Rattle.script_schedule.specs.declared.schedule.EveryLines.{EveryLines}
 
 -- the `at` lines before this place are of this step or earlier
 abbrev pub ArePassed : List At → (place step : ℕ) → Type 0

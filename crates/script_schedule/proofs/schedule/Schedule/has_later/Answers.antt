@@ -1,6 +1,6 @@
 use Rattle.std.proofs.Common.{◌∙◌, ap, ltb}
-use Rattle.retos_node.proofs.Scheduling.{later_is}
-use Rattle.retos_node.proofs.schedule.Schedule.has_later.Goals as goal
+use Rattle.script_schedule.proofs.Scheduling.{later_is}
+use Rattle.script_schedule.proofs.schedule.Schedule.has_later.Goals as goal
 
 pub returns : goal.returns
 returns c = ap (λ n. ltb c.args.self.now.place n) c.len.ensures ∙ later_is c.args.script.now c.args.made c.args.self.now c.requires

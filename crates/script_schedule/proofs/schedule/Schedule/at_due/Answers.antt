@@ -1,6 +1,6 @@
 use Rattle.std.proofs.Common.{◌∙◌}
-use Rattle.retos_node.proofs.Scheduling.{due_raised, due_pick}
-use Rattle.retos_node.proofs.schedule.Schedule.at_due.Goals as goal
+use Rattle.script_schedule.proofs.Scheduling.{due_raised, due_pick}
+use Rattle.script_schedule.proofs.schedule.Schedule.at_due.Goals as goal
 
 pub returns-clause-raised : goal.returns-clause-raised
 returns-clause-raised c = due_raised c.args.script.now c.args.step c.at_lines-ats.result c.every_lines-everys.result c.at_lines-ats.ensures c.every_lines-everys.ensures

@@ -1,6 +1,6 @@
 use Rattle.std.proofs.Common.{◌∙◌, refl, sym, arith}
-use Rattle.retos_node.proofs.Scheduling.{taken_start, taken_more, taken_end, ahead_here, ahead_none, kind_at, step_at}
-use Rattle.retos_node.proofs.schedule.at_lines.Goals as goal
+use Rattle.script_schedule.proofs.Scheduling.{taken_start, taken_more, taken_end, ahead_here, ahead_none, kind_at, step_at}
+use Rattle.script_schedule.proofs.schedule.at_lines.Goals as goal
 
 pub loop-lines-init : goal.loop-lines-init
 loop-lines-init c = record {
