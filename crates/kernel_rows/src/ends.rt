@@ -4,12 +4,12 @@ ghost use Rattle.std.specs.Prelude.{◌<◌};
 ghost use Rattle.place_model.specs.Settled.{IsSettled};
 
 use crate::calls::{Answer, Call, compare, lines_hold, make, try_make, try_steps};
-use crate::fixture::{NO_MEMBER, eight_apps, limits, queue_lists, two_apps};
 use crate::threads::{ENDS, START_BOTH};
 use flat_mem::FlatMem;
 use kernel_model::ends::AppEnd;
 use kernel_tables::{app, cond, mutex, queues_hold, thread};
 use kernel_threads::NONE;
+use load_rows::fixture::{NO_MEMBER, eight_apps, limits, queue_lists, two_apps};
 use msp_machine::Regs;
 use std::process::Abort;
 use std::test::Fail;
