@@ -251,9 +251,9 @@ fn lines_lose_the_threads_of_one_application_alone(rt: HostRuntime) -> Result<()
     Ok(())
 }
 
-/// In application 0 thread 0 owns mutex 3, thread 1 waits for it, and thread 2 for condition 3; in application 2 the same of mutex 0
-/// and condition 0. In application 1 thread 4 owns mutexes 0 and 3, thread 5 waits for mutex 0, and threads 6 and 7 for conditions
-/// 0 and 3. Who waits for a condition takes mutex 1 again.
+/// In application 0 thread 0 owns mutex 3, thread 1 waits for it, and thread 2 for condition 3; in application 2 the same of mutex
+/// 0 and condition 0. In application 1 thread 4 owns mutexes 0 and 3, thread 5 waits for mutex 0, and threads 6 and 7 for
+/// conditions 0 and 3. Who waits for a condition takes mutex 1 again.
 const LOCKED: [Turn; 10] = [
     (
         0,
