@@ -4,11 +4,11 @@ ghost use Rattle.std.specs.Prelude.{◌<◌};
 ghost use Rattle.place_model.specs.Settled.{IsSettled};
 
 use crate::calls::{Call, compare, try_jump, try_make, try_return, try_steps};
-use crate::fixture::{limits, put_marks, runner, two_apps, words_of};
 use crate::threads::START_BOTH;
 use flat_mem::FlatMem;
 use kernel_tables::{ModuleRow, SysWord, clear, put, set_module, set_register};
 use kernel_threads::NONE;
+use load_rows::fixture::{limits, put_marks, runner, two_apps, words_of};
 use msp_machine::Regs;
 use std::process::Abort;
 use std::test::Fail;

@@ -4,12 +4,12 @@ ghost use Rattle.std.specs.Prelude.{◌<◌};
 ghost use Rattle.place_model.specs.Settled.{IsSettled};
 
 use crate::calls::{Answer, Call, compare, lines_hold, make, try_make, try_steps};
-use crate::fixture::{NO_MEMBER, eight_apps, limits, queue_lists, two_apps};
 use crate::threads::{ENDS, START_BOTH};
 use flat_mem::FlatMem;
 use kernel_model::ends::AppEnd;
 use kernel_tables::{app, cond, mutex, queues_hold, thread};
 use kernel_threads::NONE;
+use load_rows::fixture::{NO_MEMBER, eight_apps, limits, queue_lists, two_apps};
 use msp_machine::Regs;
 use std::process::Abort;
 use std::test::Fail;
@@ -251,9 +251,9 @@ fn lines_lose_the_threads_of_one_application_alone(rt: HostRuntime) -> Result<()
     Ok(())
 }
 
-/// In application 0 thread 0 owns mutex 3, thread 1 waits for it, and thread 2 for condition 3; in application 2 the same of mutex 0
-/// and condition 0. In application 1 thread 4 owns mutexes 0 and 3, thread 5 waits for mutex 0, and threads 6 and 7 for conditions
-/// 0 and 3. Who waits for a condition takes mutex 1 again.
+/// In application 0 thread 0 owns mutex 3, thread 1 waits for it, and thread 2 for condition 3; in application 2 the same of mutex
+/// 0 and condition 0. In application 1 thread 4 owns mutexes 0 and 3, thread 5 waits for mutex 0, and threads 6 and 7 for
+/// conditions 0 and 3. Who waits for a condition takes mutex 1 again.
 const LOCKED: [Turn; 10] = [
     (
         0,

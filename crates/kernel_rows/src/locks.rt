@@ -2,10 +2,10 @@
 //! threads.
 
 use crate::calls::{Answer, Call, Step, try_steps};
-use crate::fixture::{NO_MEMBER, eight_apps};
 use crate::threads::BAD;
 use kernel_tables::{cond, mutex, thread};
 use kernel_threads::{Code, NONE};
+use load_rows::fixture::{NO_MEMBER, eight_apps};
 use msp_machine::Regs;
 use std::test::Fail;
 

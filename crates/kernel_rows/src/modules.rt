@@ -6,8 +6,6 @@ ghost use Rattle.kernel_model.specs.declared.kinds.Kind.TheVariants.{Module};
 ghost use Rattle.place_model.specs.Settled.{IsSettled};
 
 use crate::calls::{Answer, Call, make, try_make};
-use crate::fixture::{copy, same, two_apps, words_of};
-use crate::object_texts::{Head, MODULE};
 use code_model::marks::Marks;
 use code_model::object::Object;
 use code_model::parts::Kind;
@@ -15,6 +13,8 @@ use flat_mem::FlatMem;
 use kernel_modules::{NoRoom, load_module};
 use kernel_tables::{FnRow, ModuleRow, SysWord, function, get, module, thread};
 use kernel_threads::{Code, NONE};
+use load_rows::fixture::{copy, same, two_apps, words_of};
+use load_rows::object_texts::{Head, MODULE};
 use msp_machine::Regs;
 use object_form::reading::read_object;
 use region_table::is_marked;
@@ -37,7 +37,7 @@ fn text(
         threads: 0,
         entry: 0,
     };
-    crate::object_texts::text(alloc, &head, code, &[], &[], exports)
+    load_rows::object_texts::text(alloc, &head, code, &[], &[], exports)
 }
 
 /// Adds one to its argument, and returns.

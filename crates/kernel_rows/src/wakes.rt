@@ -3,12 +3,12 @@
 ghost use Rattle.place_model.specs.Settled.{IsSettled};
 
 use crate::calls::{Answer, Call, Step, compare, four_sleep, try_make, try_steps, try_ticks};
-use crate::fixture::{NO_MEMBER, eight_apps, queue_lists, ready_list, tick_words, two_apps};
 use crate::threads::{BAD, START_BOTH};
 use arrayvec::ArrayVec;
 use flat_mem::FlatMem;
 use kernel_tables::thread;
 use kernel_threads::NONE;
+use load_rows::fixture::{NO_MEMBER, eight_apps, queue_lists, ready_list, tick_words, two_apps};
 use msp_machine::Regs;
 use std::process::Abort;
 use std::test::Fail;

@@ -1,6 +1,6 @@
 //! The memories that the rows on calls begin with, and what is seen in one.
 
-ghost use Rattle.std.specs.Prelude.{◌≡◌, ◌↔◌, ◌+◌, ◌*◌, ◌<◌, All, IfOk, IsTrue};
+ghost use Rattle.std.specs.Prelude.{◌≡◌, ◌+◌, ◌*◌, IfOk};
 ghost use Rattle.kernel_model.specs.Layout.{kernel_of};
 ghost use Rattle.kernel_model.specs.Words.{tick_number};
 ghost use Rattle.place_model.specs.Settled.{IsSettled};
@@ -135,13 +135,6 @@ pub fn marks_at(offsets: &[u16]) -> Marks {
         }
     }
     marks
-}
-
-/// Whether all members are identities.
-pub fn are_identities(list: &[u8]) -> bool
-    ensures { IsTrue result ↔ All (λ t. t < 32) list.now }
-{
-    list.iter().all(|t| *t < 32)
 }
 
 /// A copy of memory.

@@ -1,7 +1,7 @@
 //! A kernel of which each table is filled, and what the getters of each table give.
 
 use super::{Place, members, put_in, put_line, put_mutex, put_row};
-use crate::fixture::are_identities;
+use crate::lists::are_identities;
 use arrayvec::ArrayVec;
 use flat_mem::FlatMem;
 use kernel_tables::*;

@@ -9,7 +9,7 @@ mod filled;
 mod linked;
 mod setters;
 
-use crate::fixture::are_identities;
+use crate::lists::are_identities;
 use arrayvec::ArrayVec;
 use flat_mem::FlatMem;
 use kernel_tables::*;
