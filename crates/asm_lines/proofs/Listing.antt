@@ -5,7 +5,7 @@ use Rattle.msp_encode.specs.declared.instr.Width.{Width}
 use Rattle.asm_model.specs.declared.fault.AsmKind.TheVariants.{BadOperand}
 use Rattle.asm_model.specs.declared.name.Name.{Name}
 use Rattle.asm_model.specs.declared.name.Value.{Value}
-use Rattle.asm_model.specs.declared.mnemonic.Form.{Form}
+use Rattle.asm_model.specs.declared.mnemonic.MnemonicForm.{MnemonicForm}
 use Rattle.asm_model.specs.Lines.{is_nil}
 use Rattle.asm_model.specs.Words.{is_comma, operands_of}
 use Rattle.asm_model.specs.Instructions.{instruction_of}
@@ -24,7 +24,7 @@ first_part p (x ∷ xs) =
     elim (p x) as P [ true ↦ record { part = []; others = slice_split p xs; same = refl } | false ↦ record { part = x ∷ f.part; others = f.others; same = ap (onto_first x) f.same } ]
 
 -- three operands or more are no instruction's
-pub many : (names : List (Name × Value)) (f : Form) (width : Width) (rest a b third : List ℕ) → is_nil rest ≡ false → slice_split is_comma rest ≡ a ∷ b ∷ slice_split is_comma third → Err BadOperand ≡ instruction_of names f width (operands_of rest)
+pub many : (names : List (Name × Value)) (f : MnemonicForm) (width : Width) (rest a b third : List ℕ) → is_nil rest ≡ false → slice_split is_comma rest ≡ a ∷ b ∷ slice_split is_comma third → Err BadOperand ≡ instruction_of names f width (operands_of rest)
 unfolding operands_of instruction_of
 many names f width rest a b third full parts =
     let more = first_part is_comma third in

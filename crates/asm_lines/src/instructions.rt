@@ -11,7 +11,7 @@ use crate::operands::operand;
 use crate::text::{cut, trim};
 use asm_model::expression::{Base, Expression};
 use asm_model::fault::AsmKind;
-use asm_model::mnemonic::Form;
+use asm_model::mnemonic::MnemonicForm;
 use asm_model::name::{Name, Value};
 use asm_model::operand::{Destination, Operand, Source};
 use asm_model::piece::Piece;
@@ -228,15 +228,19 @@ fn jump(cond: Cond, target: Option<Name>) -> Result<Piece, AsmKind>
 }
 
 /// A mnemonic of one operand that is no jump.
-fn with_operand(form: Form, width: Width, operand: Option<Operand>) -> Result<Piece, AsmKind>
+fn with_operand(
+    form: MnemonicForm,
+    width: Width,
+    operand: Option<Operand>,
+) -> Result<Piece, AsmKind>
     ensures { result ≡ single_piece form width operand }
 {
     let Some(o) = operand else {
         return Err(AsmKind::BadOperand);
     };
     match form {
-        Form::One(op) => of_one(op, width, source(has_constants(op), o)),
-        Form::Constant(op, constant) => {
+        MnemonicForm::One(op) => of_one(op, width, source(has_constants(op), o)),
+        MnemonicForm::Constant(op, constant) => {
             of_two(
                 op,
                 width,
@@ -244,15 +248,17 @@ fn with_operand(form: Form, width: Width, operand: Option<Operand>) -> Result<Pi
                 destination(o),
             )
         }
-        Form::Twice(op) => of_two(op, width, source(false, o), destination(o)),
-        Form::Pop => of_two(
+        MnemonicForm::Twice(op) => of_two(op, width, source(false, o), destination(o)),
+        MnemonicForm::Pop => of_two(
             Op2::Mov,
             width,
             plain_source(Src::AutoInc(SP)),
             destination(o),
         ),
-        Form::Branch => of_two(Op2::Mov, width, source(false, o), to_program_counter()),
-        Form::Two(_) | Form::Jump(_) | Form::Alone(_) => Err(AsmKind::BadOperand),
+        MnemonicForm::Branch => of_two(Op2::Mov, width, source(false, o), to_program_counter()),
+        MnemonicForm::Two(_) | MnemonicForm::Jump(_) | MnemonicForm::Alone(_) => Err(
+            AsmKind::BadOperand,
+        ),
     }
 }
 
@@ -272,22 +278,22 @@ fn with_operands(
 }
 
 /// A mnemonic without operands.
-fn on_none(form: Form) -> Result<Piece, AsmKind>
+fn on_none(form: MnemonicForm) -> Result<Piece, AsmKind>
     ensures { result ≡ piece_of_none form }
 {
     match form {
-        Form::Alone(instr) => checked(instr, Base::Number, Base::Number, true),
+        MnemonicForm::Alone(instr) => checked(instr, Base::Number, Base::Number, true),
         _ => Err(AsmKind::BadOperand),
     }
 }
 
 /// A mnemonic with one operand.
-fn on_one(names: &Names, form: Form, width: Width, word: &[u8]) -> Result<Piece, AsmKind>
+fn on_one(names: &Names, form: MnemonicForm, width: Width, word: &[u8]) -> Result<Piece, AsmKind>
     ensures { result ≡ piece_of_one names.now form width word.now }
 {
     match form {
-        Form::Jump(cond) => jump(cond, label(names, word)),
-        Form::Two(_) | Form::Alone(_) => Err(AsmKind::BadOperand),
+        MnemonicForm::Jump(cond) => jump(cond, label(names, word)),
+        MnemonicForm::Two(_) | MnemonicForm::Alone(_) => Err(AsmKind::BadOperand),
         _ => with_operand(form, width, operand(names, word)),
     }
 }
@@ -295,7 +301,7 @@ fn on_one(names: &Names, form: Form, width: Width, word: &[u8]) -> Result<Piece,
 /// A mnemonic with two operands.
 fn on_two(
     names: &Names,
-    form: Form,
+    form: MnemonicForm,
     width: Width,
     first: &[u8],
     second: &[u8],
@@ -303,14 +309,24 @@ fn on_two(
     ensures { result ≡ piece_of_two names.now form width first.now second.now }
 {
     match form {
-        Form::Two(op) => with_operands(op, width, operand(names, first), operand(names, second)),
+        MnemonicForm::Two(op) => with_operands(
+            op,
+            width,
+            operand(names, first),
+            operand(names, second),
+        ),
         _ => Err(AsmKind::BadOperand),
     }
 }
 
 /// The instruction of a mnemonic with the operands behind it.
 #[tactic(auto, unfolding(asm_model::specs::Instructions::instruction_of, asm_model::specs::Words::operands_of))]
-pub fn instruction(names: &Names, form: Form, width: Width, rest: &[u8]) -> Result<Piece, AsmKind>
+pub fn instruction(
+    names: &Names,
+    form: MnemonicForm,
+    width: Width,
+    rest: &[u8],
+) -> Result<Piece, AsmKind>
     ensures { result ≡ instruction_of names.now form width (operands_of rest.now) }
 {
     if is_empty(rest) {

@@ -6,7 +6,7 @@ ghost use Rattle.msp_encode.specs.declared.instr.Width.TheVariants.{Wide, Byte};
 ghost use Rattle.asm_model.specs.Mnemonics.{two_of, one_of, condition_of, constant_of, single_of, alone_on, alone_of, form_of, one_takes_bytes, takes_bytes, takes_words, where_taken, without_width, stem, suffix, mnemonic_of, directive_of, keyword_of};
 
 use crate::text::is_word;
-use asm_model::mnemonic::{Directive, Form, Keyword};
+use asm_model::mnemonic::{Directive, Keyword, MnemonicForm};
 use msp_encode::instr::{Cg, Cond, Dst, Instr, Op1, Op2, Src, Width};
 use msp_encode::registers::{CONSTANTS, PC, SP, SR};
 
@@ -102,29 +102,29 @@ fn condition(w: &[u8]) -> Option<Cond>
 
 /// An emulated operation of a destination, with its constant.
 #[tactic(auto, unfolding(asm_model::specs::Mnemonics::constant_of))]
-fn constant(w: &[u8]) -> Option<Form>
+fn constant(w: &[u8]) -> Option<MnemonicForm>
     ensures { result ≡ constant_of w.now }
 {
     if is_word(w, b"ADC") {
-        Some(Form::Constant(Op2::Addc, Cg::Zero))
+        Some(MnemonicForm::Constant(Op2::Addc, Cg::Zero))
     } else if is_word(w, b"CLR") {
-        Some(Form::Constant(Op2::Mov, Cg::Zero))
+        Some(MnemonicForm::Constant(Op2::Mov, Cg::Zero))
     } else if is_word(w, b"DADC") {
-        Some(Form::Constant(Op2::Dadd, Cg::Zero))
+        Some(MnemonicForm::Constant(Op2::Dadd, Cg::Zero))
     } else if is_word(w, b"DEC") {
-        Some(Form::Constant(Op2::Sub, Cg::One))
+        Some(MnemonicForm::Constant(Op2::Sub, Cg::One))
     } else if is_word(w, b"DECD") {
-        Some(Form::Constant(Op2::Sub, Cg::Two))
+        Some(MnemonicForm::Constant(Op2::Sub, Cg::Two))
     } else if is_word(w, b"INC") {
-        Some(Form::Constant(Op2::Add, Cg::One))
+        Some(MnemonicForm::Constant(Op2::Add, Cg::One))
     } else if is_word(w, b"INCD") {
-        Some(Form::Constant(Op2::Add, Cg::Two))
+        Some(MnemonicForm::Constant(Op2::Add, Cg::Two))
     } else if is_word(w, b"INV") {
-        Some(Form::Constant(Op2::Xor, Cg::AllOnes))
+        Some(MnemonicForm::Constant(Op2::Xor, Cg::AllOnes))
     } else if is_word(w, b"SBC") {
-        Some(Form::Constant(Op2::Subc, Cg::Zero))
+        Some(MnemonicForm::Constant(Op2::Subc, Cg::Zero))
     } else if is_word(w, b"TST") {
-        Some(Form::Constant(Op2::Cmp, Cg::Zero))
+        Some(MnemonicForm::Constant(Op2::Cmp, Cg::Zero))
     } else {
         None
     }
@@ -132,27 +132,27 @@ fn constant(w: &[u8]) -> Option<Form>
 
 /// An emulated operation whose operand is written once.
 #[tactic(auto, unfolding(asm_model::specs::Mnemonics::single_of))]
-fn single(w: &[u8]) -> Option<Form>
+fn single(w: &[u8]) -> Option<MnemonicForm>
     ensures { result ≡ single_of w.now }
 {
     if is_word(w, b"RLA") {
-        Some(Form::Twice(Op2::Add))
+        Some(MnemonicForm::Twice(Op2::Add))
     } else if is_word(w, b"RLC") {
-        Some(Form::Twice(Op2::Addc))
+        Some(MnemonicForm::Twice(Op2::Addc))
     } else if is_word(w, b"POP") {
-        Some(Form::Pop)
+        Some(MnemonicForm::Pop)
     } else if is_word(w, b"BR") {
-        Some(Form::Branch)
+        Some(MnemonicForm::Branch)
     } else {
         None
     }
 }
 
 /// An operation on words of a source into a register.
-fn into_register(op: Op2, src: Src, register: u8) -> Option<Form>
+fn into_register(op: Op2, src: Src, register: u8) -> Option<MnemonicForm>
     ensures { result ≡ alone_on op src register }
 {
-    Some(Form::Alone(Instr::Two {
+    Some(MnemonicForm::Alone(Instr::Two {
         op,
         width: Width::Wide,
         src,
@@ -161,7 +161,7 @@ fn into_register(op: Op2, src: Src, register: u8) -> Option<Form>
 }
 
 /// An operation of a constant on SR.
-fn on_status(op: Op2, constant: Cg) -> Option<Form>
+fn on_status(op: Op2, constant: Cg) -> Option<MnemonicForm>
     ensures { result ≡ alone_on op (src.Const constant) 2 }
 {
     into_register(op, Src::Const(constant), SR)
@@ -169,11 +169,11 @@ fn on_status(op: Op2, constant: Cg) -> Option<Form>
 
 /// An instruction without operand.
 #[tactic(auto, unfolding(asm_model::specs::Mnemonics::alone_of))]
-fn alone(w: &[u8]) -> Option<Form>
+fn alone(w: &[u8]) -> Option<MnemonicForm>
     ensures { result ≡ alone_of w.now }
 {
     if is_word(w, b"RETI") {
-        Some(Form::Alone(Instr::Reti))
+        Some(MnemonicForm::Alone(Instr::Reti))
     } else if is_word(w, b"NOP") {
         into_register(Op2::Mov, Src::Const(Cg::Zero), CONSTANTS)
     } else if is_word(w, b"RET") {
@@ -201,17 +201,17 @@ fn alone(w: &[u8]) -> Option<Form>
 
 /// The form of a mnemonic without its width.
 #[tactic(auto, unfolding(asm_model::specs::Mnemonics::form_of))]
-fn form(w: &[u8]) -> Option<Form>
+fn form(w: &[u8]) -> Option<MnemonicForm>
     ensures { result ≡ form_of w.now }
 {
     if let Some(op) = two(w) {
-        return Some(Form::Two(op));
+        return Some(MnemonicForm::Two(op));
     }
     if let Some(op) = one(w) {
-        return Some(Form::One(op));
+        return Some(MnemonicForm::One(op));
     }
     if let Some(cond) = condition(w) {
-        return Some(Form::Jump(cond));
+        return Some(MnemonicForm::Jump(cond));
     }
     if let Some(form) = constant(w) {
         return Some(form);
@@ -223,23 +223,30 @@ fn form(w: &[u8]) -> Option<Form>
 }
 
 /// Whether `.B` may be written.
-fn has_byte_form(form: Form) -> bool
+fn has_byte_form(form: MnemonicForm) -> bool
     ensures { result ≡ takes_bytes form }
 {
     match form {
-        Form::One(op) => matches!(op, Op1::Rrc | Op1::Rra | Op1::Push),
-        Form::Two(_) | Form::Constant(_, _) | Form::Twice(_) | Form::Pop => true,
-        Form::Jump(_) | Form::Branch | Form::Alone(_) => false,
+        MnemonicForm::One(op) => matches!(op, Op1::Rrc | Op1::Rra | Op1::Push),
+        MnemonicForm::Two(_)
+        | MnemonicForm::Constant(_, _)
+        | MnemonicForm::Twice(_)
+        | MnemonicForm::Pop => true,
+        MnemonicForm::Jump(_) | MnemonicForm::Branch | MnemonicForm::Alone(_) => false,
     }
 }
 
 /// Whether `.W` may be written.
-fn has_word_form(form: Form) -> bool
+fn has_word_form(form: MnemonicForm) -> bool
     ensures { result ≡ takes_words form }
 {
     match form {
-        Form::Two(_) | Form::One(_) | Form::Constant(_, _) | Form::Twice(_) | Form::Pop => true,
-        Form::Jump(_) | Form::Branch | Form::Alone(_) => false,
+        MnemonicForm::Two(_)
+        | MnemonicForm::One(_)
+        | MnemonicForm::Constant(_, _)
+        | MnemonicForm::Twice(_)
+        | MnemonicForm::Pop => true,
+        MnemonicForm::Jump(_) | MnemonicForm::Branch | MnemonicForm::Alone(_) => false,
     }
 }
 

@@ -15,8 +15,8 @@ use Rattle.asm_model.specs.declared.expression.Base.TheVariants as base
 use Rattle.asm_model.specs.declared.operand.Operand.{Operand}
 use Rattle.asm_model.specs.declared.operand.Source.{Source}
 use Rattle.asm_model.specs.declared.operand.Destination.{Destination}
-use Rattle.asm_model.specs.declared.mnemonic.Form.{Form}
-use Rattle.asm_model.specs.declared.mnemonic.Form.TheVariants as form
+use Rattle.asm_model.specs.declared.mnemonic.MnemonicForm.{MnemonicForm}
+use Rattle.asm_model.specs.declared.mnemonic.MnemonicForm.TheVariants as form
 use Rattle.asm_model.specs.declared.piece.Piece.{Piece}
 use Rattle.asm_model.specs.declared.piece.Piece.TheVariants as piece
 use Rattle.asm_model.specs.declared.piece.Placed.{Placed}
@@ -59,7 +59,7 @@ two_code op width s (Some d) = operation_code (instr.Two op width s.src d.dst) s
 one_code : (op : Op1) (width : Width) (s : Source) → OkCode (one_piece op width s)
 one_code op width s = operation_code (instr.One op width s.src) s.base base.Number s.fits
 
-single_code : (f : Form) (width : Width) (o : Option Operand) → OkCode (single_piece f width o)
+single_code : (f : MnemonicForm) (width : Width) (o : Option Operand) → OkCode (single_piece f width o)
 single_code f width None = tt
 single_code (form.One op) width (Some o) = one_code op width (source_of (takes_constants op) o)
 single_code (form.Constant op constant) width (Some o) = two_code op width (constant_source constant) (destination_of o)
@@ -79,7 +79,7 @@ jump_code : (condition : Cond) (name : Option Name) → OkCode (jump_piece condi
 jump_code condition None = tt
 jump_code condition (Some name) = tt
 
-none_code : (f : Form) → OkCode (piece_of_none f)
+none_code : (f : MnemonicForm) → OkCode (piece_of_none f)
 none_code (form.Alone i) = operation_code i base.Number base.Number true
 none_code (form.Two op) = tt
 none_code (form.One op) = tt
@@ -89,7 +89,7 @@ none_code (form.Twice op) = tt
 none_code form.Pop = tt
 none_code form.Branch = tt
 
-of_one_code : (names : List (Name × Value)) (f : Form) (width : Width) (word : List ℕ) → OkCode (piece_of_one names f width word)
+of_one_code : (names : List (Name × Value)) (f : MnemonicForm) (width : Width) (word : List ℕ) → OkCode (piece_of_one names f width word)
 of_one_code names (form.Jump condition) width word = jump_code condition (label_of names word)
 of_one_code names (form.Two op) width word = tt
 of_one_code names (form.One op) width word = single_code (form.One op) width (operand_of names word)
@@ -99,7 +99,7 @@ of_one_code names form.Pop width word = single_code form.Pop width (operand_of n
 of_one_code names form.Branch width word = single_code form.Branch width (operand_of names word)
 of_one_code names (form.Alone i) width word = tt
 
-of_two_code : (names : List (Name × Value)) (f : Form) (width : Width) (a b : List ℕ) → OkCode (piece_of_two names f width a b)
+of_two_code : (names : List (Name × Value)) (f : MnemonicForm) (width : Width) (a b : List ℕ) → OkCode (piece_of_two names f width a b)
 of_two_code names (form.Two op) width a b = double_code op width (operand_of names a) (operand_of names b)
 of_two_code names (form.One op) width a b = tt
 of_two_code names (form.Jump condition) width a b = tt
@@ -109,7 +109,7 @@ of_two_code names form.Pop width a b = tt
 of_two_code names form.Branch width a b = tt
 of_two_code names (form.Alone i) width a b = tt
 
-pub instruction_code : (names : List (Name × Value)) (f : Form) (width : Width) (words : List (List ℕ)) → OkCode (instruction_of names f width words)
+pub instruction_code : (names : List (Name × Value)) (f : MnemonicForm) (width : Width) (words : List (List ℕ)) → OkCode (instruction_of names f width words)
 unfolding instruction_of
 instruction_code names f width [] = none_code f
 instruction_code names f width (a ∷ []) = of_one_code names f width a

@@ -8,7 +8,7 @@ use Rattle.asm_model.specs.declared.fault.AsmKind.TheVariants as kind
 use Rattle.asm_model.specs.declared.name.Name.{Name}
 use Rattle.asm_model.specs.declared.name.Value.{Value}
 use Rattle.asm_model.specs.declared.expression.Numeral.{Numeral}
-use Rattle.asm_model.specs.declared.mnemonic.Form.{Form}
+use Rattle.asm_model.specs.declared.mnemonic.MnemonicForm.{MnemonicForm}
 use Rattle.asm_model.specs.declared.mnemonic.Directive.{Directive}
 use Rattle.asm_model.specs.declared.mnemonic.Directive.TheVariants as directive
 use Rattle.asm_model.specs.declared.mnemonic.Keyword.{Keyword}
@@ -48,7 +48,7 @@ put_sound : (line : ℕ) (d : Draft) (r : Result Piece AsmKind) → IsSound d �
 put_sound line d (Err k) h c = tt
 put_sound line d (Ok p) h c = added_sound d line (p ∷ []) (code_words p) 0 (grown d.progress (code_words p) 0 0) h (code_adds d.progress.initialised line p c) (grown_grows d.progress (code_words p) 0 0)
 
-take_instruction_sound : (line : ℕ) (d : Draft) (f : Form) (width : Width) (rest : List ℕ) → IsSound d → OkSound (take_instruction line d f width rest)
+take_instruction_sound : (line : ℕ) (d : Draft) (f : MnemonicForm) (width : Width) (rest : List ℕ) → IsSound d → OkSound (take_instruction line d f width rest)
 unfolding take_instruction
 take_instruction_sound line d f width rest h =
     if_true OkSound (is_some d.progress.header && is_code d.progress.section) (put_code line d (instruction_of d.names f width (operands_of rest))) (Err kind.BadDirective)

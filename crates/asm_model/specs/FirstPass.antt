@@ -6,7 +6,7 @@ use Rattle.asm_model.specs.declared.fault.AsmKind.{AsmKind}
 use Rattle.asm_model.specs.declared.fault.AsmKind.TheVariants.{NotText, DoubleLabel, UnknownWord, BadDirective}
 use Rattle.asm_model.specs.declared.name.Name.{Name}
 use Rattle.asm_model.specs.declared.name.Value.{Value}
-use Rattle.asm_model.specs.declared.mnemonic.Form.{Form}
+use Rattle.asm_model.specs.declared.mnemonic.MnemonicForm.{MnemonicForm}
 use Rattle.asm_model.specs.declared.mnemonic.Directive.{Directive}
 use Rattle.asm_model.specs.declared.mnemonic.Directive.TheVariants as directive
 use Rattle.asm_model.specs.declared.mnemonic.Keyword.{Keyword}
@@ -31,7 +31,7 @@ put_code line d (Err kind) = Err kind
 put_code line d (Ok p) = grown_draft d line (p ∷ []) (grown d.progress (code_words p) 0 0)
 
 -- instructions stand behind the header and in `.code` alone
-unfoldable pub take_instruction : ℕ → Draft → Form → Width → List ℕ → Result Draft AsmKind
+unfoldable pub take_instruction : ℕ → Draft → MnemonicForm → Width → List ℕ → Result Draft AsmKind
 take_instruction line d f width rest =
     if is_some d.progress.header && is_code d.progress.section then put_code line d (instruction_of d.names f width (operands_of rest))
     else Err BadDirective

@@ -28,8 +28,8 @@ use Rattle.asm_model.specs.declared.operand.Operand.{Operand}
 use Rattle.asm_model.specs.declared.operand.Operand.TheVariants as operand
 use Rattle.asm_model.specs.declared.operand.Source.{Source}
 use Rattle.asm_model.specs.declared.operand.Destination.{Destination}
-use Rattle.asm_model.specs.declared.mnemonic.Form.{Form}
-use Rattle.asm_model.specs.declared.mnemonic.Form.TheVariants as form
+use Rattle.asm_model.specs.declared.mnemonic.MnemonicForm.{MnemonicForm}
+use Rattle.asm_model.specs.declared.mnemonic.MnemonicForm.TheVariants as form
 use Rattle.asm_model.specs.declared.piece.Piece.{Piece}
 use Rattle.asm_model.specs.declared.piece.Piece.TheVariants as piece
 use Rattle.asm_model.specs.Names.{is_label, name_of, value_of}
@@ -198,7 +198,7 @@ jump_piece condition None = Err BadOperand
 jump_piece condition (Some name) = Ok (piece.Jump condition name)
 
 -- of one operand as written, or none
-abbrev pub single_piece : Form → Width → Option Operand → Result Piece AsmKind
+abbrev pub single_piece : MnemonicForm → Width → Option Operand → Result Piece AsmKind
 single_piece f width None = Err BadOperand
 single_piece (form.One op) width (Some o) = one_piece op width (source_of (takes_constants op) o)
 single_piece (form.Constant op constant) width (Some o) = two_piece op width (constant_source constant) (destination_of o)
@@ -215,7 +215,7 @@ double_piece op width (Some a) None = Err BadOperand
 double_piece op width (Some a) (Some b) = two_piece op width (source_of true a) (destination_of b)
 
 -- no operand
-abbrev pub piece_of_none : Form → Result Piece AsmKind
+abbrev pub piece_of_none : MnemonicForm → Result Piece AsmKind
 piece_of_none (form.Alone i) = operation i base.Number base.Number true
 piece_of_none (form.Two op) = Err BadOperand
 piece_of_none (form.One op) = Err BadOperand
@@ -226,7 +226,7 @@ piece_of_none form.Pop = Err BadOperand
 piece_of_none form.Branch = Err BadOperand
 
 -- one operand: a jump's is a label's name
-abbrev pub piece_of_one : List (Name × Value) → Form → Width → List ℕ → Result Piece AsmKind
+abbrev pub piece_of_one : List (Name × Value) → MnemonicForm → Width → List ℕ → Result Piece AsmKind
 piece_of_one names (form.Jump condition) width word = jump_piece condition (label_of names word)
 piece_of_one names (form.Two op) width word = Err BadOperand
 piece_of_one names (form.One op) width word = single_piece (form.One op) width (operand_of names word)
@@ -237,7 +237,7 @@ piece_of_one names form.Branch width word = single_piece form.Branch width (oper
 piece_of_one names (form.Alone i) width word = Err BadOperand
 
 -- two operands
-abbrev pub piece_of_two : List (Name × Value) → Form → Width → List ℕ → List ℕ → Result Piece AsmKind
+abbrev pub piece_of_two : List (Name × Value) → MnemonicForm → Width → List ℕ → List ℕ → Result Piece AsmKind
 piece_of_two names (form.Two op) width a b = double_piece op width (operand_of names a) (operand_of names b)
 piece_of_two names (form.One op) width a b = Err BadOperand
 piece_of_two names (form.Jump condition) width a b = Err BadOperand
@@ -248,7 +248,7 @@ piece_of_two names form.Branch width a b = Err BadOperand
 piece_of_two names (form.Alone i) width a b = Err BadOperand
 
 -- the instruction of a mnemonic with these operands
-unfoldable pub instruction_of : List (Name × Value) → Form → Width → List (List ℕ) → Result Piece AsmKind
+unfoldable pub instruction_of : List (Name × Value) → MnemonicForm → Width → List (List ℕ) → Result Piece AsmKind
 instruction_of names f width [] = piece_of_none f
 instruction_of names f width (a ∷ []) = piece_of_one names f width a
 instruction_of names f width (a ∷ b ∷ []) = piece_of_two names f width a b

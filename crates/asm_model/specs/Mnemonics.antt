@@ -14,8 +14,8 @@ use Rattle.msp_encode.specs.declared.instr.Src.{Src}
 use Rattle.msp_encode.specs.declared.instr.Src.TheVariants as src
 use Rattle.msp_encode.specs.declared.instr.Dst.TheVariants as dst
 use Rattle.msp_encode.specs.declared.instr.Instr.TheVariants as instr
-use Rattle.asm_model.specs.declared.mnemonic.Form.{Form}
-use Rattle.asm_model.specs.declared.mnemonic.Form.TheVariants as form
+use Rattle.asm_model.specs.declared.mnemonic.MnemonicForm.{MnemonicForm}
+use Rattle.asm_model.specs.declared.mnemonic.MnemonicForm.TheVariants as form
 use Rattle.asm_model.specs.declared.mnemonic.Directive.{Directive}
 use Rattle.asm_model.specs.declared.mnemonic.Directive.TheVariants as directive
 use Rattle.asm_model.specs.declared.mnemonic.Keyword.{Keyword}
@@ -73,7 +73,7 @@ condition_of w =
     else None
 
 -- emulated operations of a destination
-unfoldable pub constant_of : List ℕ → Option Form
+unfoldable pub constant_of : List ℕ → Option MnemonicForm
 constant_of w =
     if word_is w (codes "ADC") then Some (form.Constant op2.Addc cg.Zero)
     else if word_is w (codes "CLR") then Some (form.Constant op2.Mov cg.Zero)
@@ -88,7 +88,7 @@ constant_of w =
     else None
 
 -- emulated operations whose operand is written once
-unfoldable pub single_of : List ℕ → Option Form
+unfoldable pub single_of : List ℕ → Option MnemonicForm
 single_of w =
     if word_is w (codes "RLA") then Some (form.Twice op2.Add)
     else if word_is w (codes "RLC") then Some (form.Twice op2.Addc)
@@ -97,11 +97,11 @@ single_of w =
     else None
 
 -- a constant on words into a register
-abbrev pub alone_on : Op2 → Src → ℕ → Option Form
+abbrev pub alone_on : Op2 → Src → ℕ → Option MnemonicForm
 alone_on op source register = Some (form.Alone (instr.Two op Wide source (dst.Reg register)))
 
 -- instructions without operand
-unfoldable pub alone_of : List ℕ → Option Form
+unfoldable pub alone_of : List ℕ → Option MnemonicForm
 alone_of w =
     if word_is w (codes "RETI") then Some (form.Alone instr.Reti)
     else if word_is w (codes "NOP") then alone_on op2.Mov (src.Const cg.Zero) CONSTANTS
@@ -117,7 +117,7 @@ alone_of w =
     else None
 
 -- the form of a mnemonic without its width
-unfoldable pub form_of : List ℕ → Option Form
+unfoldable pub form_of : List ℕ → Option MnemonicForm
 form_of w = or_else (option_map form.Two (two_of w)) (or_else (option_map form.One (one_of w)) (or_else (option_map form.Jump (condition_of w)) (or_else (constant_of w) (or_else (single_of w) (alone_of w)))))
 
 -- SWPB, SXT and CALL have no byte form
@@ -130,7 +130,7 @@ one_takes_bytes op1.Push = true
 one_takes_bytes op1.Call = false
 
 -- `.B` may be written
-abbrev pub takes_bytes : Form → Bool
+abbrev pub takes_bytes : MnemonicForm → Bool
 takes_bytes (form.Two op) = true
 takes_bytes (form.One op) = one_takes_bytes op
 takes_bytes (form.Jump condition) = false
@@ -141,7 +141,7 @@ takes_bytes form.Branch = false
 takes_bytes (form.Alone i) = false
 
 -- `.W` may be written
-abbrev pub takes_words : Form → Bool
+abbrev pub takes_words : MnemonicForm → Bool
 takes_words (form.Two op) = true
 takes_words (form.One op) = true
 takes_words (form.Jump condition) = false
@@ -152,11 +152,11 @@ takes_words form.Branch = false
 takes_words (form.Alone i) = false
 
 -- a form where it takes what was written
-abbrev pub where_taken : (Form → Bool) → Width → Option Form → Option Keyword
+abbrev pub where_taken : (MnemonicForm → Bool) → Width → Option MnemonicForm → Option Keyword
 where_taken takes width None = None
 where_taken takes width (Some f) = if takes f then Some (keyword.Mnemonic f width) else None
 
-abbrev pub without_width : Option Form → Option Keyword
+abbrev pub without_width : Option MnemonicForm → Option Keyword
 without_width None = None
 without_width (Some f) = Some (keyword.Mnemonic f Wide)
 

@@ -47,12 +47,12 @@ is_label word = has_name_form word && not (is_reserved word)
 unfoldable pub name_of : List ℕ → Name
 name_of word = record { bytes = word ++ drop (length word) (replicate 32 0) }
 
-abbrev pub is_name : Name → Name → Bool
-is_name a b = pointwise nat_eq a.bytes b.bytes
+abbrev pub is_same_name : Name → Name → Bool
+is_same_name a b = pointwise nat_eq a.bytes b.bytes
 
 -- what a name stands for, among those defined
 unfoldable pub value_of : List (Name × Value) → Name → Option Value
-value_of names name = lookup (is_name name) names
+value_of names name = lookup (is_same_name name) names
 
 -- a name that can't be defined: it is there, or reserved
 unfoldable pub is_taken : List (Name × Value) → List ℕ → Bool

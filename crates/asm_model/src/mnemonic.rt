@@ -4,7 +4,7 @@ use msp_encode::instr::{Cg, Cond, Instr, Op1, Op2, Width};
 
 /// Which instruction a mnemonic stands for, and which operands it takes.
 #[derive(Clone, Copy, Drop)]
-pub enum Form {
+pub enum MnemonicForm {
     /// Source and destination.
     Two(Op2),
     /// One operand.
@@ -44,5 +44,5 @@ pub enum Directive {
 #[derive(Clone, Copy, Drop)]
 pub enum Keyword {
     Directive(Directive),
-    Mnemonic(Form, Width),
+    Mnemonic(MnemonicForm, Width),
 }

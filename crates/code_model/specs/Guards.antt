@@ -74,8 +74,8 @@ FitAll o at [] = Unit {0}
 FitAll o at (s ∷ ss) = Fits o at s × FitAll o (at + 1) ss
 
 -- the source is neither @R4+ nor @SP+
-abbrev pub IsQuiet : Src → Type 0
-IsQuiet s = (Pops s CHECKED → ⊥) × (Pops s SP → ⊥)
+abbrev pub StepsNoPointer : Src → Type 0
+StepsNoPointer s = (Pops s CHECKED → ⊥) × (Pops s SP → ⊥)
 
 -- the destination is 0(R4), and its word, at this place, isn't relocated
 abbrev pub IsPlainStore : Object → ℕ → Dst → Type 0
@@ -91,12 +91,12 @@ IsHigh (dst.Reg n) = (4 ≤ n) × (n ≤ 15)
 IsHigh _ = ⊥
 
 abbrev pub IsStoreForm : Object → ℕ → Instr → Type 0
-IsStoreForm o at (instr.Two op w s d) = Writes op × IsPlainStore o (at + 1 + length (src_words s)) d × IsQuiet s
+IsStoreForm o at (instr.Two op w s d) = Writes op × IsPlainStore o (at + 1 + length (src_words s)) d × StepsNoPointer s
 IsStoreForm o at (instr.One op w s) = Changes op × IsAtR4 s
 IsStoreForm o at _ = ⊥
 
 abbrev pub IsGrowthForm : Instr → Type 0
-IsGrowthForm (instr.One op w s) = Stacks op × IsQuiet s
+IsGrowthForm (instr.One op w s) = Stacks op × StepsNoPointer s
 IsGrowthForm _ = ⊥
 
 abbrev pub IsPopForm : Instr → Type 0
@@ -113,7 +113,7 @@ IsNearStore most o at (dst.Indexed n x) = (n ≡ CHECKED) × (x % 2 ≡ 0) × (x
 IsNearStore most o at _ = ⊥
 
 abbrev pub IsWideForm : ℕ → Object → ℕ → Instr → Type 0
-IsWideForm most o at (instr.Two op w s d) = Writes op × IsNearStore most o (at + 1 + length (src_words s)) d × IsQuiet s
+IsWideForm most o at (instr.Two op w s d) = Writes op × IsNearStore most o (at + 1 + length (src_words s)) d × StepsNoPointer s
 IsWideForm most o at _ = ⊥
 
 -- a register, or an absolute operand in the static part, whose word is at this place
@@ -130,7 +130,7 @@ IsLoadSrc o first _ = ⊥
 
 abbrev pub IsLoadForm : Object → (first at : ℕ) → Instr → Type 0
 IsLoadForm o first at (instr.Two op w s d) = (IsLoadSrc o first s × IsOwnDst o (at + 1 + length (src_words s)) d)
-    ⊎ (Tests op × IsPlainStore o (at + 1 + length (src_words s)) d × IsQuiet s)
+    ⊎ (Tests op × IsPlainStore o (at + 1 + length (src_words s)) d × StepsNoPointer s)
 IsLoadForm o first at _ = ⊥
 
 -- ---- what a guard serves

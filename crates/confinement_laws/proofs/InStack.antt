@@ -20,7 +20,7 @@ use Rattle.machine_model.specs.Does.{does, Effect}
 use Rattle.machine_model.specs.Fetching.{IsFetched}
 use Rattle.machine_laws.specs.Steady.{IsSteady, Limits}
 use Rattle.machine_laws.specs.Places.{GuardPlace, TakesAddress, AddsIndex, ComparesLow, JumpsIfLow, ComparesHigh, JumpsIfHigh, StoreFails, StoreRestores, ComparesLimit, JumpsIfRoom, GrowthFails, GrowthRestores, ComparesTop, JumpsIfFilled, PopFails, PopRestores, ComparesNewLow, JumpsIfNewLow, ComparesNewHigh, JumpsIfNewHigh, SpFails, SpRestores, Stores, Grows, Pops, SetsSp}
-use Rattle.machine_laws.specs.Guarded.{IsQuiet, IsStore, PushLaw, CallLaw}
+use Rattle.machine_laws.specs.Guarded.{StepsHigh, IsStore, PushLaw, CallLaw}
 use Rattle.machine_laws.specs.Plain.{IsCalm, Plain, Tests, ToReg, ToData, SetsBits, ClearsBits, SetsConst, ClearsConst, ChangesReg, ChangesData}
 use Rattle.confinement_laws.specs.Given.{CheckerLaws}
 use Rattle.load_model.specs.Domains.{Domain}
@@ -56,7 +56,7 @@ calm-no_pop (src.Indirect n) c p = p
 calm-no_pop (src.Immediate x) c p = p
 calm-no_pop (src.Const k) c p = p
 
-quiet-no_pop : (s : Src) → IsQuiet s → PopsOf s 1 → ⊥
+quiet-no_pop : (s : Src) → StepsHigh s → PopsOf s 1 → ⊥
 quiet-no_pop (src.AutoInc n) c p = omega (arith, c.0, p)
 quiet-no_pop (src.Reg n) c p = p
 quiet-no_pop (src.Indexed n x) c p = p
@@ -184,7 +184,7 @@ sp-stays d low top m c i n s at f =
 grow-no_pop : (j : Instr) (f : ℕ → ℕ) → IsGrowthForm j → ReadsStack (placed j f) → ⊥
 grow-no_pop (instr.One op w s) f g p = one s g.1 p
   where
-    one : (s : Src) → guards.IsQuiet s → PopsOf (placed_src s (f 1)) 1 → ⊥
+    one : (s : Src) → guards.StepsNoPointer s → PopsOf (placed_src s (f 1)) 1 → ⊥
     one (src.AutoInc n) q p = q.1 p
     one (src.Reg n) q p = p
     one (src.Indexed n x) q p = p

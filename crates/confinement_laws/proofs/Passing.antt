@@ -12,7 +12,7 @@ use Rattle.msp_encode.specs.Forms.{Writes, Changes, Pops, writes, changes}
 use Rattle.code_model.specs.Guards.{UnitStart}
 use Rattle.code_model.specs.Guards as guards
 use Rattle.machine_model.specs.Does.{Effect}
-use Rattle.machine_laws.specs.Guarded.{IsQuiet, Passes}
+use Rattle.machine_laws.specs.Guarded.{StepsHigh, Passes}
 use Rattle.machine_laws.specs.Plain.{IsCalm, Goes}
 use Rattle.load_model.specs.Domains.{Domain}
 use Rattle.node_model.specs.Placed.{bits, address}
@@ -103,7 +103,7 @@ calm-src (src.Const k) v r m h l p = tt
 not-four : (n : ℕ) → (3 < n) × (n < 16) → (n ≡ 4 → ⊥) → (4 < n) × (n < 16)
 not-four n h four = (omega (arith, four, h.0), h.1)
 
-pub quiet-src : (s : Src) (v r m : ℕ) → SrcRow s r m → r < 16 → guards.IsQuiet s → IsQuiet (placed_src s v)
+pub quiet-src : (s : Src) (v r m : ℕ) → SrcRow s r m → r < 16 → guards.StepsNoPointer s → StepsHigh (placed_src s v)
 quiet-src (src.AutoInc n) v r m h l p = not-four n (base-high n r m h l p.1) p.0
 quiet-src (src.Reg n) v r m h l p = tt
 quiet-src (src.Indexed n x) v r m h l p = tt

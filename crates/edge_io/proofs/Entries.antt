@@ -8,7 +8,7 @@ use Rattle.std.specs.FinMap.{from_entries, from_entries_push, get-from_entries, 
 use Rattle.std.specs.declared.result.Result.{Result}
 use Rattle.std.proofs.lemmas.Map.Text.{is_eq-slice_cmp}
 use Rattle.edge_io.specs.Known.{MayCreate, extended, held, put, taken}
-use Rattle.edge_io.specs.Memory.{MemFolderState, after_append, after_create, entries, folder_state, found, is_name, with_created, with_file}
+use Rattle.edge_io.specs.Memory.{MemFolderState, after_append, after_create, held_files, folder_state, found, names_created, with_created, with_file}
 use Rattle.edge_io.proofs.Maps.{grown-insert, insert_twice, names_differ}
 
 abbrev Entry : Type 0
@@ -27,30 +27,30 @@ found_here es i e name lt is same = ap (λ xs. found xs name) (opened es i e lt 
 pub found_past : (es : List Entry) (i : ℕ) (e : Entry) (name : List ℕ) → i < length es → e ≡ get_or es i e → bytes_eq name e.0 ≡ false → found (drop i es) name ≡ found (drop (i + 1) es) name
 found_past es i e name lt is same = ap (λ xs. found xs name) (opened es i e lt is) ∙ found-cons e (drop (i + 1) es) name false same
 
--- what the map holds is what the entries hold
+-- what the map holds is what the held_files hold
 pub held-found : (es : List Entry) (name : List ℕ) → held (from_entries es) name ≡ found es name
 held-found es name = get-from_entries nat_list_cmp_total es name
 
 -- the created name's bytes, or what the others hold
-pub found-entries : (s : MemFolderState) (name : List ℕ) → found (entries s) name ≡ cond (is_name s.created name) (Some s.written) (found s.others name)
+pub found-entries : (s : MemFolderState) (name : List ℕ) → found (held_files s) name ≡ cond (names_created s.created name) (Some s.written) (found s.others name)
 found-entries s name = by s.created
   where
-    by : (created : Option (List ℕ)) → found (with_created created s.written s.others) name ≡ cond (is_name created name) (Some s.written) (found s.others name)
+    by : (created : Option (List ℕ)) → found (with_created created s.written s.others) name ≡ cond (names_created created name) (Some s.written) (found s.others name)
     by None = refl
     by (Some created) = found-cons (created, s.written) s.others name _ refl
 
-pub found_created : (s : MemFolderState) (name bytes : List ℕ) → bytes ≡ s.written → is_name s.created name ≡ true → Some bytes ≡ found (entries s) name
+pub found_created : (s : MemFolderState) (name bytes : List ℕ) → bytes ≡ s.written → names_created s.created name ≡ true → Some bytes ≡ found (held_files s) name
 found_created s name bytes is same =
     ap Some is ∙ sym (found-entries s name ∙ ap (λ b. cond b (Some s.written) (found s.others name)) same)
 
-pub found_other : (s : MemFolderState) (name : List ℕ) (o : Option (List ℕ)) → o ≡ found s.others name → is_name s.created name ≡ false → o ≡ found (entries s) name
+pub found_other : (s : MemFolderState) (name : List ℕ) (o : Option (List ℕ)) → o ≡ found s.others name → names_created s.created name ≡ false → o ≡ found (held_files s) name
 found_other s name o is other =
     is ∙ sym (found-entries s name ∙ ap (λ b. cond b (Some s.written) (found s.others name)) other)
 
 -- a file that was added is told
-pub files-with_file : (s : MemFolderState) (name whole : List ℕ) (t : MemFolderState) → t ≡ with_file s name whole → found (entries s) name ≡ None → (folder_state t).files ≡ put (folder_state s).files name whole
+pub files-with_file : (s : MemFolderState) (name whole : List ℕ) (t : MemFolderState) → t ≡ with_file s name whole → found (held_files s) name ≡ None → (folder_state t).files ≡ put (folder_state s).files name whole
 files-with_file s name whole t is absent =
-    ap (λ x. (folder_state x).files) is ∙ ap Some (ap from_entries (by s.created) ∙ from_entries_push nat_list_cmp_total names_differ (entries s) name whole absent)
+    ap (λ x. (folder_state x).files) is ∙ ap Some (ap from_entries (by s.created) ∙ from_entries_push nat_list_cmp_total names_differ (held_files s) name whole absent)
   where
     by : (created : Option (List ℕ)) → with_created created s.written (s.others ++ (name, whole) ∷ []) ≡ with_created created s.written s.others ++ (name, whole) ∷ []
     by None = refl

@@ -74,19 +74,19 @@ pub record MemFolderState : Type 0 where
 
 -- what the first entry of this name holds
 abbrev pub found : List (List ℕ × List ℕ) → List ℕ → Option (List ℕ)
-found entries name = find (slice_cmp nat_cmp) name entries
+found held_files name = find (slice_cmp nat_cmp) name held_files
 
 -- the created file stands before the others
 abbrev pub with_created : Option (List ℕ) → List ℕ → List (List ℕ × List ℕ) → List (List ℕ × List ℕ)
 with_created None bytes others = others
 with_created (Some name) bytes others = (name, bytes) ∷ others
 
-abbrev pub entries : MemFolderState → List (List ℕ × List ℕ)
-entries s = with_created s.created s.written s.others
+abbrev pub held_files : MemFolderState → List (List ℕ × List ℕ)
+held_files s = with_created s.created s.written s.others
 
 abbrev pub folder_state : MemFolderState → FolderState
 folder_state s = record {
-  files = Some (from_entries (entries s));
+  files = Some (from_entries (held_files s));
   read_faults = s.read_faults;
   write_faults = s.write_faults;
   last_failed = s.last_failed;
@@ -95,7 +95,7 @@ folder_state s = record {
 
 -- the files that it tells
 abbrev pub files_of : MemFolderState → Files
-files_of s = from_entries (entries s)
+files_of s = from_entries (held_files s)
 
 -- a folder without files
 abbrev pub empty_folder : ℕ → List ℕ → List ℕ → List ℕ → MemFolderState
@@ -119,9 +119,9 @@ abbrev pub with_file : MemFolderState → List ℕ → List ℕ → MemFolderSta
 with_file s name whole = record s { others = s.others ++ (name, whole) ∷ [] }
 
 -- there is a created name, and it is this one
-abbrev pub is_name : Option (List ℕ) → List ℕ → Bool
-is_name None name = false
-is_name (Some created) name = bytes_eq name created
+abbrev pub names_created : Option (List ℕ) → List ℕ → Bool
+names_created None name = false
+names_created (Some created) name = bytes_eq name created
 
 -- what a read answers, by what the name holds
 abbrev pub read_answer : Option (List ℕ) → Bool → ℕ → ℕ → Result ℕ ReadErr

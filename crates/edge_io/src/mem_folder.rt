@@ -4,7 +4,7 @@ ghost use Rattle.std.specs.Prelude.{◌≡◌, ◌+◌, ◌++◌, ◌-◌, ◌�
 ghost use Rattle.std.specs.Option.{option_copied};
 ghost use Rattle.edge_io.specs.Known.{GivesOf, MayCreate, extended, held, put, taken};
 ghost use Rattle.edge_io.specs.Causes.{read_failed};
-ghost use Rattle.edge_io.specs.Memory.{FollowsCall, HasGiven, WriteAnswer, after_append, after_create, after_read, empty_folder, entries, files_of, folder_state, found, is_name, one_up, read_answer, with_file};
+ghost use Rattle.edge_io.specs.Memory.{FollowsCall, HasGiven, WriteAnswer, after_append, after_create, after_read, empty_folder, held_files, files_of, folder_state, found, names_created, one_up, read_answer, with_file};
 ghost use Rattle.edge_io.specs.Numbered.{has_call};
 
 use crate::counts::one_up;
@@ -78,7 +78,7 @@ impl MemFolder {
 
     /// Adds a file, or leaves the folder where there is no memory.
     pub fn put(&mut self, name: &Name, whole: &[u8]) -> Result<(), AllocError>
-        requires { found (entries self.old) name.now ≡ None }
+        requires { found (held_files self.old) name.now ≡ None }
         ensures added { OnOk result (self.new ≡ with_file self.old name.now whole.now) }
         ensures told { OnOk result ((folder_state self.new).files ≡ put (folder_state self.old).files name.now whole.now) }
         ensures kept { OnErr result (self.new ≡ self.old) }
@@ -90,7 +90,7 @@ impl MemFolder {
 
     /// The bytes of a file. None exactly where the name isn't held.
     pub fn held(&self, name: &Name) -> Option<&[u8]>
-        ensures listed { option_copied result ≡ found (entries self.now) name.now }
+        ensures listed { option_copied result ≡ found (held_files self.now) name.now }
         ensures told { option_copied result ≡ held (files_of self.now) name.now }
     {
         if is_created(&self.created, name) {
@@ -102,7 +102,7 @@ impl MemFolder {
 
 /// Whether there is a created name, and it is this one.
 fn is_created(created: &Option<Name>, name: &Name) -> bool
-    ensures { result ≡ is_name created.now name.now }
+    ensures { result ≡ names_created created.now name.now }
 {
     match created {
         Some(created) => name.as_slice() == created.as_slice(),
@@ -145,8 +145,8 @@ impl Folder for MemFolder {
     ghost called = { FollowsCall };
 
     fn read(&mut self, name: &Name, at: u32, into: &mut [u8]) -> Result<usize, ReadErr>
-        ensures answer { result ≡ read_answer (found (entries self.old) name.now) (has_call self.old.fail_reads self.old.reads) at (length into.old) }
-        ensures given { HasGiven (found (entries self.old) name.now) at into.new result }
+        ensures answer { result ≡ read_answer (found (held_files self.old) name.now) (has_call self.old.fail_reads self.old.reads) at (length into.old) }
+        ensures given { HasGiven (found (held_files self.old) name.now) at into.new result }
         ensures gives { GivesOf (folder_state self.old).files name.now at into.new result }
         ensures after { self.new ≡ after_read self.old name.now (read_failed result) }
     {

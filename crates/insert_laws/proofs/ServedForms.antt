@@ -13,12 +13,12 @@ use Rattle.code_model.specs.declared.guards.GuardKind.{GuardKind}
 use Rattle.code_model.specs.declared.guards.GuardKind.TheVariants as guard
 use Rattle.code_model.specs.Relocs.{Unrelocated}
 use Rattle.code_model.specs.Rules.{IsMemoryDst, WritesMemory}
-use Rattle.code_model.specs.Guards.{reach_bytes, IsQuiet, IsAtR4, IsPlainStore, IsNearStore, IsStoreForm, IsWideForm, IsGrowthForm, IsPopForm, IsSpForm, Serves}
+use Rattle.code_model.specs.Guards.{reach_bytes, StepsNoPointer, IsAtR4, IsPlainStore, IsNearStore, IsStoreForm, IsWideForm, IsGrowthForm, IsPopForm, IsSpForm, Serves}
 use Rattle.insert_model.specs.declared.piece.Piece.{Piece}
 use Rattle.insert_laws.specs.Pieces.{moved_src, moved_dst, moved_instr, standing}
 use Rattle.insert_laws.specs.Shapes.{IsThroughR4, IsNearR4, IsServed}
 
-src_quiet : (go : ℕ → ℕ) (k : Option RelKind) (s : Src) → IsQuiet s → IsQuiet (moved_src go k s)
+src_quiet : (go : ℕ → ℕ) (k : Option RelKind) (s : Src) → StepsNoPointer s → StepsNoPointer (moved_src go k s)
 src_quiet go k (src.Reg n) h = h
 src_quiet go k (src.Indexed n x) h = h
 src_quiet go k (src.Symbolic x) h = h

@@ -21,7 +21,7 @@ use Rattle.code_model.specs.declared.guards.Reach.{Reach}
 use Rattle.code_model.specs.declared.guards.GuardKind.{GuardKind}
 use Rattle.code_model.specs.declared.guards.GuardKind.TheVariants as guard
 use Rattle.code_model.specs.Fields.{fields}
-use Rattle.code_model.specs.Guards.{reach_bytes, IsQuiet, IsGrowthForm}
+use Rattle.code_model.specs.Guards.{reach_bytes, StepsNoPointer, IsGrowthForm}
 use Rattle.code_model.specs.Rules.{IsMemorySrc, WritesMemory, ReadsStack, IsPushOrCall}
 use Rattle.insert_model.specs.declared.aim.Aim.TheVariants.{ToMemory, Elsewhere}
 use Rattle.insert_model.specs.declared.line.Line.{Line}
@@ -187,7 +187,7 @@ line_shaped o l size c = line_by o l size l.instr c refl
 
 -- ---- stores behind a wide guard
 
-quiet_source : (o : Object) (most : ℕ) (c : Cell) (l : Line) (h : IsBeside o most c l) → IsQuiet h.source
+quiet_source : (o : Object) (most : ℕ) (c : Cell) (l : Line) (h : IsBeside o most c l) → StepsNoPointer h.source
 quiet_source o most c l h = quiet_of h.source
     (λ u. h.clean.free (subst UsesCheck (sym h.line) (inl u)))
     (λ p. h.clean.allowed (inr (inr (inl (subst HasForbiddenPop (sym h.line) (p, writes_so h.op h.stores, inr (inr tt)))))))

@@ -18,7 +18,7 @@ use Rattle.code_model.specs.declared.object.Object.{Object}
 use Rattle.code_model.specs.declared.parts.RelKind.{RelKind}
 use Rattle.code_model.specs.declared.guards.GuardKind.{GuardKind}
 use Rattle.code_model.specs.declared.guards.GuardKind.TheVariants as guard
-use Rattle.code_model.specs.Guards.{most_served, least_version, IsQuiet, IsPopForm}
+use Rattle.code_model.specs.Guards.{most_served, least_version, StepsNoPointer, IsPopForm}
 use Rattle.code_model.specs.Rules.{IsBranch, IsMemoryDst, WritesMemory, ReadsStack, IsPushOrCall}
 use Rattle.insert_model.specs.declared.aim.Aim.TheVariants.{ToPc, ToSp, ToMemory, Elsewhere}
 use Rattle.insert_model.specs.declared.line.Line.{Line}
@@ -222,7 +222,7 @@ free_from op w d k pc sp memory sr = record {
 
 -- ---- facts of clean lines
 
-pub quiet_of : (s : Src) → (SrcUsesCheck s → ⊥) → (Pops s 1 → ⊥) → IsQuiet s
+pub quiet_of : (s : Src) → (SrcUsesCheck s → ⊥) → (Pops s 1 → ⊥) → StepsNoPointer s
 quiet_of (src.Reg n) f h = ((λ x. x), h)
 quiet_of (src.Indexed n x) f h = ((λ y. y), h)
 quiet_of (src.Symbolic x) f h = ((λ y. y), h)
@@ -323,7 +323,7 @@ module _ (o : Object) (l : Line) (p : Piece) (op : Op2) (w : Width) (s : Src) (d
           let least : 6 ≤ r.number = r.least in
           subst IsPopForm (sym whole) (tt, tt, refl, (omega arith, omega (arith, small)))
 
-through_store : (op : Op2) (w : Width) (s : Src) (k : Option RelKind) → Writes op → IsQuiet s → IsServed guard.Store (through_r4 op w s k)
+through_store : (op : Op2) (w : Width) (s : Src) (k : Option RelKind) → Writes op → StepsNoPointer s → IsServed guard.Store (through_r4 op w s k)
 through_store op w s k h quiet = (h, refl, refl, quiet)
 
 pub store_of : (n x : ℕ) (k : Option RelKind) → n < 16 → (n ≡ 1) ⊎ (3 ≤ n) → IsGuard guard.Store (store_guard n x k)
@@ -336,7 +336,7 @@ base_register n below b = elim (cases_lt n 3) [
   | inl low ↦ elim (cases_order n 1) [ inl same ↦ inl same | inr other ↦ elim other [ inl less ↦ absurd (b.0 (omega arith)) | inr more ↦ absurd (b.1 (omega arith)) ] ]
 ]
 
-stored : (op : Op2) (w : Width) (s : Src) (p : Piece) (n x : ℕ) (k : Option RelKind) → Writes op → IsQuiet s → n < 16 → (n ≡ 1) ⊎ (3 ≤ n) → Good (store_guard n x k ++ through_r4 op w s p.source ∷ [])
+stored : (op : Op2) (w : Width) (s : Src) (p : Piece) (n x : ℕ) (k : Option RelKind) → Writes op → StepsNoPointer s → n < 16 → (n ≡ 1) ⊎ (3 ≤ n) → Good (store_guard n x k ++ through_r4 op w s p.source ∷ [])
 stored op w s p n x k h quiet below register = guarded guard.Store (store_guard n x k) (through_r4 op w s p.source) [] refl (store_of n x k below register) (through_store op w s p.source h quiet) none
 
 to_pc : (o : Object) (l : Line) (p : Piece) (op : Op2) (w : Width) (s : Src) (n : ℕ) → IsTwo o l p op w s (dst.Reg n) → Writes op → (Pops s 1 → ⊥) → n ≡ 0 → Good (writing op w s p ToPc)

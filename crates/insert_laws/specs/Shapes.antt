@@ -11,7 +11,7 @@ use Rattle.code_model.specs.declared.parts.RelKind.{RelKind}
 use Rattle.code_model.specs.declared.guards.Reach.{Reach}
 use Rattle.code_model.specs.declared.guards.GuardKind.{GuardKind}
 use Rattle.code_model.specs.declared.guards.GuardKind.TheVariants as guard
-use Rattle.code_model.specs.Guards.{reach_bytes, IsQuiet, IsAtR4, IsGrowthForm, IsPopForm, IsSpForm, most_served, least_version}
+use Rattle.code_model.specs.Guards.{reach_bytes, StepsNoPointer, IsAtR4, IsGrowthForm, IsPopForm, IsSpForm, most_served, least_version}
 use Rattle.msp_encode.specs.Spelling.{InstrFits}
 use Rattle.msp_encode.specs.Forms.{Writes, Changes, IsReti, WritesReg}
 use Rattle.code_model.specs.declared.object.Object.{Object}
@@ -54,14 +54,14 @@ IsGuard guard.Sp gs = gs ≡ sp_guard
 
 -- a store through 0(R4) whose index isn't relocated, or an operation on @R4
 abbrev pub IsThroughR4 : Option RelKind → Instr → Type 0
-IsThroughR4 k (instr.Two op w s d) = Writes op × (d ≡ dst.Indexed 4 0) × (k ≡ None) × IsQuiet s
+IsThroughR4 k (instr.Two op w s d) = Writes op × (d ≡ dst.Indexed 4 0) × (k ≡ None) × StepsNoPointer s
 IsThroughR4 k (instr.One op w s) = Changes op × IsAtR4 s
 IsThroughR4 k instr.Reti = ⊥
 IsThroughR4 k (instr.Jump c n) = ⊥
 
 -- a store through x(R4), where x isn't relocated, even and at most so many bytes
 abbrev pub IsNearR4 : ℕ → Option RelKind → Instr → Type 0
-IsNearR4 most k (instr.Two op w s d) = Writes op × ((x : ℕ) × ((d ≡ dst.Indexed 4 x) × ((x % 2 ≡ 0) × (x ≤ most)))) × (k ≡ None) × IsQuiet s
+IsNearR4 most k (instr.Two op w s d) = Writes op × ((x : ℕ) × ((d ≡ dst.Indexed 4 x) × ((x % 2 ≡ 0) × (x ≤ most)))) × (k ≡ None) × StepsNoPointer s
 IsNearR4 most k _ = ⊥
 
 -- a piece that a guard of this kind may stand before

@@ -16,7 +16,7 @@ use Rattle.msp_encode.specs.declared.instr.Dst.TheVariants as dst
 use Rattle.msp_encode.specs.declared.instr.Instr.TheVariants as instr
 use Rattle.msp_encode.specs.Forms.{writes, changes}
 use Rattle.machine_laws.specs.Steady.{IsSteady, Bounds, AreBounds}
-use Rattle.machine_laws.specs.Guarded.{IsQuiet, Passes, StoreLaw, StoreLeavesLaw, PushLaw, CallLaw, PopLaw, SpLaw}
+use Rattle.machine_laws.specs.Guarded.{StepsHigh, Passes, StoreLaw, StoreLeavesLaw, PushLaw, CallLaw, PopLaw, SpLaw}
 use Rattle.machine_model.proofs.Values.{word-small}
 use Rattle.machine_laws.proofs.Statuses.{alu-status, one-status}
 use Rattle.machine_laws.proofs.Registers.{reg_other, pc_same, sp_same, steady-sr, steady-reg, steady-sp, source-read, source-r4, calm-quiet}
@@ -25,7 +25,7 @@ use Rattle.machine_laws.proofs.Operations.{behind, two-writes, one-changes, stor
 -- ---- stores
 
 store-two : (b : Bounds) (kb x : ℕ) (m r : List ℕ) (op : Op2) (w : Width) (s : Src) (n : ℕ) → AreBounds b → IsSteady kb b.low b.top r → reg r 0 + 2 * n < 65536
-    → writes op ≡ true → IsQuiet s → b.lo ≤ reg r 4 → reg r 4 + x < b.hi → Passes b.lo b.hi b kb (reg r 0 + 2 * n) (does m r (instr.Two op w s (dst.Indexed 4 x)) n)
+    → writes op ≡ true → StepsHigh s → b.lo ≤ reg r 4 → reg r 4 + x < b.hi → Passes b.lo b.hi b kb (reg r 0 + 2 * n) (does m r (instr.Two op w s (dst.Indexed 4 x)) n)
 unfolding place_to put_context put_pairs
 store-two b kb x m r op w s n a st p h q l u =
     let d = source-read kb b.low b.top w s r n st p (calm-quiet s q) in
@@ -68,7 +68,7 @@ store-stays b kb most m r (instr.One op w (src.Const k)) n a st p h l u = absurd
 store-stays b kb most m r instr.Reti n a st p h l u = absurd h
 store-stays b kb most m r (instr.Jump c k) n a st p h l u = absurd h
 
-two-leaves : (m r : List ℕ) (op : Op2) (w : Width) (s : Src) (k x n : ℕ) → writes op ≡ true → IsQuiet s → reg (does m r (instr.Two op w s (dst.Indexed k x)) n).context 4 ≡ reg r 4
+two-leaves : (m r : List ℕ) (op : Op2) (w : Width) (s : Src) (k x n : ℕ) → writes op ≡ true → StepsHigh s → reg (does m r (instr.Two op w s (dst.Indexed k x)) n).context 4 ≡ reg r 4
 unfolding place_to put_context
 two-leaves m r op w s k x n h q =
     subst (λ (e : Effect). reg e.context 4 ≡ reg r 4) (sym (two-writes op w s (dst.Indexed k x) n m r h))

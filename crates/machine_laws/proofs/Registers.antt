@@ -9,7 +9,7 @@ use Rattle.msp_encode.specs.declared.instr.Width.{Width}
 use Rattle.msp_encode.specs.declared.instr.Src.{Src}
 use Rattle.msp_encode.specs.declared.instr.Src.TheVariants as src
 use Rattle.machine_laws.specs.Steady.{IsStatus, IsSteady}
-use Rattle.machine_laws.specs.Guarded.{IsQuiet}
+use Rattle.machine_laws.specs.Guarded.{StepsHigh}
 use Rattle.machine_laws.specs.Plain.{IsCalm}
 use Rattle.machine_model.proofs.Contexts.{set-context, set_reg-high}
 
@@ -94,7 +94,7 @@ source-read kb low top w (src.Immediate x) r n h p c = passed-read kb low top r 
 source-read kb low top w (src.Const k) r n h p c = passed-read kb low top r n h p
 
 -- a quiet source leaves R4
-pub source-r4 : (w : Width) (s : Src) (r : List ℕ) (n : ℕ) → IsQuiet s → reg (after_source w s (passed r n)) 4 ≡ reg r 4
+pub source-r4 : (w : Width) (s : Src) (r : List ℕ) (n : ℕ) → StepsHigh s → reg (after_source w s (passed r n)) 4 ≡ reg r 4
 unfolding after_source
 source-r4 w (src.Reg k) r n c = reg_other r 0 _ 4 (omega arith)
 source-r4 w (src.Indexed k x) r n c = reg_other r 0 _ 4 (omega arith)
@@ -105,7 +105,7 @@ source-r4 w (src.AutoInc k) r n c = reg_other (passed r n) k _ 4 (omega arith) �
 source-r4 w (src.Immediate x) r n c = reg_other r 0 _ 4 (omega arith)
 source-r4 w (src.Const k) r n c = reg_other r 0 _ 4 (omega arith)
 
-pub calm-quiet : (s : Src) → IsQuiet s → IsCalm s
+pub calm-quiet : (s : Src) → StepsHigh s → IsCalm s
 calm-quiet (src.Reg k) c = tt
 calm-quiet (src.Indexed k x) c = tt
 calm-quiet (src.Symbolic x) c = tt

@@ -17,13 +17,13 @@ use Rattle.msp_encode.specs.Forms.{writes, changes}
 use Rattle.machine_laws.specs.Steady.{IsSteady, Bounds, AreBounds}
 
 -- a source that moves neither SP nor R4
-abbrev pub IsQuiet : Src → Type 0
-IsQuiet (src.AutoInc n) = (4 < n) × (n < 16)
-IsQuiet _ = Unit {0}
+abbrev pub StepsHigh : Src → Type 0
+StepsHigh (src.AutoInc n) = (4 < n) × (n < 16)
+StepsHigh _ = Unit {0}
 
 -- what a guard of stores guards: a write to @R4, or to x(R4) where x is at most so many bytes
 abbrev pub IsStore : ℕ → Instr → Type 0
-IsStore most (instr.Two op w s (dst.Indexed n x)) = (writes op ≡ true) × (n ≡ 4) × (x ≤ most) × IsQuiet s
+IsStore most (instr.Two op w s (dst.Indexed n x)) = (writes op ≡ true) × (n ≡ 4) × (x ≤ most) × StepsHigh s
 IsStore most (instr.One op w (src.Indirect n)) = (changes op ≡ true) × (n ≡ 4)
 IsStore most _ = ⊥
 
@@ -45,7 +45,7 @@ StoreLeavesLaw = (most : ℕ) (m r : List ℕ) (i : Instr) (n : ℕ) → IsStore
 -- a push where there is room for six bytes writes in the stack
 abbrev pub PushLaw : Type 0
 PushLaw = (b : Bounds) (kb : ℕ) (m r : List ℕ) (w : Width) (s : Src) (n : ℕ) → IsSteady kb b.low b.top r → reg r 0 + 2 * n < 65536
-    → IsQuiet s → b.low + 6 ≤ reg r 1 → Passes b.low b.top b kb (reg r 0 + 2 * n) (does m r (instr.One Push w s) n)
+    → StepsHigh s → b.low + 6 ≤ reg r 1 → Passes b.low b.top b kb (reg r 0 + 2 * n) (does m r (instr.One Push w s) n)
 
 -- a call leaves its return address on the stack
 pub record Calls (x : ℕ) (b : Bounds) (kb : ℕ) (e : Effect) : Type 0 where

@@ -24,7 +24,7 @@ use asm_lines::text::{
     body, is_labelled, label_word, labelled, rest as behind_word, word as first_word,
 };
 use asm_model::fault::AsmKind;
-use asm_model::mnemonic::{Directive, Form, Keyword};
+use asm_model::mnemonic::{Directive, Keyword, MnemonicForm};
 use asm_model::name::{Name, Value};
 use asm_model::piece::{DataUnit, Piece, Placed};
 use asm_model::progress::{Progress, Section};
@@ -59,7 +59,7 @@ fn put_instruction(
     p: Progress,
     names: &Names,
     pieces: &mut Pieces,
-    form: Form,
+    form: MnemonicForm,
     width: Width,
     rest: &[u8],
 ) -> Result<Progress, Stop>

@@ -13,11 +13,11 @@
 //! - `lists` are the lists of an object, and `marks` is a set of its code words.
 #![tactic(auto)]
 
-mod entries;
 pub mod fault;
 mod head;
 pub mod laws;
 pub mod layout;
+mod lists;
 pub mod reading;
 mod sections;
 pub mod writing;

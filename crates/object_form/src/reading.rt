@@ -6,11 +6,11 @@ ghost use Rattle.object_form.specs.Spelling.{object_bytes};
 ghost use Rattle.object_form.specs.Faults.{first_form_fault, Names};
 ghost use Rattle.object_form.specs.Given.{AreRead};
 
-use super::entries::{Sizes, read_exports, read_relocs};
 use super::fault::{FormFault, FormKind};
 use super::head::{Head, read_head, wrong};
 use super::laws::one_object_has_a_text;
 use super::layout::{HEAD_BYTES, RECORD_BYTES, WORD_BYTES};
+use super::lists::{Sizes, read_exports, read_relocs};
 use super::sections::read_sections;
 use code_model::lists::{CodeWords, Exports, Relocs};
 use code_model::object::Object;

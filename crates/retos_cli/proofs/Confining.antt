@@ -9,7 +9,7 @@ use Rattle.trace_model.specs.Grammar.{empty_script}
 use Rattle.node_model.specs.Nodes.{IsFitting, BootedRunLaw}
 use Rattle.retos_cli.specs.declared.command.Command.{Command}
 use Rattle.retos_cli.specs.declared.command.Command.TheVariants.{Run, Check, Asm, Insert, Gen}
-use Rattle.retos_cli.specs.declared.form.Form.{Form}
+use Rattle.retos_cli.specs.declared.purpose.Purpose.{Purpose}
 use Rattle.retos_cli.specs.Bounds.{IsBoundedIfSome}
 use Rattle.retos_cli.specs.Commands.{command_of}
 use Rattle.retos_cli.specs.Meaning.{AreTaken, form_by, generated_steps}
@@ -21,13 +21,13 @@ use Rattle.retos_cli.proofs.Told.{told_all}
 same-accepted : (a b : Loadable) → Some a ≡ Some b → IsAccepted a.object a.units → IsAccepted b.object b.units
 same-accepted a b e h = let same : a ≡ b = cc e in let P : Loadable → Type 0 = λ o. IsAccepted o.object o.units in subst P same h
 
-fitting : (form : Form) (m : Files) (names : List (List ℕ)) (os : List Loadable) → AreTaken form m names os → IsFitting os
+fitting : (purpose : Purpose) (m : Files) (names : List (List ℕ)) (os : List Loadable) → AreTaken purpose m names os → IsFitting os
 unfolding AreTaken
-fitting form m [] [] h i o e = absurd (cc e)
-fitting form m [] (x ∷ os) h i o e = absurd h
-fitting form m (name ∷ names) [] h i o e = absurd h
-fitting form m (name ∷ names) (x ∷ os) h zero o e = same-accepted x o e h.0.fit.accepted
-fitting form m (name ∷ names) (x ∷ os) h (suc i) o e = fitting form m names os h.1 i o e
+fitting purpose m [] [] h i o e = absurd (cc e)
+fitting purpose m [] (x ∷ os) h i o e = absurd h
+fitting purpose m (name ∷ names) [] h i o e = absurd h
+fitting purpose m (name ∷ names) (x ∷ os) h zero o e = same-accepted x o e h.0.fit.accepted
+fitting purpose m (name ∷ names) (x ∷ os) h (suc i) o e = fitting purpose m names os h.1 i o e
 
 alone-fits : (o : Loadable) → IsAccepted o.object o.units → IsFitting (o ∷ [])
 alone-fits o h zero x e = same-accepted o x e h

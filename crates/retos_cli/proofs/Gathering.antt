@@ -7,8 +7,8 @@ use Rattle.std.proofs.lemmas.List.{append-nil, drop_all}
 use Rattle.edge_io.specs.Known.{Files, FolderState, appended, GotPrefix, held}
 use Rattle.load_model.specs.Loading.{Loadable}
 use Rattle.code_model.specs.declared.object.Object.{Object}
-use Rattle.retos_cli.specs.declared.form.Form.{Form}
-use Rattle.retos_cli.specs.declared.form.Form.TheVariants.{Checked, Application, Source, Plain, Script as Scripted}
+use Rattle.retos_cli.specs.declared.purpose.Purpose.{Purpose}
+use Rattle.retos_cli.specs.declared.purpose.Purpose.TheVariants.{Checked, Application, Source, Plain, Script as Scripted}
 use Rattle.retos_cli.specs.declared.outcome.Refused.{Refused}
 use Rattle.retos_cli.specs.declared.outcome.Stop.{Stop}
 use Rattle.retos_cli.specs.declared.outcome.Stop.TheVariants.{Refuse, ReadFault, NoMemory}
@@ -19,38 +19,38 @@ use Rattle.retos_cli.specs.Ends.{Told, IsHeld, RefusesInput, InputEnds, StopCaus
 use Rattle.retos_cli.proofs.Told.{told_map, told_same, told_all, told_both, rose_before, read_none, read_more}
 use Rattle.retos_cli.proofs.Pieces.{GotBefore, before_start, before_more, before_cut}
 
-abbrev input-of : Form → List ℕ → Input
-input-of form name = record { name = name; form = form }
+abbrev input-of : Purpose → List ℕ → Input
+input-of purpose name = record { name = name; purpose = purpose }
 
 -- of the inputs so far each is taken, and what ends those that are left ends all
-pub record Gathered (form : Form) (m : Files) (names : List (List ℕ)) (os : List Loadable) (left : List (List ℕ)) : Type 0 where
-  pub taken : (more : List Loadable) → AreTaken form m left more → AreTaken form m names (os ++ more)
-  pub refused : (r : Refused) → IsFirstRefused m (named_inputs form left) r → IsFirstRefused m (named_inputs form names) r
-  pub reached : (n : List ℕ) → IsReached m (named_inputs form left) n → IsReached m (named_inputs form names) n
+pub record Gathered (purpose : Purpose) (m : Files) (names : List (List ℕ)) (os : List Loadable) (left : List (List ℕ)) : Type 0 where
+  pub taken : (more : List Loadable) → AreTaken purpose m left more → AreTaken purpose m names (os ++ more)
+  pub refused : (r : Refused) → IsFirstRefused m (named_inputs purpose left) r → IsFirstRefused m (named_inputs purpose names) r
+  pub reached : (n : List ℕ) → IsReached m (named_inputs purpose left) n → IsReached m (named_inputs purpose names) n
 
-pub record Gathering (form : Form) (f0 f1 : FolderState) (names : List (List ℕ)) (os : List Loadable) (at : ℕ) : Type 0 where
+pub record Gathering (purpose : Purpose) (f0 f1 : FolderState) (names : List (List ℕ)) (os : List Loadable) (at : ℕ) : Type 0 where
   pub read : OnlyRead f0 f1
   pub count : length os ≡ at
   pub within : at ≤ length names
-  pub told : Told f0.files (λ m. Gathered form m names os (drop at names))
+  pub told : Told f0.files (λ m. Gathered purpose m names os (drop at names))
 
-start-gathered : (form : Form) (m : Files) (names : List (List ℕ)) → Gathered form m names [] names
-start-gathered form m names = record { taken = λ more h. h; refused = λ r h. h; reached = λ n h. h }
+start-gathered : (purpose : Purpose) (m : Files) (names : List (List ℕ)) → Gathered purpose m names [] names
+start-gathered purpose m names = record { taken = λ more h. h; refused = λ r h. h; reached = λ n h. h }
 
-pub gathering_start : (form : Form) (f : FolderState) (names : List (List ℕ)) (os : List Loadable) → os ≡ [] → Gathering form f f names os 0
-gathering_start form f names os e =
-    let P : List Loadable → Type 0 = λ xs. Gathering form f f names xs 0 in
+pub gathering_start : (purpose : Purpose) (f : FolderState) (names : List (List ℕ)) (os : List Loadable) → os ≡ [] → Gathering purpose f f names os 0
+gathering_start purpose f names os e =
+    let P : List Loadable → Type 0 = λ xs. Gathering purpose f f names xs 0 in
     subst P (sym e) (record {
       read = read_none f;
       count = refl;
       within = omega arith;
-      told = told_all f.files (λ m. Gathered form m names [] (drop 0 names)) (λ m x. start-gathered form m names);
+      told = told_all f.files (λ m. Gathered purpose m names [] (drop 0 names)) (λ m x. start-gathered purpose m names);
     })
 
 pub split-names : (names : List (List ℕ)) (at : ℕ) → at < length names → drop at names ≡ word names at ∷ drop (at + 1) names
 split-names names at h = grind (arith, drop-cons, unwrap_or-slice_get)
 
-taken-is : (form : Form) (m : Files) (name : List ℕ) (o : Loadable) → AsksCheck form → Taken form (held m name) o.object o.units → IsTaken m (input-of form name)
+taken-is : (purpose : Purpose) (m : Files) (name : List ℕ) (o : Loadable) → AsksCheck purpose → Taken purpose (held m name) o.object o.units → IsTaken m (input-of purpose name)
 unfolding IsTaken
 taken-is Checked m name o a h = (o.object, o.units, h)
 taken-is Application m name o a h = (o.object, o.units, h)
@@ -74,73 +74,73 @@ pub reached_here : (m : Files) (i : Input) (others : List Input) (n : List ℕ) 
 unfolding IsReached
 reached_here m i others n e = inl e
 
-taken-cons : (form : Form) (m : Files) (name : List ℕ) (names : List (List ℕ)) (o : Loadable) (os : List Loadable) → Taken form (held m name) o.object o.units → AreTaken form m names os → AreTaken form m (name ∷ names) (o ∷ os)
+taken-cons : (purpose : Purpose) (m : Files) (name : List ℕ) (names : List (List ℕ)) (o : Loadable) (os : List Loadable) → Taken purpose (held m name) o.object o.units → AreTaken purpose m names os → AreTaken purpose m (name ∷ names) (o ∷ os)
 unfolding AreTaken
-taken-cons form m name names o os h t = (h, t)
+taken-cons purpose m name names o os h t = (h, t)
 
-more : (form : Form) (m : Files) (names : List (List ℕ)) (os : List Loadable) (name : List ℕ) (rest : List (List ℕ)) (o : Loadable)
-    → AsksCheck form → Gathered form m names os (name ∷ rest) → Taken form (held m name) o.object o.units → Gathered form m names (os ++ o ∷ []) rest
-more form m names os name rest o a g h = record {
-  taken = λ xs t. let P : List Loadable → Type 0 = λ ys. AreTaken form m names ys in subst P (sym (append_assoc os (o ∷ []) xs)) (g.taken (o ∷ xs) (taken-cons form m name rest o xs h t));
-  refused = λ r t. g.refused r (refused_later m (input-of form name) (named_inputs form rest) r (taken-is form m name o a h) t);
-  reached = λ n t. g.reached n (reached_later m (input-of form name) (named_inputs form rest) n (taken-is form m name o a h) t);
+more : (purpose : Purpose) (m : Files) (names : List (List ℕ)) (os : List Loadable) (name : List ℕ) (rest : List (List ℕ)) (o : Loadable)
+    → AsksCheck purpose → Gathered purpose m names os (name ∷ rest) → Taken purpose (held m name) o.object o.units → Gathered purpose m names (os ++ o ∷ []) rest
+more purpose m names os name rest o a g h = record {
+  taken = λ xs t. let P : List Loadable → Type 0 = λ ys. AreTaken purpose m names ys in subst P (sym (append_assoc os (o ∷ []) xs)) (g.taken (o ∷ xs) (taken-cons purpose m name rest o xs h t));
+  refused = λ r t. g.refused r (refused_later m (input-of purpose name) (named_inputs purpose rest) r (taken-is purpose m name o a h) t);
+  reached = λ n t. g.reached n (reached_later m (input-of purpose name) (named_inputs purpose rest) n (taken-is purpose m name o a h) t);
 }
 
 longer : (os : List Loadable) (o : Loadable) → length (os ++ o ∷ []) ≡ length os + 1
 longer [] o = refl
 longer (x ∷ os) o = omega (arith, longer os o)
 
-pub gathering_more : (form : Form) (f0 f1 f2 : FolderState) (names : List (List ℕ)) (name : List ℕ) (os new : List Loadable) (at : ℕ) (o : Object) (units : List ℕ)
-    → AsksCheck form → Gathering form f0 f1 names os at → at < length names → name ≡ word names at → InputEnds f1 f2 (record { name = name; form = form }) (Ok (o, units)) → OnlyRead f1 f2
-    → new ≡ os ++ (record { object = o; units = units }) ∷ [] → Gathering form f0 f2 names new (at + 1)
-gathering_more form f0 f1 f2 names name os new at o units a g h n e r w =
+pub gathering_more : (purpose : Purpose) (f0 f1 f2 : FolderState) (names : List (List ℕ)) (name : List ℕ) (os new : List Loadable) (at : ℕ) (o : Object) (units : List ℕ)
+    → AsksCheck purpose → Gathering purpose f0 f1 names os at → at < length names → name ≡ word names at → InputEnds f1 f2 (record { name = name; purpose = purpose }) (Ok (o, units)) → OnlyRead f1 f2
+    → new ≡ os ++ (record { object = o; units = units }) ∷ [] → Gathering purpose f0 f2 names new (at + 1)
+gathering_more purpose f0 f1 f2 names name os new at o units a g h n e r w =
     let item : Loadable = record { object = o; units = units } in
-    let P : List Loadable → Type 0 = λ xs. Gathering form f0 f2 names xs (at + 1) in
-    let N : List ℕ → Type 0 = λ x. Told f1.files (λ m. Taken form (held m x) o units) in
-    let here : Told f0.files (λ m. Taken form (held m (word names at)) o units) = told_same f0.files f1.files (λ m. Taken form (held m (word names at)) o units) g.read.files (subst N n e) in
+    let P : List Loadable → Type 0 = λ xs. Gathering purpose f0 f2 names xs (at + 1) in
+    let N : List ℕ → Type 0 = λ x. Told f1.files (λ m. Taken purpose (held m x) o units) in
+    let here : Told f0.files (λ m. Taken purpose (held m (word names at)) o units) = told_same f0.files f1.files (λ m. Taken purpose (held m (word names at)) o units) g.read.files (subst N n e) in
     subst P (sym w) (record {
       read = read_more f0 f1 f2 g.read r;
       count = omega (arith, longer os item, g.count);
       within = omega (arith, h);
-      told = told_both f0.files (λ m. Gathered form m names os (drop at names)) (λ m. Taken form (held m (word names at)) o units) (λ m. Gathered form m names (os ++ item ∷ []) (drop (at + 1) names))
-          (λ m s x y. let Q : List (List ℕ) → Type 0 = λ xs. Gathered form m names os xs in more form m names os (word names at) (drop (at + 1) names) item a (subst Q (split-names names at h) x) y) g.told here;
+      told = told_both f0.files (λ m. Gathered purpose m names os (drop at names)) (λ m. Taken purpose (held m (word names at)) o units) (λ m. Gathered purpose m names (os ++ item ∷ []) (drop (at + 1) names))
+          (λ m s x y. let Q : List (List ℕ) → Type 0 = λ xs. Gathered purpose m names os xs in more purpose m names os (word names at) (drop (at + 1) names) item a (subst Q (split-names names at h) x) y) g.told here;
     })
 
-stop-refused : (form : Form) (m : Files) (names : List (List ℕ)) (os : List Loadable) (name : List ℕ) (rest : List (List ℕ)) (r : Refused)
-    → Gathered form m names os (name ∷ rest) → RefusesInput m (input-of form name) r → IsFirstRefused m (named_inputs form names) r
-stop-refused form m names os name rest r g h = g.refused r (refused_here m (input-of form name) (named_inputs form rest) r h)
+stop-refused : (purpose : Purpose) (m : Files) (names : List (List ℕ)) (os : List Loadable) (name : List ℕ) (rest : List (List ℕ)) (r : Refused)
+    → Gathered purpose m names os (name ∷ rest) → RefusesInput m (input-of purpose name) r → IsFirstRefused m (named_inputs purpose names) r
+stop-refused purpose m names os name rest r g h = g.refused r (refused_here m (input-of purpose name) (named_inputs purpose rest) r h)
 
-stops-at : (form : Form) (f0 f1 f2 : FolderState) (names : List (List ℕ)) (os : List Loadable) (at : ℕ) (stop : Stop)
-    → Gathering form f0 f1 names os at → at < length names → InputEnds f1 f2 (input-of form (word names at)) (Err stop) → StopCause (named_inputs form names) f0 f2 stop
-stops-at form f0 f1 f2 names os at (Refuse r) g h e =
-    told_both f0.files (λ m. Gathered form m names os (drop at names)) (λ m. RefusesInput m (input-of form (word names at)) r) (λ m. IsFirstRefused m (named_inputs form names) r)
-    (λ m s x y. let Q : List (List ℕ) → Type 0 = λ xs. Gathered form m names os xs in stop-refused form m names os (word names at) (drop (at + 1) names) r (subst Q (split-names names at h) x) y)
-    g.told (told_same f0.files f1.files (λ m. RefusesInput m (input-of form (word names at)) r) g.read.files e)
-stops-at form f0 f1 f2 names os at (ReadFault n) g h e = record {
+stops-at : (purpose : Purpose) (f0 f1 f2 : FolderState) (names : List (List ℕ)) (os : List Loadable) (at : ℕ) (stop : Stop)
+    → Gathering purpose f0 f1 names os at → at < length names → InputEnds f1 f2 (input-of purpose (word names at)) (Err stop) → StopCause (named_inputs purpose names) f0 f2 stop
+stops-at purpose f0 f1 f2 names os at (Refuse r) g h e =
+    told_both f0.files (λ m. Gathered purpose m names os (drop at names)) (λ m. RefusesInput m (input-of purpose (word names at)) r) (λ m. IsFirstRefused m (named_inputs purpose names) r)
+    (λ m s x y. let Q : List (List ℕ) → Type 0 = λ xs. Gathered purpose m names os xs in stop-refused purpose m names os (word names at) (drop (at + 1) names) r (subst Q (split-names names at h) x) y)
+    g.told (told_same f0.files f1.files (λ m. RefusesInput m (input-of purpose (word names at)) r) g.read.files e)
+stops-at purpose f0 f1 f2 names os at (ReadFault n) g h e = record {
   is_held = told_same f0.files f1.files (λ m. IsHeld m n) g.read.files e.is_held;
   rose = rose_before f0.read_faults f1.read_faults f2.read_faults g.read.later e.rose;
   last = e.last;
-  reached = told_map f0.files (λ m. Gathered form m names os (drop at names)) (λ m. IsReached m (named_inputs form names) n)
-      (λ m s x. let Q : List (List ℕ) → Type 0 = λ xs. Gathered form m names os xs in (subst Q (split-names names at h) x).reached n (reached_here m (input-of form (word names at)) (named_inputs form (drop (at + 1) names)) n e.name_is)) g.told;
+  reached = told_map f0.files (λ m. Gathered purpose m names os (drop at names)) (λ m. IsReached m (named_inputs purpose names) n)
+      (λ m s x. let Q : List (List ℕ) → Type 0 = λ xs. Gathered purpose m names os xs in (subst Q (split-names names at h) x).reached n (reached_here m (input-of purpose (word names at)) (named_inputs purpose (drop (at + 1) names)) n e.name_is)) g.told;
 }
-stops-at form f0 f1 f2 names os at NoMemory g h e = tt
+stops-at purpose f0 f1 f2 names os at NoMemory g h e = tt
 
-pub gathering_stops : (form : Form) (f0 f1 f2 : FolderState) (names : List (List ℕ)) (name : List ℕ) (os : List Loadable) (at : ℕ) (stop : Stop)
-    → Gathering form f0 f1 names os at → at < length names → name ≡ word names at → InputEnds f1 f2 (record { name = name; form = form }) (Err stop) → StopCause (named_inputs form names) f0 f2 stop
-gathering_stops form f0 f1 f2 names name os at stop g h n e =
-    let N : List ℕ → Type 0 = λ x. InputEnds f1 f2 (input-of form x) (Err stop) in stops-at form f0 f1 f2 names os at stop g h (subst N n e)
+pub gathering_stops : (purpose : Purpose) (f0 f1 f2 : FolderState) (names : List (List ℕ)) (name : List ℕ) (os : List Loadable) (at : ℕ) (stop : Stop)
+    → Gathering purpose f0 f1 names os at → at < length names → name ≡ word names at → InputEnds f1 f2 (record { name = name; purpose = purpose }) (Err stop) → StopCause (named_inputs purpose names) f0 f2 stop
+gathering_stops purpose f0 f1 f2 names name os at stop g h n e =
+    let N : List ℕ → Type 0 = λ x. InputEnds f1 f2 (input-of purpose x) (Err stop) in stops-at purpose f0 f1 f2 names os at stop g h (subst N n e)
 
-none-taken : (form : Form) (m : Files) → AreTaken form m [] []
+none-taken : (purpose : Purpose) (m : Files) → AreTaken purpose m [] []
 unfolding AreTaken
-none-taken form m = tt
+none-taken purpose m = tt
 
-none-left : (form : Form) (m : Files) (names : List (List ℕ)) (at : ℕ) → length names ≤ at → AreTaken form m (drop at names) []
-none-left form m names at h = let P : List (List ℕ) → Type 0 = λ xs. AreTaken form m xs [] in subst P (sym (drop_all at names h)) (none-taken form m)
+none-left : (purpose : Purpose) (m : Files) (names : List (List ℕ)) (at : ℕ) → length names ≤ at → AreTaken purpose m (drop at names) []
+none-left purpose m names at h = let P : List (List ℕ) → Type 0 = λ xs. AreTaken purpose m xs [] in subst P (sym (drop_all at names h)) (none-taken purpose m)
 
-pub gathering_all : (form : Form) (f0 f1 : FolderState) (names : List (List ℕ)) (os : List Loadable) (at : ℕ) → Gathering form f0 f1 names os at → length names ≤ at → Told f0.files (λ m. AreTaken form m names os)
-gathering_all form f0 f1 names os at g h =
-    told_map f0.files (λ m. Gathered form m names os (drop at names)) (λ m. AreTaken form m names os)
-    (λ m s x. let P : List Loadable → Type 0 = λ xs. AreTaken form m names xs in subst P (append-nil os) (x.taken [] (none-left form m names at h))) g.told
+pub gathering_all : (purpose : Purpose) (f0 f1 : FolderState) (names : List (List ℕ)) (os : List Loadable) (at : ℕ) → Gathering purpose f0 f1 names os at → length names ≤ at → Told f0.files (λ m. AreTaken purpose m names os)
+gathering_all purpose f0 f1 names os at g h =
+    told_map f0.files (λ m. Gathered purpose m names os (drop at names)) (λ m. AreTaken purpose m names os)
+    (λ m s x. let P : List Loadable → Type 0 = λ xs. AreTaken purpose m names xs in subst P (append-nil os) (x.taken [] (none-left purpose m names at h))) g.told
 
 -- ---- the lines
 

@@ -5,7 +5,7 @@ use Rattle.edge_io.specs.Known.{Files, FolderState, SinkState, AnswersOf, append
 use Rattle.code_model.specs.declared.object.Object.{Object}
 use Rattle.object_form.specs.Spelling.{object_bytes}
 use Rattle.retos_cli.specs.declared.command.Command.TheVariants.{Insert}
-use Rattle.retos_cli.specs.declared.form.Form.TheVariants.{Plain}
+use Rattle.retos_cli.specs.declared.purpose.Purpose.TheVariants.{Plain}
 use Rattle.retos_cli.specs.declared.outcome.Outcome.{Outcome}
 use Rattle.retos_cli.specs.declared.outcome.Outcome.TheVariants.{Done, BadWords, Stopped, WriteFault}
 use Rattle.retos_cli.specs.declared.outcome.Stop.{Stop}
@@ -59,7 +59,7 @@ pub insert_ended : (f0 f1 f2 : FolderState) (o0 o1 : SinkState) (from to : List 
 insert_ended f0 f1 f2 o0 o1 from to q line r t l e h = let P : List ℕ → Type 0 = λ x. IsPut f1 f2 o0 o1 to q x r in ended-by f0 f1 f2 o0 o1 from to q r t l (subst P e h)
 
 abbrev plain : List ℕ → Input
-plain name = record { name = name; form = Plain }
+plain name = record { name = name; purpose = Plain }
 
 pub insert_stopped : (f0 f1 : FolderState) (o0 o1 : SinkState) (from to : List ℕ) (s : Stop) → InputStops f0 f1 (plain from) s → OnlyRead f0 f1 → o1 ≡ o0 → Ended (Insert from to) f0 f1 o0 o1 (Stopped s)
 insert_stopped f0 f1 o0 o1 from to s h l e = record { read = l; cause = command_cause (Insert from to) f0 f1 s (one_cause f0 f1 (plain from) s h); out = e }

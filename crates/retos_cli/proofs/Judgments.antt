@@ -12,20 +12,20 @@ use Rattle.asm_model.specs.Assembled.{assembled}
 use Rattle.trace_model.specs.Grammar.{script_of}
 use Rattle.insert_model.specs.declared.fault.InsertKind.{InsertKind}
 use Rattle.insert_model.specs.Faults.{IsFault}
-use Rattle.retos_cli.specs.declared.form.Form.{Form}
-use Rattle.retos_cli.specs.declared.form.Form.TheVariants.{Source, Plain, Checked, Application, Script as Scripted}
+use Rattle.retos_cli.specs.declared.purpose.Purpose.{Purpose}
+use Rattle.retos_cli.specs.declared.purpose.Purpose.TheVariants.{Source, Plain, Checked, Application, Script as Scripted}
 use Rattle.retos_cli.specs.declared.outcome.Why.TheVariants as why
 use Rattle.retos_cli.specs.Meaning.{AsksObject, AsksCheck, Refuses, Suits}
 
-pub refuses_unsuited : (form : Form) (o : Object) → AsksCheck form → length (object_bytes o) ≤ 1048576 → (Suits form o → ⊥) → Refuses form (Some (object_bytes o)) why.NotApplication
+pub refuses_unsuited : (purpose : Purpose) (o : Object) → AsksCheck purpose → length (object_bytes o) ≤ 1048576 → (Suits purpose o → ⊥) → Refuses purpose (Some (object_bytes o)) why.NotApplication
 unfolding Refuses
-refuses_unsuited form o a l n = (a, o, (refl, l), n)
+refuses_unsuited purpose o a l n = (a, o, (refl, l), n)
 
-pub refuses_check : (form : Form) (o : Object) (rule place : ℕ) → AsksCheck form → length (object_bytes o) ≤ 1048576 → Suits form o → IsVerdict o (verdict.Refused rule place) → Refuses form (Some (object_bytes o)) (why.Check rule place)
+pub refuses_check : (purpose : Purpose) (o : Object) (rule place : ℕ) → AsksCheck purpose → length (object_bytes o) ≤ 1048576 → Suits purpose o → IsVerdict o (verdict.Refused rule place) → Refuses purpose (Some (object_bytes o)) (why.Check rule place)
 unfolding Refuses
-refuses_check form o rule place a l s v = (a, o, (refl, l), s, v)
+refuses_check purpose o rule place a l s v = (a, o, (refl, l), s, v)
 
-asks-object : (form : Form) → AsksCheck form → AsksObject form
+asks-object : (purpose : Purpose) → AsksCheck purpose → AsksObject purpose
 asks-object Checked a = tt
 asks-object Application a = tt
 asks-object Scripted a = absurd a
@@ -40,9 +40,9 @@ pub refuses_insert : (o : Object) (kind : InsertKind) (at : ℕ) → length (obj
 unfolding Refuses
 refuses_insert o k at l f = (refl, o, (refl, l), f)
 
-pub refuses_form : (form : Form) (text : List ℕ) (kind : FormKind) (at : ℕ) → AsksCheck form → length text ≤ 1048576 → first_form_fault text ≡ Some (record { kind = kind; offset = at }) → Refuses form (Some text) (why.Form kind at)
+pub refuses_form : (purpose : Purpose) (text : List ℕ) (kind : FormKind) (at : ℕ) → AsksCheck purpose → length text ≤ 1048576 → first_form_fault text ≡ Some (record { kind = kind; offset = at }) → Refuses purpose (Some text) (why.Form kind at)
 unfolding Refuses
-refuses_form form text k at a l e = (asks-object form a, text, refl, l, e)
+refuses_form purpose text k at a l e = (asks-object purpose a, text, refl, l, e)
 
 pub refuses_line : (source : List ℕ) (line : ℕ) (k : AsmKind) → length source ≤ 1048576 → assembled source ≡ Err (fault line k) → Refuses Source (Some source) (why.Line line k)
 unfolding Refuses

@@ -15,8 +15,8 @@ use Rattle.node_model.specs.Nodes.{end_line}
 use Rattle.retos_cli.specs.declared.command.Job.{Job}
 use Rattle.retos_cli.specs.declared.command.Command.{Command}
 use Rattle.retos_cli.specs.declared.command.Command.TheVariants.{Run, Check, Asm, Insert, Gen}
-use Rattle.retos_cli.specs.declared.form.Form.{Form}
-use Rattle.retos_cli.specs.declared.form.Form.TheVariants.{Checked, Application, Source, Plain, Script as Scripted}
+use Rattle.retos_cli.specs.declared.purpose.Purpose.{Purpose}
+use Rattle.retos_cli.specs.declared.purpose.Purpose.TheVariants.{Checked, Application, Source, Plain, Script as Scripted}
 use Rattle.retos_cli.specs.declared.outcome.Why.{Why}
 use Rattle.retos_cli.specs.declared.outcome.Why.TheVariants as why
 use Rattle.retos_cli.specs.declared.outcome.Refused.{Refused}
@@ -45,7 +45,7 @@ asks-by None = tt
 asks-by (Some name) = tt
 
 -- what is taken as an object that is checked is an input that is taken
-taken-as : (form : Form) (h : Option (List ℕ)) (o : Loadable) → AsksCheck form → Taken form h o.object o.units → IsTakenAs form h
+taken-as : (purpose : Purpose) (h : Option (List ℕ)) (o : Loadable) → AsksCheck purpose → Taken purpose h o.object o.units → IsTakenAs purpose h
 taken-as Checked h o a t = (o.object, o.units, t)
 taken-as Application h o a t = (o.object, o.units, t)
 taken-as Source h o a t = absurd a
@@ -55,25 +55,25 @@ taken-as Scripted h o a t = absurd a
 module _ (laws : Laws) (m : Files) where
   -- ---- the first input that is refused
 
-  taken-or-refused : (i : Input) (w : Why) → IsTaken m i → Refuses i.form (held m i.name) w → ⊥
+  taken-or-refused : (i : Input) (w : Why) → IsTaken m i → Refuses i.purpose (held m i.name) w → ⊥
   unfolding IsTaken
-  taken-or-refused i w t r = not_refused laws i.form (held m i.name) w t r
+  taken-or-refused i w t r = not_refused laws i.purpose (held m i.name) w t r
 
   one-first : (is : List Input) (r s : Refused) → IsFirstRefused m is r → IsFirstRefused m is s → r ≡ s
   unfolding IsFirstRefused
   one-first [] r s h g = absurd h
-  one-first (i ∷ is) r s (inl h) (inl g) = same-refused r s (h.0 ∙ sym g.0) (same_cause laws i.form (held m i.name) r.why s.why h.1 g.1)
+  one-first (i ∷ is) r s (inl h) (inl g) = same-refused r s (h.0 ∙ sym g.0) (same_cause laws i.purpose (held m i.name) r.why s.why h.1 g.1)
   one-first (i ∷ is) r s (inl h) (inr g) = absurd (taken-or-refused i r.why g.0 h.1)
   one-first (i ∷ is) r s (inr h) (inl g) = absurd (taken-or-refused i s.why h.0 g.1)
   one-first (i ∷ is) r s (inr h) (inr g) = one-first is r s h.1 g.1
 
   -- none of the inputs that are taken is refused
-  none-of-named : (form : Form) (names : List (List ℕ)) (os : List Loadable) (r : Refused) → AsksCheck form → AreTaken form m names os → IsFirstRefused m (named_inputs form names) r → ⊥
+  none-of-named : (purpose : Purpose) (names : List (List ℕ)) (os : List Loadable) (r : Refused) → AsksCheck purpose → AreTaken purpose m names os → IsFirstRefused m (named_inputs purpose names) r → ⊥
   unfolding AreTaken IsFirstRefused
-  none-of-named form [] os r a t h = h
-  none-of-named form (name ∷ names) [] r a t h = t
-  none-of-named form (name ∷ names) (o ∷ os) r a t (inl h) = not_refused laws form (held m name) r.why (taken-as form (held m name) o a t.0) h.1
-  none-of-named form (name ∷ names) (o ∷ os) r a t (inr h) = none-of-named form names os r a t.1 h.1
+  none-of-named purpose [] os r a t h = h
+  none-of-named purpose (name ∷ names) [] r a t h = t
+  none-of-named purpose (name ∷ names) (o ∷ os) r a t (inl h) = not_refused laws purpose (held m name) r.why (taken-as purpose (held m name) o a t.0) h.1
+  none-of-named purpose (name ∷ names) (o ∷ os) r a t (inr h) = none-of-named purpose names os r a t.1 h.1
 
   none-behind : (script : Option (List ℕ)) (t : Script) (is : List Input) (r : Refused) → IsScriptOf m script t → (IsFirstRefused m is r → ⊥) → IsFirstRefused m (behind_script script is) r → ⊥
   unfolding IsFirstRefused
@@ -85,9 +85,9 @@ module _ (laws : Laws) (m : Files) where
   none-of-job job t os r s h =
       none-behind job.script t (named_inputs (form_by job.script) job.names) r s.script (none-of-named (form_by job.script) job.names os r (asks-by job.script) s.objects) h
 
-  none-alone : (i : Input) (r : Refused) → IsTakenAs i.form (held m i.name) → IsFirstRefused m (i ∷ []) r → ⊥
+  none-alone : (i : Input) (r : Refused) → IsTakenAs i.purpose (held m i.name) → IsFirstRefused m (i ∷ []) r → ⊥
   unfolding IsFirstRefused
-  none-alone i r t (inl h) = not_refused laws i.form (held m i.name) r.why t h.1
+  none-alone i r t (inl h) = not_refused laws i.purpose (held m i.name) r.why t h.1
   none-alone i r t (inr h) = h.1
 
   none-of-none : (r : Refused) → IsFirstRefused m [] r → ⊥
@@ -96,15 +96,15 @@ module _ (laws : Laws) (m : Files) where
 
   -- ---- the objects and the script of a run
 
-  one-list : (form : Form) (names : List (List ℕ)) (os ps : List Loadable) → AreTaken form m names os → AreTaken form m names ps → os ≡ ps
+  one-list : (purpose : Purpose) (names : List (List ℕ)) (os ps : List Loadable) → AreTaken purpose m names os → AreTaken purpose m names ps → os ≡ ps
   unfolding AreTaken
-  one-list form [] [] [] h g = refl
-  one-list form [] [] (p ∷ ps) h g = absurd g
-  one-list form [] (o ∷ os) ps h g = absurd h
-  one-list form (name ∷ names) [] ps h g = absurd h
-  one-list form (name ∷ names) (o ∷ os) [] h g = absurd g
-  one-list form (name ∷ names) (o ∷ os) (p ∷ ps) h g =
-      ap (λ (x : Loadable). x ∷ os) (one_taken laws form (held m name) o p h.0 g.0) ∙ ap (λ (xs : List Loadable). p ∷ xs) (one-list form names os ps h.1 g.1)
+  one-list purpose [] [] [] h g = refl
+  one-list purpose [] [] (p ∷ ps) h g = absurd g
+  one-list purpose [] (o ∷ os) ps h g = absurd h
+  one-list purpose (name ∷ names) [] ps h g = absurd h
+  one-list purpose (name ∷ names) (o ∷ os) [] h g = absurd g
+  one-list purpose (name ∷ names) (o ∷ os) (p ∷ ps) h g =
+      ap (λ (x : Loadable). x ∷ os) (one_taken laws purpose (held m name) o p h.0 g.0) ∙ ap (λ (xs : List Loadable). p ∷ xs) (one-list purpose names os ps h.1 g.1)
 
   one-script-of : (script : Option (List ℕ)) (t u : Script) → IsScriptOf m script t → IsScriptOf m script u → t ≡ u
   one-script-of None t u e f = e ∙ sym f
@@ -160,9 +160,9 @@ module _ (laws : Laws) (m : Files) where
   apart (Run job) x r d h = run-apart job x r d h
   apart (Check names) x r d (inl h) = none-of-named Checked names d.objects r tt d.taken h
   apart (Check names) x r d (inr h) = h
-  apart (Asm from to) x r d (inl h) = none-alone (record { name = from; form = Source }) r (d.object, d.assembles) h
+  apart (Asm from to) x r d (inl h) = none-alone (record { name = from; purpose = Source }) r (d.object, d.assembles) h
   apart (Asm from to) x r d (inr h) = h
-  apart (Insert from to) x r d (inl h) = none-alone (record { name = from; form = Plain }) r (d.object, d.guarded, d.guards) h
+  apart (Insert from to) x r d (inl h) = none-alone (record { name = from; purpose = Plain }) r (d.object, d.guarded, d.guards) h
   apart (Insert from to) x r d (inr h) = h
   apart (Gen seed to) x r d (inl h) = none-of-none r h
   apart (Gen seed to) x r d (inr h) = h

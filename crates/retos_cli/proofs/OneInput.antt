@@ -22,8 +22,8 @@ use Rattle.insert_model.specs.Faults.{IsFault, IsInserted, IsAnswer, SameAnswer}
 use Rattle.load_model.specs.Loading.{Loadable}
 use Rattle.trace_model.specs.declared.scripts.Script.{Script}
 use Rattle.trace_model.specs.Grammar.{script_of}
-use Rattle.retos_cli.specs.declared.form.Form.{Form}
-use Rattle.retos_cli.specs.declared.form.Form.TheVariants.{Checked, Application, Source, Plain, Script as Scripted}
+use Rattle.retos_cli.specs.declared.purpose.Purpose.{Purpose}
+use Rattle.retos_cli.specs.declared.purpose.Purpose.TheVariants.{Checked, Application, Source, Plain, Script as Scripted}
 use Rattle.retos_cli.specs.declared.outcome.Why.{Why}
 use Rattle.retos_cli.specs.declared.outcome.Why.TheVariants as why
 use Rattle.retos_cli.specs.Meaning.{most_bytes, IsTextOf, AsksObject, AsksCheck, Suits, IsFit, Taken, Assembles, Guards, Scripts, Refuses, IsTakenAs}
@@ -57,10 +57,10 @@ not_ok r x y e f = cc
 -- ---- what an input comes to: none of the causes where it is taken
 
 -- an object that is checked
-data Checks (form : Form) (o : Object) (a : Option Why) : Type 0 where
-  Unsuited : a ≡ Some why.NotApplication → (Suits form o → ⊥) → Checks form o a
-  Unsafe : (rule place : ℕ) → a ≡ Some (why.Check rule place) → Suits form o → IsVerdict o (verdict.Refused rule place) → Checks form o a
-  Fits : (units : List ℕ) → a ≡ None → IsFit form o units → Checks form o a
+data Checks (purpose : Purpose) (o : Object) (a : Option Why) : Type 0 where
+  Unsuited : a ≡ Some why.NotApplication → (Suits purpose o → ⊥) → Checks purpose o a
+  Unsafe : (rule place : ℕ) → a ≡ Some (why.Check rule place) → Suits purpose o → IsVerdict o (verdict.Refused rule place) → Checks purpose o a
+  Fits : (units : List ℕ) → a ≡ None → IsFit purpose o units → Checks purpose o a
 
 -- an object that gets guards
 data Inserts (o : Object) (a : Option Why) : Type 0 where
@@ -82,50 +82,50 @@ data Reads (bytes : List ℕ) (a : Option Why) : Type 0 where
   Faulty : (line : ℕ) → a ≡ Some (why.Script line) → script_of bytes ≡ Err line → Reads bytes a
   Stands : (t : Script) → a ≡ None → script_of bytes ≡ Ok t → Reads bytes a
 
-abbrev Judges : Form → List ℕ → Option Why → Type 0
+abbrev Judges : Purpose → List ℕ → Option Why → Type 0
 Judges Checked bytes a = OfText (Checks Checked) bytes a
 Judges Application bytes a = OfText (Checks Application) bytes a
 Judges Plain bytes a = OfText Inserts bytes a
 Judges Source bytes a = Sources bytes a
 Judges Scripted bytes a = Reads bytes a
 
-data Comes (form : Form) (held : Option (List ℕ)) (a : Option Why) : Type 0 where
-  Missing : a ≡ Some why.Absent → held ≡ None → Comes form held a
-  Long : (bytes : List ℕ) → a ≡ Some why.TooLong → held ≡ Some bytes → most_bytes < length bytes → Comes form held a
-  Judged : (bytes : List ℕ) → held ≡ Some bytes → length bytes ≤ most_bytes → Judges form bytes a → Comes form held a
+data Comes (purpose : Purpose) (held : Option (List ℕ)) (a : Option Why) : Type 0 where
+  Missing : a ≡ Some why.Absent → held ≡ None → Comes purpose held a
+  Long : (bytes : List ℕ) → a ≡ Some why.TooLong → held ≡ Some bytes → most_bytes < length bytes → Comes purpose held a
+  Judged : (bytes : List ℕ) → held ≡ Some bytes → length bytes ≤ most_bytes → Judges purpose bytes a → Comes purpose held a
 
 -- ---- each input that is taken or refused comes to that
 
-form-comes : (form : Form) (bytes : List ℕ) (k : FormKind) (x : ℕ) → AsksObject form → first_form_fault bytes ≡ Some (record { kind = k; offset = x }) → Judges form bytes (Some (why.Form k x))
+form-comes : (purpose : Purpose) (bytes : List ℕ) (k : FormKind) (x : ℕ) → AsksObject purpose → first_form_fault bytes ≡ Some (record { kind = k; offset = x }) → Judges purpose bytes (Some (why.Form k x))
 form-comes Checked bytes k x a e = Malformed k x refl e
 form-comes Application bytes k x a e = Malformed k x refl e
 form-comes Plain bytes k x a e = Malformed k x refl e
 form-comes Source bytes k x a e = absurd a
 form-comes Scripted bytes k x a e = absurd a
 
-check-comes : (form : Form) (o : Object) (a : Option Why) → AsksCheck form → Checks form o a → Judges form (object_bytes o) a
+check-comes : (purpose : Purpose) (o : Object) (a : Option Why) → AsksCheck purpose → Checks purpose o a → Judges purpose (object_bytes o) a
 check-comes Checked o a h c = Formed o refl c
 check-comes Application o a h c = Formed o refl c
 check-comes Plain o a h c = absurd h
 check-comes Source o a h c = absurd h
 check-comes Scripted o a h c = absurd h
 
-refused_comes : (form : Form) (held : Option (List ℕ)) (w : Why) → Refuses form held w → Comes form held (Some w)
+refused_comes : (purpose : Purpose) (held : Option (List ℕ)) (w : Why) → Refuses purpose held w → Comes purpose held (Some w)
 unfolding Refuses
-refused_comes form held why.Absent h = Missing refl h
-refused_comes form held why.TooLong (bytes, e, l) = Long bytes refl e l
-refused_comes form held (why.Form k x) (a, bytes, e, l, f) = Judged bytes e l (form-comes form bytes k x a f)
-refused_comes form held why.NotApplication (a, o, t, n) = Judged (object_bytes o) t.0 t.1 (check-comes form o (Some why.NotApplication) a (Unsuited refl n))
-refused_comes form held (why.Check r p) (a, o, t, s, v) = Judged (object_bytes o) t.0 t.1 (check-comes form o (Some (why.Check r p)) a (Unsafe r p refl s v))
-refused_comes form held (why.Room c) h = absurd h
-refused_comes form held (why.Line line k) (f, bytes, e, l, g) =
-    let P : Form → Type 0 = λ x. Comes x held (Some (why.Line line k)) in subst P (sym f) (Judged bytes e l (Wrong line k refl g))
-refused_comes form held (why.Script line) (f, bytes, e, l, g) =
-    let P : Form → Type 0 = λ x. Comes x held (Some (why.Script line)) in subst P (sym f) (Judged bytes e l (Faulty line refl g))
-refused_comes form held (why.Insert k x) (f, o, t, g) =
-    let P : Form → Type 0 = λ y. Comes y held (Some (why.Insert k x)) in subst P (sym f) (Judged (object_bytes o) t.0 t.1 (Formed o refl (Faulty k x refl g)))
+refused_comes purpose held why.Absent h = Missing refl h
+refused_comes purpose held why.TooLong (bytes, e, l) = Long bytes refl e l
+refused_comes purpose held (why.Form k x) (a, bytes, e, l, f) = Judged bytes e l (form-comes purpose bytes k x a f)
+refused_comes purpose held why.NotApplication (a, o, t, n) = Judged (object_bytes o) t.0 t.1 (check-comes purpose o (Some why.NotApplication) a (Unsuited refl n))
+refused_comes purpose held (why.Check r p) (a, o, t, s, v) = Judged (object_bytes o) t.0 t.1 (check-comes purpose o (Some (why.Check r p)) a (Unsafe r p refl s v))
+refused_comes purpose held (why.Room c) h = absurd h
+refused_comes purpose held (why.Line line k) (f, bytes, e, l, g) =
+    let P : Purpose → Type 0 = λ x. Comes x held (Some (why.Line line k)) in subst P (sym f) (Judged bytes e l (Wrong line k refl g))
+refused_comes purpose held (why.Script line) (f, bytes, e, l, g) =
+    let P : Purpose → Type 0 = λ x. Comes x held (Some (why.Script line)) in subst P (sym f) (Judged bytes e l (Faulty line refl g))
+refused_comes purpose held (why.Insert k x) (f, o, t, g) =
+    let P : Purpose → Type 0 = λ y. Comes y held (Some (why.Insert k x)) in subst P (sym f) (Judged (object_bytes o) t.0 t.1 (Formed o refl (Faulty k x refl g)))
 
-taken_comes : (form : Form) (held : Option (List ℕ)) → IsTakenAs form held → Comes form held None
+taken_comes : (purpose : Purpose) (held : Option (List ℕ)) → IsTakenAs purpose held → Comes purpose held None
 taken_comes Checked held (o, units, t) = Judged (object_bytes o) t.text.0 t.text.1 (Formed o refl (Fits units refl t.fit))
 taken_comes Application held (o, units, t) = Judged (object_bytes o) t.text.0 t.text.1 (Formed o refl (Fits units refl t.fit))
 taken_comes Plain held (o, q, g) = Judged (object_bytes o) g.text.0 g.text.1 (Formed o refl (Gets q refl g.gives))
@@ -135,18 +135,18 @@ taken_comes Scripted held (t, s) = Judged s.text s.held_is s.short (Stands t ref
 -- ---- two ways agree
 
 module _ (laws : Laws) where
-  same-checks : (form : Form) (o : Object) (a b : Option Why) → Checks form o a → Checks form o b → a ≡ b
-  same-checks form o a b (Unsuited e n) (Unsuited f m) = e ∙ sym f
-  same-checks form o a b (Unsuited e n) (Unsafe r p f s v) = absurd (n s)
-  same-checks form o a b (Unsuited e n) (Fits units f h) = absurd (n h.suits)
-  same-checks form o a b (Unsafe r p e s v) (Unsuited f n) = absurd (n s)
-  same-checks form o a b (Unsafe r p e s v) (Unsafe q x f t w) =
+  same-checks : (purpose : Purpose) (o : Object) (a b : Option Why) → Checks purpose o a → Checks purpose o b → a ≡ b
+  same-checks purpose o a b (Unsuited e n) (Unsuited f m) = e ∙ sym f
+  same-checks purpose o a b (Unsuited e n) (Unsafe r p f s v) = absurd (n s)
+  same-checks purpose o a b (Unsuited e n) (Fits units f h) = absurd (n h.suits)
+  same-checks purpose o a b (Unsafe r p e s v) (Unsuited f n) = absurd (n s)
+  same-checks purpose o a b (Unsafe r p e s v) (Unsafe q x f t w) =
       let same : (r ≡ q) × (p ≡ x) = laws.verdict o (verdict.Refused r p) (verdict.Refused q x) v w in
       e ∙ ap (λ (n : ℕ). Some (why.Check n p)) same.0 ∙ ap (λ (n : ℕ). Some (why.Check q n)) same.1 ∙ sym f
-  same-checks form o a b (Unsafe r p e s v) (Fits units f h) = absurd (laws.verdict o (verdict.Refused r p) (verdict.Accepted units) v h.accepted)
-  same-checks form o a b (Fits units e h) (Unsuited f n) = absurd (n h.suits)
-  same-checks form o a b (Fits units e h) (Unsafe r p f s v) = absurd (laws.verdict o (verdict.Accepted units) (verdict.Refused r p) h.accepted v)
-  same-checks form o a b (Fits units e h) (Fits others f g) = e ∙ sym f
+  same-checks purpose o a b (Unsafe r p e s v) (Fits units f h) = absurd (laws.verdict o (verdict.Refused r p) (verdict.Accepted units) v h.accepted)
+  same-checks purpose o a b (Fits units e h) (Unsuited f n) = absurd (n h.suits)
+  same-checks purpose o a b (Fits units e h) (Unsafe r p f s v) = absurd (laws.verdict o (verdict.Accepted units) (verdict.Refused r p) h.accepted v)
+  same-checks purpose o a b (Fits units e h) (Fits others f g) = e ∙ sym f
 
   same-inserts : (o : Object) (a b : Option Why) → Inserts o a → Inserts o b → a ≡ b
   same-inserts o a b (Faulty k x e h) (Faulty j y f g) =
@@ -184,33 +184,33 @@ module _ (laws : Laws) where
   same-reads bytes a b (Stands t e h) (Faulty l f g) = absurd (not_ok (script_of bytes) t l h g)
   same-reads bytes a b (Stands t e h) (Stands u f g) = e ∙ sym f
 
-  same-judges : (form : Form) (bytes : List ℕ) (a b : Option Why) → Judges form bytes a → Judges form bytes b → a ≡ b
+  same-judges : (purpose : Purpose) (bytes : List ℕ) (a b : Option Why) → Judges purpose bytes a → Judges purpose bytes b → a ≡ b
   same-judges Checked bytes a b h g = same-of-text (Checks Checked) (same-checks Checked) bytes a b h g
   same-judges Application bytes a b h g = same-of-text (Checks Application) (same-checks Application) bytes a b h g
   same-judges Plain bytes a b h g = same-of-text Inserts same-inserts bytes a b h g
   same-judges Source bytes a b h g = same-sources bytes a b h g
   same-judges Scripted bytes a b h g = same-reads bytes a b h g
 
-  same-comes : (form : Form) (held : Option (List ℕ)) (a b : Option Why) → Comes form held a → Comes form held b → a ≡ b
-  same-comes form held a b (Missing e h) (Missing f g) = e ∙ sym f
-  same-comes form held a b (Missing e h) (Long bytes f g l) = absurd (not_some held bytes h g)
-  same-comes form held a b (Missing e h) (Judged bytes g l j) = absurd (not_some held bytes h g)
-  same-comes form held a b (Long bytes e h l) (Missing f g) = absurd (not_some held bytes g h)
-  same-comes form held a b (Long bytes e h l) (Long others f g k) = e ∙ sym f
-  same-comes form held a b (Long bytes e h l) (Judged others g k j) = absurd (omega (arith, l, k, ap length (same_some held bytes others h g)))
-  same-comes form held a b (Judged bytes h l j) (Missing f g) = absurd (not_some held bytes g h)
-  same-comes form held a b (Judged bytes h l j) (Long others f g k) = absurd (omega (arith, l, k, ap length (same_some held bytes others h g)))
-  same-comes form held a b (Judged bytes h l j) (Judged others g k i) =
-      let P : List ℕ → Type 0 = λ x. Judges form x a in
-      same-judges form others a b (subst P (same_some held bytes others h g) j) i
+  same-comes : (purpose : Purpose) (held : Option (List ℕ)) (a b : Option Why) → Comes purpose held a → Comes purpose held b → a ≡ b
+  same-comes purpose held a b (Missing e h) (Missing f g) = e ∙ sym f
+  same-comes purpose held a b (Missing e h) (Long bytes f g l) = absurd (not_some held bytes h g)
+  same-comes purpose held a b (Missing e h) (Judged bytes g l j) = absurd (not_some held bytes h g)
+  same-comes purpose held a b (Long bytes e h l) (Missing f g) = absurd (not_some held bytes g h)
+  same-comes purpose held a b (Long bytes e h l) (Long others f g k) = e ∙ sym f
+  same-comes purpose held a b (Long bytes e h l) (Judged others g k j) = absurd (omega (arith, l, k, ap length (same_some held bytes others h g)))
+  same-comes purpose held a b (Judged bytes h l j) (Missing f g) = absurd (not_some held bytes g h)
+  same-comes purpose held a b (Judged bytes h l j) (Long others f g k) = absurd (omega (arith, l, k, ap length (same_some held bytes others h g)))
+  same-comes purpose held a b (Judged bytes h l j) (Judged others g k i) =
+      let P : List ℕ → Type 0 = λ x. Judges purpose x a in
+      same-judges purpose others a b (subst P (same_some held bytes others h g) j) i
 
   -- what is taken isn't refused
-  pub not_refused : (form : Form) (held : Option (List ℕ)) (w : Why) → IsTakenAs form held → Refuses form held w → ⊥
-  not_refused form held w t r = let e : None ≡ Some w = same-comes form held None (Some w) (taken_comes form held t) (refused_comes form held w r) in cc e
+  pub not_refused : (purpose : Purpose) (held : Option (List ℕ)) (w : Why) → IsTakenAs purpose held → Refuses purpose held w → ⊥
+  not_refused purpose held w t r = let e : None ≡ Some w = same-comes purpose held None (Some w) (taken_comes purpose held t) (refused_comes purpose held w r) in cc e
 
   -- and what is refused has one cause
-  pub same_cause : (form : Form) (held : Option (List ℕ)) (v w : Why) → Refuses form held v → Refuses form held w → v ≡ w
-  same_cause form held v w r s = let e : Some v ≡ Some w = same-comes form held (Some v) (Some w) (refused_comes form held v r) (refused_comes form held w s) in cc e
+  pub same_cause : (purpose : Purpose) (held : Option (List ℕ)) (v w : Why) → Refuses purpose held v → Refuses purpose held w → v ≡ w
+  same_cause purpose held v w r s = let e : Some v ≡ Some w = same-comes purpose held (Some v) (Some w) (refused_comes purpose held v r) (refused_comes purpose held w s) in cc e
 
   -- ---- what is taken is one thing
 
@@ -225,8 +225,8 @@ module _ (laws : Laws) where
       ap (λ (o : Object). let x : Loadable = record { object = o; units = a.units } in x) e
       ∙ ap (λ (u : List ℕ). let x : Loadable = record { object = b.object; units = u } in x) f
 
-  pub one_taken : (form : Form) (held : Option (List ℕ)) (a b : Loadable) → Taken form held a.object a.units → Taken form held b.object b.units → a ≡ b
-  one_taken form held a b t u =
+  pub one_taken : (purpose : Purpose) (held : Option (List ℕ)) (a b : Loadable) → Taken purpose held a.object a.units → Taken purpose held b.object b.units → a ≡ b
+  one_taken purpose held a b t u =
       let e : a.object ≡ b.object = one_text held a.object b.object t.text u.text in
       let P : Object → Type 0 = λ o. IsAccepted o a.units in
       one_loadable a b e (one_units b.object a.units b.units (subst P e t.fit.accepted) u.fit.accepted t.fit.bitmap u.fit.bitmap)

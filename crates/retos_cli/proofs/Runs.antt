@@ -23,8 +23,8 @@ use Rattle.retos_node.specs.Parts.{parts, IsBootFault, IsRunEnd, RunsTo, RunsUpT
 use Rattle.retos_cli.specs.declared.command.Job.{Job}
 use Rattle.retos_cli.specs.declared.command.Command.{Command}
 use Rattle.retos_cli.specs.declared.command.Command.TheVariants.{Run, Check}
-use Rattle.retos_cli.specs.declared.form.Form.{Form}
-use Rattle.retos_cli.specs.declared.form.Form.TheVariants.{Checked, Script as Scripted}
+use Rattle.retos_cli.specs.declared.purpose.Purpose.{Purpose}
+use Rattle.retos_cli.specs.declared.purpose.Purpose.TheVariants.{Checked, Script as Scripted}
 use Rattle.retos_cli.specs.declared.outcome.Outcome.{Outcome}
 use Rattle.retos_cli.specs.declared.outcome.Outcome.TheVariants.{Done, BadWords, Stopped, WriteFault}
 use Rattle.retos_cli.specs.declared.outcome.Stop.{Stop}
@@ -50,7 +50,7 @@ one_cause f0 f1 i NoMemory h = tt
 -- the script that is named
 named-script : (f0 f1 : FolderState) (name : List ℕ) (r : Result Script Stop) → TextEnds f0 f1 name r → ScriptEnds f0 f1 (Some name) r
 named-script f0 f1 name (Ok t) h = h
-named-script f0 f1 name (Err s) h = one_cause f0 f1 (record { name = name; form = Scripted }) s h
+named-script f0 f1 name (Err s) h = one_cause f0 f1 (record { name = name; purpose = Scripted }) s h
 
 pub script_got : (f0 f1 : FolderState) (script : Option (List ℕ)) (name : List ℕ) (r : Result Script Stop) → script ≡ Some name → TextEnds f0 f1 name r → ScriptEnds f0 f1 script r
 script_got f0 f1 script name r e h = let P : Option (List ℕ) → Type 0 = λ s. ScriptEnds f0 f1 s r in subst P (sym e) (named-script f0 f1 name r h)
@@ -81,7 +81,7 @@ reached-more m i others n (inl h) = inl h
 reached-more m i others n (inr h) = absurd h.1
 
 abbrev scripted : List ℕ → Input
-scripted name = record { name = name; form = Scripted }
+scripted name = record { name = name; purpose = Scripted }
 
 refused-by-script : (m : Files) (script : Option (List ℕ)) (others : List Input) (r : Refused) → IsFirstRefused m (behind_script script []) r → IsFirstRefused m (behind_script script others) r
 refused-by-script m None others r h = absurd (none-refused m r h)
@@ -129,16 +129,16 @@ stops-behind f0 f1 f2 script t others (ReadFault n) k l h = record {
 }
 stops-behind f0 f1 f2 script t others NoMemory k l h = tt
 
-pub objects_stop : (f0 f1 f2 : FolderState) (job : Job) (t : Script) (form : Form) (s : Stop)
-    → Told f0.files (λ m. IsScriptOf m job.script t) → OnlyRead f0 f1 → form ≡ form_by job.script → StopCause (named_inputs form job.names) f1 f2 s → StopCause (job_inputs job) f0 f2 s
-objects_stop f0 f1 f2 job t form s k l e h =
-    let P : Form → Type 0 = λ x. StopCause (named_inputs x job.names) f1 f2 s in
+pub objects_stop : (f0 f1 f2 : FolderState) (job : Job) (t : Script) (purpose : Purpose) (s : Stop)
+    → Told f0.files (λ m. IsScriptOf m job.script t) → OnlyRead f0 f1 → purpose ≡ form_by job.script → StopCause (named_inputs purpose job.names) f1 f2 s → StopCause (job_inputs job) f0 f2 s
+objects_stop f0 f1 f2 job t purpose s k l e h =
+    let P : Purpose → Type 0 = λ x. StopCause (named_inputs x job.names) f1 f2 s in
     stops-behind f0 f1 f2 job.script t (named_inputs (form_by job.script) job.names) s k l (subst P e h)
 
-pub supplied : (f0 f1 : FolderState) (job : Job) (t : Script) (os : List Loadable) (form : Form)
-    → Told f0.files (λ m. IsScriptOf m job.script t) → OnlyRead f0 f1 → form ≡ form_by job.script → Told f1.files (λ m. AreTaken form m job.names os) → Told f0.files (λ m. IsSupplied m job t os)
-supplied f0 f1 job t os form k l e h =
-    let P : Form → Type 0 = λ x. Told f1.files (λ m. AreTaken x m job.names os) in
+pub supplied : (f0 f1 : FolderState) (job : Job) (t : Script) (os : List Loadable) (purpose : Purpose)
+    → Told f0.files (λ m. IsScriptOf m job.script t) → OnlyRead f0 f1 → purpose ≡ form_by job.script → Told f1.files (λ m. AreTaken purpose m job.names os) → Told f0.files (λ m. IsSupplied m job t os)
+supplied f0 f1 job t os purpose k l e h =
+    let P : Purpose → Type 0 = λ x. Told f1.files (λ m. AreTaken x m job.names os) in
     told_both f0.files (λ m. IsScriptOf m job.script t) (λ m. AreTaken (form_by job.script) m job.names os) (λ m. IsSupplied m job t os) (λ m s x y. record { script = x; objects = y }) k
     (told_same f0.files f1.files (λ m. AreTaken (form_by job.script) m job.names os) l.files (subst P e h))
 

@@ -8,7 +8,7 @@ use Rattle.code_model.specs.declared.object.Object.{Object}
 use Rattle.object_form.specs.Spelling.{object_bytes}
 use Rattle.retos_cli.specs.declared.command.Command.{Command}
 use Rattle.retos_cli.specs.declared.command.Command.TheVariants.{Run, Check, Asm, Insert, Gen}
-use Rattle.retos_cli.specs.declared.form.Form.TheVariants.{Source}
+use Rattle.retos_cli.specs.declared.purpose.Purpose.TheVariants.{Source}
 use Rattle.retos_cli.specs.declared.outcome.Outcome.{Outcome}
 use Rattle.retos_cli.specs.declared.outcome.Outcome.TheVariants.{Done, BadWords, Stopped, WriteFault}
 use Rattle.retos_cli.specs.declared.outcome.Stop.{Stop}
@@ -66,7 +66,7 @@ pub asm_ended : (f0 f1 f2 : FolderState) (o0 o1 : SinkState) (from to : List ℕ
 asm_ended f0 f1 f2 o0 o1 from to o line r t l e h = let P : List ℕ → Type 0 = λ x. IsPut f1 f2 o0 o1 to o x r in ended-by f0 f1 f2 o0 o1 from to o r t l (subst P e h)
 
 abbrev sourced : List ℕ → Input
-sourced name = record { name = name; form = Source }
+sourced name = record { name = name; purpose = Source }
 
 pub asm_stopped : (f0 f1 : FolderState) (o0 o1 : SinkState) (from to : List ℕ) (s : Stop) → InputStops f0 f1 (sourced from) s → OnlyRead f0 f1 → o1 ≡ o0 → Ended (Asm from to) f0 f1 o0 o1 (Stopped s)
 asm_stopped f0 f1 o0 o1 from to s h l e = record { read = l; cause = command_cause (Asm from to) f0 f1 s (one_cause f0 f1 (sourced from) s h); out = e }

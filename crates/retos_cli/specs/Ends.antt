@@ -16,8 +16,8 @@ use Rattle.retos_cli.specs.declared.outcome.Outcome.TheVariants.{Done, BadWords,
 use Rattle.retos_cli.specs.declared.outcome.Refused.{Refused}
 use Rattle.retos_cli.specs.declared.outcome.Status.{Status}
 use Rattle.retos_cli.specs.declared.outcome.Status.TheVariants as status
-use Rattle.retos_cli.specs.declared.form.Form.{Form}
-use Rattle.retos_cli.specs.declared.form.Form.TheVariants.{Source, Plain, Script as Scripted}
+use Rattle.retos_cli.specs.declared.purpose.Purpose.{Purpose}
+use Rattle.retos_cli.specs.declared.purpose.Purpose.TheVariants.{Source, Plain, Script as Scripted}
 use Rattle.load_model.specs.Loading.{Loadable}
 use Rattle.trace_model.specs.declared.scripts.Script.{Script}
 use Rattle.retos_cli.specs.declared.command.Job.{Job}
@@ -39,7 +39,7 @@ pub record OnlyRead (f0 f1 : FolderState) : Type 0 where
 -- a refusal names this input
 pub record RefusesInput (m : Files) (input : Input) (r : Refused) : Type 0 where
   pub name_is : r.name ≡ input.name
-  pub refuses : Refuses input.form (held m input.name) r.why
+  pub refuses : Refuses input.purpose (held m input.name) r.why
 
 -- the name is held
 abbrev pub IsHeld : Files → List ℕ → Type 0
@@ -60,23 +60,23 @@ InputStops f0 f1 input NoMemory = Unit {0}
 
 -- what taking one input came to
 abbrev pub InputEnds : FolderState → FolderState → Input → Result (Object × List ℕ) Stop → Type 0
-InputEnds f0 f1 input (Ok x) = Told f0.files (λ m. Taken input.form (held m input.name) x.0 x.1)
+InputEnds f0 f1 input (Ok x) = Told f0.files (λ m. Taken input.purpose (held m input.name) x.0 x.1)
 InputEnds f0 f1 input (Err stop) = InputStops f0 f1 input stop
 
 -- what assembling one source came to
 abbrev pub SourceEnds : FolderState → FolderState → List ℕ → Result Object Stop → Type 0
 SourceEnds f0 f1 name (Ok o) = Told f0.files (λ m. Assembles (held m name) o)
-SourceEnds f0 f1 name (Err stop) = InputStops f0 f1 (record { name = name; form = Source }) stop
+SourceEnds f0 f1 name (Err stop) = InputStops f0 f1 (record { name = name; purpose = Source }) stop
 
 -- what giving one object its guards came to
 abbrev pub PlainEnds : FolderState → FolderState → List ℕ → Result Object Stop → Type 0
 PlainEnds f0 f1 name (Ok q) = Told f0.files (λ m. (o : Object) × Guards (held m name) o q)
-PlainEnds f0 f1 name (Err stop) = InputStops f0 f1 (record { name = name; form = Plain }) stop
+PlainEnds f0 f1 name (Err stop) = InputStops f0 f1 (record { name = name; purpose = Plain }) stop
 
 -- what reading one script came to
 abbrev pub TextEnds : FolderState → FolderState → List ℕ → Result Script Stop → Type 0
 TextEnds f0 f1 name (Ok t) = Told f0.files (λ m. Scripts (held m name) t)
-TextEnds f0 f1 name (Err stop) = InputStops f0 f1 (record { name = name; form = Scripted }) stop
+TextEnds f0 f1 name (Err stop) = InputStops f0 f1 (record { name = name; purpose = Scripted }) stop
 
 -- the read of an input failed in this call, before which nothing is refused
 pub record FailedRead (all : List Input) (f0 f1 : FolderState) (failed : List ℕ) : Type 0 where
@@ -97,9 +97,9 @@ ScriptEnds f0 f1 script (Ok t) = Told f0.files (λ m. IsScriptOf m script t)
 ScriptEnds f0 f1 script (Err stop) = StopCause (behind_script script []) f0 f1 stop
 
 -- what taking objects came to
-abbrev pub ObjectsEnd : Form → FolderState → FolderState → List (List ℕ) → Result (List Loadable) Stop → Type 0
-ObjectsEnd form f0 f1 names (Ok os) = Told f0.files (λ m. AreTaken form m names os)
-ObjectsEnd form f0 f1 names (Err stop) = StopCause (named_inputs form names) f0 f1 stop
+abbrev pub ObjectsEnd : Purpose → FolderState → FolderState → List (List ℕ) → Result (List Loadable) Stop → Type 0
+ObjectsEnd purpose f0 f1 names (Ok os) = Told f0.files (λ m. AreTaken purpose m names os)
+ObjectsEnd purpose f0 f1 names (Err stop) = StopCause (named_inputs purpose names) f0 f1 stop
 
 -- what all inputs of a run came to
 abbrev pub SupplyEnds : FolderState → FolderState → Job → Result (Script × List Loadable) Stop → Type 0

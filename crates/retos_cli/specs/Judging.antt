@@ -3,8 +3,8 @@ use Rattle.std.specs.Prelude.{ℕ, List, Some, Ok, Err}
 use Rattle.std.specs.declared.result.Result.{Result}
 use Rattle.code_model.specs.declared.object.Object.{Object}
 use Rattle.trace_model.specs.declared.scripts.Script.{Script}
-use Rattle.retos_cli.specs.declared.form.Form.{Form}
-use Rattle.retos_cli.specs.declared.form.Form.TheVariants.{Plain, Script as Scripted}
+use Rattle.retos_cli.specs.declared.purpose.Purpose.{Purpose}
+use Rattle.retos_cli.specs.declared.purpose.Purpose.TheVariants.{Plain, Script as Scripted}
 use Rattle.retos_cli.specs.declared.input.Judged.{Judged}
 use Rattle.retos_cli.specs.declared.input.Judged.TheVariants.{Refused, NoMemory}
 use Rattle.edge_io.specs.declared.whole.InputFault.{InputFault}
@@ -22,10 +22,10 @@ stop_of name fault.Failed = ReadFault name
 stop_of name fault.Memory = Unserved
 
 -- the object of a text, or why the text is refused
-abbrev pub IsJudged : Form → List ℕ → Result (Object × List ℕ) Judged → Type 0
-IsJudged form text (Ok x) = Taken form (Some text) x.0 x.1
-IsJudged form text (Err (Refused why)) = Refuses form (Some text) why
-IsJudged form text (Err NoMemory) = Unit {0}
+abbrev pub IsJudged : Purpose → List ℕ → Result (Object × List ℕ) Judged → Type 0
+IsJudged purpose text (Ok x) = Taken purpose (Some text) x.0 x.1
+IsJudged purpose text (Err (Refused why)) = Refuses purpose (Some text) why
+IsJudged purpose text (Err NoMemory) = Unit {0}
 
 -- the object of a text with its guards, or why the text is refused
 abbrev pub IsGuarded : List ℕ → Result Object Judged → Type 0

@@ -25,8 +25,8 @@ use Rattle.node_model.specs.Nodes.{trace_text, end_line}
 use Rattle.retos_cli.specs.declared.command.Job.{Job}
 use Rattle.retos_cli.specs.declared.command.Command.{Command}
 use Rattle.retos_cli.specs.declared.command.Command.TheVariants.{Run, Check, Asm, Insert, Gen}
-use Rattle.retos_cli.specs.declared.form.Form.{Form}
-use Rattle.retos_cli.specs.declared.form.Form.TheVariants.{Checked, Application, Source, Plain, Script as Scripted}
+use Rattle.retos_cli.specs.declared.purpose.Purpose.{Purpose}
+use Rattle.retos_cli.specs.declared.purpose.Purpose.TheVariants.{Checked, Application, Source, Plain, Script as Scripted}
 use Rattle.retos_cli.specs.declared.outcome.Why.{Why}
 use Rattle.retos_cli.specs.declared.outcome.Why.TheVariants as why
 use Rattle.retos_cli.specs.declared.outcome.Refused.{Refused}
@@ -45,7 +45,7 @@ abbrev pub IsTextOf : Option (List ℕ) → Object → Type 0
 IsTextOf held o = (held ≡ Some (object_bytes o)) × (length (object_bytes o) ≤ most_bytes)
 
 -- the input is to be an object
-abbrev pub AsksObject : Form → Type 0
+abbrev pub AsksObject : Purpose → Type 0
 AsksObject Checked = Unit {0}
 AsksObject Application = Unit {0}
 AsksObject Plain = Unit {0}
@@ -53,7 +53,7 @@ AsksObject Source = ⊥
 AsksObject Scripted = ⊥
 
 -- the input is to be an object that the checker accepts
-abbrev pub AsksCheck : Form → Type 0
+abbrev pub AsksCheck : Purpose → Type 0
 AsksCheck Checked = Unit {0}
 AsksCheck Application = Unit {0}
 AsksCheck Plain = ⊥
@@ -61,7 +61,7 @@ AsksCheck Source = ⊥
 AsksCheck Scripted = ⊥
 
 -- what is asked before the check. No object is a text of lines, and one that is to get guards isn't checked
-abbrev pub Suits : Form → Object → Type 0
+abbrev pub Suits : Purpose → Object → Type 0
 Suits Checked o = Unit {0}
 Suits Application o = o.kind ≡ kind.App
 Suits Source o = ⊥
@@ -69,15 +69,15 @@ Suits Plain o = ⊥
 Suits Scripted o = ⊥
 
 -- the object is one that the command takes
-pub record IsFit (form : Form) (o : Object) (units : List ℕ) : Type 0 where
-  pub suits : Suits form o
+pub record IsFit (purpose : Purpose) (o : Object) (units : List ℕ) : Type 0 where
+  pub suits : Suits purpose o
   pub accepted : IsAccepted o units
   pub bitmap : AreMarks units
 
 -- the input is an accepted object that the command takes
-pub record Taken (form : Form) (held : Option (List ℕ)) (o : Object) (units : List ℕ) : Type 0 where
+pub record Taken (purpose : Purpose) (held : Option (List ℕ)) (o : Object) (units : List ℕ) : Type 0 where
   pub text : IsTextOf held o
-  pub fit : IsFit form o units
+  pub fit : IsFit purpose o units
 
 -- the input is a source that assembles to this object
 pub record Assembles (held : Option (List ℕ)) (o : Object) : Type 0 where
@@ -101,35 +101,35 @@ pub record Scripts (held : Option (List ℕ)) (t : Script) : Type 0 where
 -- The input is refused for this. A source and a script are refused for a line alone, an object that is to get guards for its text or
 -- for what the inserter finds, and an object that is checked for its text, its kind or its check; what isn't held or is too long is
 -- none of them. Room is asked for once all inputs are taken
-unfoldable pub Refuses : Form → Option (List ℕ) → Why → Type 0
-Refuses form held why.Absent = held ≡ None
-Refuses form held why.TooLong = (bytes : List ℕ) × (held ≡ Some bytes) × (most_bytes < length bytes)
-Refuses form held (why.Form k at) = AsksObject form × (bytes : List ℕ) × (held ≡ Some bytes) × (length bytes ≤ most_bytes) × (first_form_fault bytes ≡ Some (record { kind = k; offset = at }))
-Refuses form held why.NotApplication = AsksCheck form × (o : Object) × IsTextOf held o × (Suits form o → ⊥)
-Refuses form held (why.Check rule place) = AsksCheck form × (o : Object) × IsTextOf held o × Suits form o × IsVerdict o (verdict.Refused rule place)
-Refuses form held (why.Room cause) = ⊥
-Refuses form held (why.Line line k) = (form ≡ Source) × (bytes : List ℕ) × (held ≡ Some bytes) × (length bytes ≤ most_bytes) × (assembled bytes ≡ Err (fault line k))
-Refuses form held (why.Script line) = (form ≡ Scripted) × (bytes : List ℕ) × (held ≡ Some bytes) × (length bytes ≤ most_bytes) × (script_of bytes ≡ Err line)
-Refuses form held (why.Insert k at) = (form ≡ Plain) × (o : Object) × IsTextOf held o × IsFault o k at
+unfoldable pub Refuses : Purpose → Option (List ℕ) → Why → Type 0
+Refuses purpose held why.Absent = held ≡ None
+Refuses purpose held why.TooLong = (bytes : List ℕ) × (held ≡ Some bytes) × (most_bytes < length bytes)
+Refuses purpose held (why.Form k at) = AsksObject purpose × (bytes : List ℕ) × (held ≡ Some bytes) × (length bytes ≤ most_bytes) × (first_form_fault bytes ≡ Some (record { kind = k; offset = at }))
+Refuses purpose held why.NotApplication = AsksCheck purpose × (o : Object) × IsTextOf held o × (Suits purpose o → ⊥)
+Refuses purpose held (why.Check rule place) = AsksCheck purpose × (o : Object) × IsTextOf held o × Suits purpose o × IsVerdict o (verdict.Refused rule place)
+Refuses purpose held (why.Room cause) = ⊥
+Refuses purpose held (why.Line line k) = (purpose ≡ Source) × (bytes : List ℕ) × (held ≡ Some bytes) × (length bytes ≤ most_bytes) × (assembled bytes ≡ Err (fault line k))
+Refuses purpose held (why.Script line) = (purpose ≡ Scripted) × (bytes : List ℕ) × (held ≡ Some bytes) × (length bytes ≤ most_bytes) × (script_of bytes ≡ Err line)
+Refuses purpose held (why.Insert k at) = (purpose ≡ Plain) × (o : Object) × IsTextOf held o × IsFault o k at
 
 -- ---- the inputs of a command
 
 pub record Input : Type 0 where
   pub name : List ℕ
-  pub form : Form
+  pub purpose : Purpose
 
 -- a run under a script takes all objects, one without takes an application
-abbrev pub form_by : (script : Option (List ℕ)) → Form
+abbrev pub form_by : (script : Option (List ℕ)) → Purpose
 form_by None = Application
 form_by (Some script) = Checked
 
-abbrev pub named_inputs : Form → List (List ℕ) → List Input
-named_inputs form [] = []
-named_inputs form (name ∷ names) = record { name = name; form = form } ∷ named_inputs form names
+abbrev pub named_inputs : Purpose → List (List ℕ) → List Input
+named_inputs purpose [] = []
+named_inputs purpose (name ∷ names) = record { name = name; purpose = purpose } ∷ named_inputs purpose names
 
 abbrev pub behind_script : (script : Option (List ℕ)) → List Input → List Input
 behind_script None others = others
-behind_script (Some name) others = record { name = name; form = Scripted } ∷ others
+behind_script (Some name) others = record { name = name; purpose = Scripted } ∷ others
 
 -- the script, if one is named, and then the objects
 abbrev pub job_inputs : Job → List Input
@@ -138,11 +138,11 @@ job_inputs job = behind_script job.script (named_inputs (form_by job.script) job
 abbrev pub inputs : Command → List Input
 inputs (Run job) = job_inputs job
 inputs (Check names) = named_inputs Checked names
-inputs (Asm from to) = record { name = from; form = Source } ∷ []
-inputs (Insert from to) = record { name = from; form = Plain } ∷ []
+inputs (Asm from to) = record { name = from; purpose = Source } ∷ []
+inputs (Insert from to) = record { name = from; purpose = Plain } ∷ []
 inputs (Gen seed to) = []
 
-abbrev pub IsTakenAs : Form → Option (List ℕ) → Type 0
+abbrev pub IsTakenAs : Purpose → Option (List ℕ) → Type 0
 IsTakenAs Checked held = (o : Object) × (units : List ℕ) × Taken Checked held o units
 IsTakenAs Application held = (o : Object) × (units : List ℕ) × Taken Application held o units
 IsTakenAs Source held = (o : Object) × Assembles held o
@@ -150,13 +150,13 @@ IsTakenAs Plain held = (o : Object) × (q : Object) × Guards held o q
 IsTakenAs Scripted held = (t : Script) × Scripts held t
 
 unfoldable pub IsTaken : Files → Input → Type 0
-IsTaken m input = IsTakenAs input.form (held m input.name)
+IsTaken m input = IsTakenAs input.purpose (held m input.name)
 
 -- the first input that is refused, and why
 unfoldable pub IsFirstRefused : Files → List Input → Refused → Type 0
 IsFirstRefused m [] r = ⊥
 IsFirstRefused m (input ∷ others) r =
-    ((r.name ≡ input.name) × Refuses input.form (held m input.name) r.why)
+    ((r.name ≡ input.name) × Refuses input.purpose (held m input.name) r.why)
     ⊎ (IsTaken m input × IsFirstRefused m others r)
 
 -- this is the name of an input, before which nothing is refused
@@ -167,11 +167,11 @@ IsReached m (input ∷ others) name = (name ≡ input.name) ⊎ (IsTaken m input
 -- ---- the objects of several inputs, and their room
 
 -- the inputs of these names are these objects
-unfoldable pub AreTaken : Form → Files → List (List ℕ) → List Loadable → Type 0
-AreTaken form m [] [] = Unit {0}
-AreTaken form m [] (o ∷ os) = ⊥
-AreTaken form m (name ∷ names) [] = ⊥
-AreTaken form m (name ∷ names) (o ∷ os) = Taken form (held m name) o.object o.units × AreTaken form m names os
+unfoldable pub AreTaken : Purpose → Files → List (List ℕ) → List Loadable → Type 0
+AreTaken purpose m [] [] = Unit {0}
+AreTaken purpose m [] (o ∷ os) = ⊥
+AreTaken purpose m (name ∷ names) [] = ⊥
+AreTaken purpose m (name ∷ names) (o ∷ os) = Taken purpose (held m name) o.object o.units × AreTaken purpose m names os
 
 -- the named script, or the empty one
 abbrev pub IsScriptOf : Files → (script : Option (List ℕ)) → Script → Type 0

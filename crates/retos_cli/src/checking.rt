@@ -11,10 +11,10 @@ ghost use Rattle.retos_cli.specs.Lines.{accepted_line, accepted_lines};
 
 use super::command::Names;
 use super::counted::{count_units, count_words};
-use super::form::Form;
 use super::input::take_all;
 use super::lines::of_accepted;
 use super::outcome::Outcome;
+use super::purpose::Purpose;
 use edge_io::folder::Folder;
 use edge_io::sink::Sink;
 use edge_io::whole::{SinkFault, write_all};
@@ -32,7 +32,7 @@ pub fn check_all<F: Folder, O: Sink>(
     requires { length names.now ≤ 16 }
     ensures { Ended (Check names.now) (F.state files.old) (F.state files.new) (O.state out.old) (O.state out.new) result }
 {
-    match take_all(alloc, files, names, Form::Checked) {
+    match take_all(alloc, files, names, Purpose::Checked) {
         Ok(objects) => match print_lines(names, &objects, out) {
             Ok(()) => Outcome::Done(false),
             Err(_) => Outcome::WriteFault,

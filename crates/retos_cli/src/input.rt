@@ -8,8 +8,8 @@ ghost use Rattle.retos_cli.specs.Judging.{IsJudged, IsRead, stop_of};
 ghost use Rattle.retos_cli.specs.Ends.{InputEnds, ObjectsEnd, TextEnds, OnlyRead};
 
 use super::command::Names;
-use super::form::Form;
 use super::outcome::{Refused, Stop, Why};
+use super::purpose::Purpose;
 use code_model::marks::Marks;
 use code_model::object::Object;
 use code_model::parts::Kind;
@@ -36,18 +36,18 @@ pub fn take_all<F: Folder>(
     alloc: Global,
     files: &mut F,
     names: &Names,
-    form: Form,
+    purpose: Purpose,
 ) -> Result<ObjectList, Stop>
-    requires asked { AsksCheck form }
+    requires asked { AsksCheck purpose }
     requires few { length names.now ≤ 16 }
-    ensures ends { ObjectsEnd form (F.state files.old) (F.state files.new) names.now result }
+    ensures ends { ObjectsEnd purpose (F.state files.old) (F.state files.new) names.now result }
     ensures many { IfOk result (λ objects. length objects ≡ length names.now) }
     ensures read { OnlyRead (F.state files.old) (F.state files.new) }
 {
     let mut objects = ObjectList::new(alloc);
     let mut at = 0;
     'inputs: while at < names.len() {
-        match take(alloc, files, names.at(at), form) {
+        match take(alloc, files, names.at(at), purpose) {
             Ok((object, marks)) => match objects.push(object, marks) {
                 Ok(()) => {}
                 Err(_) => return Err(Stop::NoMemory),
@@ -64,15 +64,15 @@ fn take<F: Folder>(
     alloc: Global,
     files: &mut F,
     name: &Name,
-    form: Form,
+    purpose: Purpose,
 ) -> Result<(Object, Marks), Stop>
-    requires { AsksCheck form }
-    ensures ends { InputEnds (F.state files.old) (F.state files.new) (record { name = name.now; form = form }) result }
-    ensures fit { IfOk result (λ x. IsFit form x.0 x.1) }
+    requires { AsksCheck purpose }
+    ensures ends { InputEnds (F.state files.old) (F.state files.new) (record { name = name.now; purpose = purpose }) result }
+    ensures fit { IfOk result (λ x. IsFit purpose x.0 x.1) }
     ensures read { OnlyRead (F.state files.old) (F.state files.new) }
 {
     match read_all(alloc, files, name) {
-        Ok(bytes) => match judge(alloc, bytes.as_slice(), form) {
+        Ok(bytes) => match judge(alloc, bytes.as_slice(), purpose) {
             Ok(taken) => Ok(taken),
             Err(Judged::Refused(why)) => Err(Stop::Refuse(Refused {
                 name: name.copied(),
@@ -104,13 +104,13 @@ pub fn unread(name: &Name, fault: InputFault) -> Stop
 
 /// The object of a text that is taken, or why it is refused.
 #[tactic(auto, using(crate::proofs::Judgments::refuses_form))]
-fn judge(alloc: Global, text: &[u8], form: Form) -> Result<(Object, Marks), Judged>
+fn judge(alloc: Global, text: &[u8], purpose: Purpose) -> Result<(Object, Marks), Judged>
     requires size { length text.now ≤ 1048576 }
-    requires asked { AsksCheck form }
-    ensures { IsJudged form text.now result }
+    requires asked { AsksCheck purpose }
+    ensures { IsJudged purpose text.now result }
 {
     match read_object(alloc, text) {
-        Ok(object) => judge_object(object, form),
+        Ok(object) => judge_object(object, purpose),
         Err(FormFault::At { kind, offset }) => Err(Judged::Refused(Why::Form { kind, at: offset })),
         Err(FormFault::Memory) => Err(Judged::NoMemory),
     }
@@ -118,12 +118,12 @@ fn judge(alloc: Global, text: &[u8], form: Form) -> Result<(Object, Marks), Judg
 
 /// The object with its marks where it is taken, or why not.
 #[tactic(auto, using(crate::proofs::Judgments::refuses_unsuited, crate::proofs::Judgments::refuses_check))]
-fn judge_object(object: Object, form: Form) -> Result<(Object, Marks), Judged>
+fn judge_object(object: Object, purpose: Purpose) -> Result<(Object, Marks), Judged>
     requires size { length (object_bytes object) ≤ 1048576 }
-    requires asked { AsksCheck form }
-    ensures { IsJudged form (object_bytes object) result }
+    requires asked { AsksCheck purpose }
+    ensures { IsJudged purpose (object_bytes object) result }
 {
-    if !suits(form, &object) {
+    if !suits(purpose, &object) {
         return Err(Judged::Refused(Why::NotApplication));
     }
     match check(&object) {
@@ -136,16 +136,16 @@ fn judge_object(object: Object, form: Form) -> Result<(Object, Marks), Judged>
 }
 
 /// Whether the object is one that the command asks for: an application, where it is to run alone.
-fn suits(form: Form, o: &Object) -> bool
-    ensures { IsTrue result ↔ Suits form o.now }
+fn suits(purpose: Purpose, o: &Object) -> bool
+    ensures { IsTrue result ↔ Suits purpose o.now }
 {
-    match form {
-        Form::Checked => true,
-        Form::Application => match o.kind {
+    match purpose {
+        Purpose::Checked => true,
+        Purpose::Application => match o.kind {
             Kind::App => true,
             Kind::Module => false,
         },
-        Form::Source | Form::Plain | Form::Script => false,
+        Purpose::Source | Purpose::Plain | Purpose::Script => false,
     }
 }
 

@@ -13,9 +13,9 @@ ghost use Rattle.retos_cli.specs.Tracing.{RunEnds, faults_of};
 ghost use Rattle.retos_cli.specs.declared.command.Command.TheVariants.{Run};
 
 use super::command::Job;
-use super::form::Form;
 use super::input::{take_all, take_script};
 use super::outcome::{Outcome, Refused, Stop, Why};
+use super::purpose::Purpose;
 use edge_io::folder::Folder;
 use edge_io::name::Name;
 use edge_io::sink::Sink;
@@ -42,7 +42,7 @@ fn supply<F: Folder>(alloc: Global, files: &mut F, job: &Job) -> Result<(Script,
     ensures read { OnlyRead (F.state files.old) (F.state files.new) }
 {
     match script_for(alloc, files, &job.script) {
-        Ok(script) => match take_all(alloc, files, &job.names, form_for(&job.script)) {
+        Ok(script) => match take_all(alloc, files, &job.names, purpose_of(&job.script)) {
             Ok(objects) => Ok((script, objects)),
             Err(stop) => Err(stop),
         },
@@ -79,13 +79,13 @@ pub fn no_script(alloc: Global) -> Script
 }
 
 /// What the objects of a job are for.
-fn form_for(script: &Option<Name>) -> Form
-    ensures form { result ≡ form_by script.now }
+fn purpose_of(script: &Option<Name>) -> Purpose
+    ensures purpose { result ≡ form_by script.now }
     ensures asked { AsksCheck result }
 {
     match script {
-        Some(_) => Form::Checked,
-        None => Form::Application,
+        Some(_) => Purpose::Checked,
+        None => Purpose::Application,
     }
 }
 

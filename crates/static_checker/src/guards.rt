@@ -10,7 +10,7 @@ ghost use Rattle.static_checker.specs.Loads.{TestsRegister};
 ghost use Rattle.static_checker.specs.CodeUnits.{wording, OnlyKind, IsServing, IsServedSpot};
 
 use crate::cursor::{Cursor, unrelocated};
-use crate::forms::{is_at_r4, is_high, is_quiet};
+use crate::forms::{is_at_r4, is_high, steps_no_pointer};
 use crate::spot::{Spot, spot_at, word_at};
 use crate::stores::in_static;
 use code_model::guards::{GuardKind, Reach};
@@ -156,7 +156,7 @@ fn is_store_form(o: &Object, cursor: Cursor, at: usize, i: Instr) -> bool
     match i {
         Instr::Two { op, src, dst, .. } => op.writes()
             && is_plain_store(o, cursor, at + 1 + src.words(), dst)
-            && is_quiet(src),
+            && steps_no_pointer(src),
         Instr::One { op, src, .. } => op.changes() && is_at_r4(src),
         _ => false,
     }
@@ -185,7 +185,7 @@ fn is_wide_form(most: u16, o: &Object, cursor: Cursor, at: usize, i: Instr) -> b
     match i {
         Instr::Two { op, src, dst, .. } => op.writes()
             && is_near_store(most, o, cursor, at + 1 + src.words(), dst)
-            && is_quiet(src),
+            && steps_no_pointer(src),
         _ => false,
     }
 }
@@ -214,7 +214,7 @@ fn is_load_form(o: &Object, cursor: Cursor, at: usize, i: Instr) -> bool
         Instr::Two { op, src, dst, .. } => {
             let place = at + 1 + src.words();
             (is_load_src(o, cursor, src) && is_own_dst(o, cursor, place, dst))
-                || (op.tests() && is_plain_store(o, cursor, place, dst) && is_quiet(src))
+                || (op.tests() && is_plain_store(o, cursor, place, dst) && steps_no_pointer(src))
         }
         _ => false,
     }
@@ -264,7 +264,7 @@ fn is_growth_form(i: Instr) -> bool
     ensures { IsTrue result ↔ IsGrowthForm i }
 {
     match i {
-        Instr::One { op, src, .. } => op.stacks() && is_quiet(src),
+        Instr::One { op, src, .. } => op.stacks() && steps_no_pointer(src),
         _ => false,
     }
 }

@@ -1,4 +1,4 @@
-use Rattle.retos_cli.specs.declared.form.Form.TheVariants.{Source}
+use Rattle.retos_cli.specs.declared.purpose.Purpose.TheVariants.{Source}
 use Rattle.retos_cli.proofs.Inputs.{line_told, unread_stops}
 use Rattle.retos_cli.proofs.assembling.take_source.Goals as goal
 

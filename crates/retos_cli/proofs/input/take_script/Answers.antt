@@ -1,4 +1,4 @@
-use Rattle.retos_cli.specs.declared.form.Form.TheVariants.{Script as Scripted}
+use Rattle.retos_cli.specs.declared.purpose.Purpose.TheVariants.{Script as Scripted}
 use Rattle.retos_cli.proofs.Inputs.{unread_stops}
 use Rattle.retos_cli.proofs.input.take_script.Goals as goal
 

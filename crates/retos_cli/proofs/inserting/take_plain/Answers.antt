@@ -1,4 +1,4 @@
-use Rattle.retos_cli.specs.declared.form.Form.TheVariants.{Plain}
+use Rattle.retos_cli.specs.declared.purpose.Purpose.TheVariants.{Plain}
 use Rattle.retos_cli.proofs.Guarding.{guarded_told}
 use Rattle.retos_cli.proofs.Inputs.{unread_stops}
 use Rattle.retos_cli.proofs.inserting.take_plain.Goals as goal

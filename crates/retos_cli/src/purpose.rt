@@ -2,7 +2,7 @@
 
 /// What an input is for.
 #[derive(Clone, Copy, PartialEq, Eq, Debug, Drop)]
-pub enum Form {
+pub enum Purpose {
     /// An object to check, or to run under a script.
     Checked,
     /// An application to run alone.

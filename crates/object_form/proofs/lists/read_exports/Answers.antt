@@ -1,6 +1,6 @@
 use Rattle.std.proofs.lemmas.Result.{err_from_is_err_and}
 use Rattle.object_form.proofs.EntryLemmas.{exports-begin, exports-go-on, exports-stop}
-use Rattle.object_form.proofs.entries.read_exports.Goals as goal
+use Rattle.object_form.proofs.lists.read_exports.Goals as goal
 
 pub loop-k-init : goal.loop-k-init
 loop-k-init c = exports-begin c.args.text.now c.args.start c.in_ok-exports.exports c.in_ok-exports.ensures

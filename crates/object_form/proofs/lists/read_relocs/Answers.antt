@@ -1,6 +1,6 @@
 use Rattle.std.proofs.lemmas.Result.{err_from_is_err_and}
 use Rattle.object_form.proofs.EntryLemmas.{relocs-begin, relocs-go-on, relocs-stop}
-use Rattle.object_form.proofs.entries.read_relocs.Goals as goal
+use Rattle.object_form.proofs.lists.read_relocs.Goals as goal
 
 pub loop-k-init : goal.loop-k-init
 loop-k-init c = relocs-begin c.args.text.now c.args.start c.in_ok-relocs.relocs c.in_ok-relocs.ensures
