@@ -9,6 +9,8 @@ mod decoder;
 #[cfg(test)]
 mod encoder;
 #[cfg(test)]
+mod generated;
+#[cfg(test)]
 mod machine;
 #[cfg(test)]
 mod memory;

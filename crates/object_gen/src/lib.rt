@@ -9,7 +9,5 @@ mod choosing;
 mod draws;
 pub mod generating;
 mod source;
-#[cfg(test)]
-mod tests;
 
 pub use generating::generate;

@@ -12,8 +12,6 @@ pub mod line;
 mod parts;
 pub mod record_lines;
 pub mod tail;
-#[cfg(test)]
-mod tests;
 
 pub use record_lines::text;
 pub use tail::Tail;

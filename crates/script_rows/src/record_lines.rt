@@ -3,10 +3,10 @@
 ghost use Rattle.std.specs.Prelude.{IsTrue};
 ghost use Rattle.trace_print.specs.Named.{has_name, HasLine};
 
-use super::{FaultKind, Record, Tail, Who, text};
 use machine_model::writes::Writes;
 use std::process::Abort;
 use std::test::Fail;
+use trace_print::{FaultKind, Record, Tail, Who, text};
 
 const FIRST: Who = Who::Thread { app: 0, thread: 0 };
 

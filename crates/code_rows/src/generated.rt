@@ -1,8 +1,8 @@
 //! Objects whose words were worked out apart.
 
-use crate::generate;
 use code_model::object::Object;
 use code_model::parts::{RelKind, Reloc};
+use object_gen::generate;
 
 /// Whether words stand at a place of the code.
 fn has_words(o: &Object, at: usize, words: &[u16]) -> bool {
