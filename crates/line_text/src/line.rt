@@ -1,7 +1,7 @@
 //! A line of text.
 
 ghost use Rattle.std.specs.Prelude.{◌≡◌, ℕ, ◌+◌, ◌≤◌, List, [], ◌∷◌, ◌++◌, length, decimal};
-ghost use Rattle.line_text.specs.Hexadecimal.{hex_digit, hex_word};
+ghost use Rattle.line_text.specs.Hexadecimal.{hex_digit, hex_byte, hex_word};
 
 use arrayvec::ArrayVec;
 use itoa::Buffer;
@@ -69,6 +69,16 @@ impl Line {
         self.push_text(buffer.format(number).as_bytes());
     }
 
+    /// Appends a byte as two upper-case hexadecimal digits.
+    pub fn push_byte(&mut self, byte: u8)
+        requires { length self.old + 2 ≤ 384 }
+        ensures text { self.new ≡ self.old ++ hex_byte byte }
+        ensures size { length self.new ≡ length self.old + 2 }
+    {
+        self.push(digit(byte / 16));
+        self.push(digit(byte % 16));
+    }
+
     /// Appends a word as four upper-case hexadecimal digits.
     #[tactic(auto, unfolding(crate::specs::Hexadecimal::hex_word))]
     pub fn push_word(&mut self, word: u16)
@@ -76,21 +86,17 @@ impl Line {
         ensures text { self.new ≡ self.old ++ hex_word word }
         ensures size { length self.new ≡ length self.old + 4 }
     {
-        self.push(digit(word / 4096));
-        self.push(digit(word / 256 % 16));
-        self.push(digit(word / 16 % 16));
-        self.push(digit(word % 16));
+        self.push(digit((word / 4096) as u8));
+        self.push(digit((word / 256 % 16) as u8));
+        self.push(digit((word / 16 % 16) as u8));
+        self.push(digit((word % 16) as u8));
     }
 }
 
 /// The upper-case hexadecimal digit of a number below 16.
-fn digit(value: u16) -> u8
+fn digit(value: u8) -> u8
     requires { value ≤ 15 }
     ensures { result ≡ hex_digit value }
 {
-    if value < 10 {
-        48 + value as u8
-    } else {
-        55 + value as u8
-    }
+    if value < 10 { 48 + value } else { 55 + value }
 }

@@ -1,7 +1,7 @@
 -- The lines of a trace.
 use Rattle.std.specs.Prelude.{ℕ, Bool, true, false, ◌==◌, ◌-◌, ◌/◌, ◌%◌, ◌&&◌, List, [], ◌∷◌, ◌++◌, length, drop, codes, decimal, if◌then◌else◌}
 use Rattle.std.specs.List.{filter, flat_map}
-use Rattle.line_text.specs.Hexadecimal.{hex_digit, hex_word}
+use Rattle.line_text.specs.Hexadecimal.{hex_byte, hex_word}
 use Rattle.trace_model.specs.declared.records.Who.{Who}
 use Rattle.trace_model.specs.declared.records.Who.TheVariants as who
 use Rattle.trace_model.specs.declared.records.FaultKind.{FaultKind}
@@ -17,9 +17,6 @@ end_of_line = 10 ∷ []
 
 abbrev pub space : List ℕ
 space = 32 ∷ []
-
-abbrev pub hex_byte : ℕ → List ℕ
-hex_byte b = hex_digit (b / 16) ∷ hex_digit (b % 16) ∷ []
 
 abbrev pub who_text : Who → List ℕ
 who_text (who.Thread a t) = codes "a" ++ decimal a ++ codes ".t" ++ decimal t

@@ -1,8 +1,7 @@
 //! The parts of a line.
 
 ghost use Rattle.std.specs.Prelude.{◌≡◌, ◌+◌, ◌≤◌, ◌++◌, length, IsTrue};
-ghost use Rattle.line_text.specs.Hexadecimal.{hex_digit};
-ghost use Rattle.trace_model.specs.Texts.{hex_byte, who_text, kind_text, entry_name, write_text, writes_text, head};
+ghost use Rattle.trace_model.specs.Texts.{who_text, kind_text, entry_name, write_text, writes_text, head};
 ghost use Rattle.trace_print.specs.Named.{has_name};
 
 use kernel_model::entries::{
@@ -109,23 +108,5 @@ fn push_write(line: &mut Text, address: u16, byte: u8)
     line.push(b' ');
     line.push_word(address);
     line.push(b':');
-    push_byte(line, byte);
-}
-
-/// Appends a byte as two upper-case hexadecimal digits.
-fn push_byte(line: &mut Text, byte: u8)
-    requires { length line.old ≤ 94 }
-    ensures text { line.new ≡ line.old ++ hex_byte byte }
-    ensures size { length line.new ≡ length line.old + 2 }
-{
-    line.push(digit(byte / 16));
-    line.push(digit(byte % 16));
-}
-
-/// The upper-case hexadecimal digit of a number below 16.
-fn digit(value: u8) -> u8
-    requires { value ≤ 15 }
-    ensures { result ≡ hex_digit value }
-{
-    if value < 10 { 48 + value } else { 55 + value }
+    line.push_byte(byte);
 }
