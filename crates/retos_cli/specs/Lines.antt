@@ -11,7 +11,7 @@ use Rattle.asm_model.specs.declared.fault.AsmKind.TheVariants as asm
 use Rattle.insert_model.specs.declared.fault.InsertKind.{InsertKind}
 use Rattle.insert_model.specs.declared.fault.InsertKind.TheVariants as guards
 use Rattle.retos_cli.specs.declared.outcome.Why.{Why}
-use Rattle.retos_cli.specs.declared.outcome.Why.TheVariants.{Absent, TooLong, Purpose, NotApplication, Check, Room, Line, Insert, Script}
+use Rattle.retos_cli.specs.declared.outcome.Why.TheVariants.{Absent, TooLong, Form, NotApplication, Check, Room, Line, Insert, Script}
 use Rattle.place_model.specs.declared.places.NoRoom.{NoRoom}
 use Rattle.place_model.specs.declared.places.NoRoom.TheVariants as rooms
 use Rattle.retos_cli.specs.declared.outcome.Refused.{Refused}
@@ -68,7 +68,7 @@ insert_word guards.TooLarge = codes "toolarge"
 abbrev pub why_text : Why → List ℕ
 why_text Absent = codes ": absent"
 why_text TooLong = codes ": too long"
-why_text (Purpose kind at) = codes ": purpose " ++ form_word kind ++ codes " at " ++ decimal at
+why_text (Form kind at) = codes ": form " ++ form_word kind ++ codes " at " ++ decimal at
 why_text NotApplication = codes ": not an application"
 why_text (Check rule place) = codes ": check rule " ++ decimal rule ++ codes " at " ++ hex_word place
 why_text (Room cause) = room_text cause

@@ -170,10 +170,10 @@ fn push_gap(line: &mut Line, text: &[u8], need: u32, gap: u32)
 
 fn push_form(line: &mut Line, kind: FormKind, at: u32)
     requires { length line.old ≤ 262 }
-    ensures text { line.new ≡ line.old ++ (codes ": purpose " ++ form_word kind ++ codes " at " ++ decimal at) }
+    ensures text { line.new ≡ line.old ++ (codes ": form " ++ form_word kind ++ codes " at " ++ decimal at) }
     ensures size { length line.new ≤ 340 }
 {
-    line.push_text(b": purpose ");
+    line.push_text(b": form ");
     line.push_text(form_word(kind));
     line.push_text(b" at ");
     line.push_decimal(at);
