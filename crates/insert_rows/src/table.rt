@@ -80,6 +80,11 @@ fn what_is_named_moves_with_its_unit(rt: HostRuntime) {
         exports: &[],
     };
     assert_eq!(rt; inserted(alloc, &source, &wanted), Answer::AsExpected);
+}
+
+#[test]
+fn exports_move_with_their_units(rt: HostRuntime) {
+    let alloc = rt.alloc();
     // PUSH R6 and RET, exported
     let source = Parts {
         entry: 0,

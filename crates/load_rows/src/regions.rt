@@ -228,6 +228,19 @@ fn ranges_without_addresses_and_free_rows_hold_nothing(rt: HostRuntime) -> Resul
     Ok(())
 }
 
+/// Addresses behind the second marking, and whether each is marked.
+const MARKED: [(u16, bool); 9] = [
+    (0x600E, false),
+    (0x6010, false),
+    (0x6013, false),
+    (0x6014, true),
+    (0x6015, false),
+    (0x6016, false),
+    (0x6032, false),
+    (0x6034, false),
+    (0x8014, false),
+];
+
 #[test]
 fn marks_replace_the_old_ones_of_the_code_alone(rt: HostRuntime) -> Result<(), Fail> {
     let mut m = FlatMem::new(rt.alloc())?;
@@ -265,22 +278,25 @@ fn marks_replace_the_old_ones_of_the_code_alone(rt: HostRuntime) -> Result<(), F
         ),
         (0xFF, 0x04, 0x00, 0xFC, 0)
     );
-    let cases: [(u16, bool); 9] = [
-        (0x600E, false),
-        (0x6010, false),
-        (0x6013, false),
-        (0x6014, true),
-        (0x6015, false),
-        (0x6016, false),
-        (0x6032, false),
-        (0x6034, false),
-        (0x8014, false),
-    ];
-    for (at, want) in cases {
+    for (at, want) in MARKED {
         assert_eq!(rt; is_marked(&m, 0, at), want, "at {at:#x}");
     }
     Ok(())
 }
+
+/// Rows, also rows that no placing makes: the application's code, the module's, the address, and the two answers.
+const IN_THEIR_ROWS: [(u16, u16, u16, u16, u16, bool, bool); 10] = [
+    (0x6000, 0x6010, 0xDFFE, 0xE000, 0xDFFE, false, true),
+    (0x6000, 0x6010, 0xDFFE, 0xE000, 0x6000, true, false),
+    (0x6000, 0x6010, 0xDFFE, 0xE000, 0x600E, true, false),
+    (0x6000, 0x6010, 0x6002, 0x600E, 0x6000, true, false),
+    (0x6000, 0x6010, 0x6002, 0x600E, 0x6002, true, true),
+    (0x6000, 0x6010, 0x6002, 0x600E, 0x600E, true, false),
+    (0x6000, 0x6010, 0x6002, 0x600E, 0x6003, false, false),
+    (0x0000, 0xFFFF, 0x6010, 0x6000, 0x6000, true, false),
+    (0x0000, 0xFFFF, 0x0000, 0xFFFE, 0x5FFE, false, false),
+    (0x0000, 0xFFFF, 0x0000, 0xFFFE, 0xE000, false, false),
+];
 
 #[test]
 fn marks_lie_in_the_row_s_code_and_in_the_pool(rt: HostRuntime) -> Result<(), Fail> {
@@ -299,20 +315,7 @@ fn marks_lie_in_the_row_s_code_and_in_the_pool(rt: HostRuntime) -> Result<(), Fa
         (0, 0x80, 0)
     );
     m.copy_in(0x1100, &[0xFF; 2]);
-    // rows, also rows that no placing makes: the application's code, the module's, the address, and the two answers
-    let cases: [(u16, u16, u16, u16, u16, bool, bool); 10] = [
-        (0x6000, 0x6010, 0xDFFE, 0xE000, 0xDFFE, false, true),
-        (0x6000, 0x6010, 0xDFFE, 0xE000, 0x6000, true, false),
-        (0x6000, 0x6010, 0xDFFE, 0xE000, 0x600E, true, false),
-        (0x6000, 0x6010, 0x6002, 0x600E, 0x6000, true, false),
-        (0x6000, 0x6010, 0x6002, 0x600E, 0x6002, true, true),
-        (0x6000, 0x6010, 0x6002, 0x600E, 0x600E, true, false),
-        (0x6000, 0x6010, 0x6002, 0x600E, 0x6003, false, false),
-        (0x0000, 0xFFFF, 0x6010, 0x6000, 0x6000, true, false),
-        (0x0000, 0xFFFF, 0x0000, 0xFFFE, 0x5FFE, false, false),
-        (0x0000, 0xFFFF, 0x0000, 0xFFFE, 0xE000, false, false),
-    ];
-    for (code_lo, code_hi, lo, hi, at, app_has, module_has) in cases {
+    for (code_lo, code_hi, lo, hi, at, app_has, module_has) in IN_THEIR_ROWS {
         set_app(&mut m, 3, &app_row(code_lo, code_hi, 0x2000, 0x2010));
         set_module(
             &mut m,

@@ -206,29 +206,33 @@ const ROW_WORDS: [(u16, u16); 20] = [
     (0x0D40, 0xFF09),
 ];
 
+/// The row of application 3.
+const APP_3: AppRow = AppRow {
+    state: 1,
+    code_lo: 0x6000,
+    code_hi: 0x6010,
+    lo: 0x2000,
+    hi: 0x2040,
+    z: 0x20,
+    stack: 16,
+    threads: 2,
+};
+
+/// The row of module 1.
+const MODULE_1: ModuleRow = ModuleRow {
+    state: 1,
+    code_lo: 0x6010,
+    code_hi: 0x6020,
+    lo: 0x2000,
+    hi: 0x2000,
+};
+
 #[test]
 fn rows_stand_at_their_addresses(rt: HostRuntime) -> Result<(), Fail> {
     let mut m = FlatMem::new(rt.alloc())?;
     clear(&mut m);
-    let app_row = AppRow {
-        state: 1,
-        code_lo: 0x6000,
-        code_hi: 0x6010,
-        lo: 0x2000,
-        hi: 0x2040,
-        z: 0x20,
-        stack: 16,
-        threads: 2,
-    };
-    let module_row = ModuleRow {
-        state: 1,
-        code_lo: 0x6010,
-        code_hi: 0x6020,
-        lo: 0x2000,
-        hi: 0x2000,
-    };
-    set_app(&mut m, 3, &app_row);
-    set_module(&mut m, 1, &module_row);
+    set_app(&mut m, 3, &APP_3);
+    set_module(&mut m, 1, &MODULE_1);
     set_function(
         &mut m,
         5,
@@ -246,7 +250,7 @@ fn rows_stand_at_their_addresses(rt: HostRuntime) -> Result<(), Fail> {
     assert!(rt; put_line(&mut m, 13, &members(&[9])));
     put(&mut m, SysWord::Pending, 0x2001);
     compare_words(&rt, &m, &ROW_WORDS);
-    assert_eq!(rt; (app(&m, 3), module(&m, 1)), (app_row, module_row));
+    assert_eq!(rt; (app(&m, 3), module(&m, 1)), (APP_3, MODULE_1));
     assert_eq!(rt;
         (thread(&m, 31), function(&m, 5).address),
         (thread_row(31, 7), 0x6012)
