@@ -1,6 +1,6 @@
 //! The attack programs, beside what was worked out for them.
 
-use crate::commands::{Left, leave};
+use crate::commands::{Left, Stored, leave};
 use crate::sources::{guard, push_line, text_of, with_constant};
 use retos_cli::outcome::Status;
 use std::alloc::{AllocError, Global};
@@ -83,15 +83,18 @@ fn attack(
 ) -> Result<Left, AllocError> {
     let source = with_constant(alloc, source, "WHAT", value)?;
     let guarded = guard(alloc, &source, "guarded.o")?;
-    leave(
-        alloc,
-        line,
-        &[
-            ("none", &[]),
-            ("module.o", module),
-            ("guarded.o", guarded.file("guarded.o")),
-        ],
-    )
+    run_behind(alloc, line, module, guarded.file("guarded.o"))
+}
+
+/// What a line of words does with a module and a program.
+fn run_behind<'a>(
+    alloc: Global,
+    line: &str,
+    module: &'a [u8],
+    program: &'a [u8],
+) -> Result<Left, AllocError> {
+    let stored: [Stored<'a>; 3] = [("none", b""), ("module.o", module), ("guarded.o", program)];
+    leave(alloc, line, &stored)
 }
 
 /// Appends what a run printed, and a line where it didn't run to its end.
