@@ -3,7 +3,7 @@
 ghost use Rattle.std.specs.Prelude.{◌≡◌, true};
 ghost use Rattle.asm_model.specs.declared.expression.Base.TheVariants as base;
 ghost use Rattle.asm_model.specs.Words.{operands_of};
-ghost use Rattle.asm_model.specs.Instructions.{generated, source_by, immediate, constant_or_immediate, value_source, source_of, destination_of, is_legal, takes_constants, operation, two_piece, one_piece, constant_source, program_counter, popped, names_place, label_of, jump_piece, single_piece, double_piece, piece_of_none, piece_of_one, piece_of_two, instruction_of};
+ghost use Rattle.asm_model.specs.Instructions.{generated, source_by, immediate, constant_or_immediate, value_source, source_of, destination_of, is_legal, operation, two_piece, one_piece, constant_source, program_counter, popped, names_place, label_of, jump_piece, single_piece, double_piece, piece_of_none, piece_of_one, piece_of_two, instruction_of};
 
 use crate::bytes::is_empty;
 use crate::names::{Names, can_be_label, name};
@@ -176,13 +176,6 @@ fn of_one(op: Op1, width: Width, s: Source) -> Result<Piece, AsmKind>
     checked(instr, s.base, Base::Number, s.fits)
 }
 
-/// Whether a one-operand operation takes constants.
-fn has_constants(op: Op1) -> bool
-    ensures { result ≡ takes_constants op }
-{
-    matches!(op, Op1::Push)
-}
-
 /// PC as a destination.
 fn to_program_counter() -> Option<Destination>
     ensures { result ≡ program_counter }
@@ -239,7 +232,7 @@ fn with_operand(
         return Err(AsmKind::BadOperand);
     };
     match form {
-        MnemonicForm::One(op) => of_one(op, width, source(has_constants(op), o)),
+        MnemonicForm::One(op) => of_one(op, width, source(op.takes_constant(), o)),
         MnemonicForm::Constant(op, constant) => {
             of_two(
                 op,

@@ -22,7 +22,8 @@ use Rattle.asm_model.specs.declared.piece.Piece.TheVariants as piece
 use Rattle.asm_model.specs.declared.piece.Placed.{Placed}
 use Rattle.asm_model.specs.declared.progress.Progress.{Progress}
 use Rattle.asm_model.specs.Operands.{operand_of}
-use Rattle.asm_model.specs.Instructions.{is_legal, operation, two_piece, one_piece, source_of, takes_constants, destination_of, constant_source, popped, program_counter, jump_piece, label_of, single_piece, double_piece, piece_of_none, piece_of_one, piece_of_two, instruction_of}
+use Rattle.msp_encode.specs.Legality.{takes_constant}
+use Rattle.asm_model.specs.Instructions.{is_legal, operation, two_piece, one_piece, source_of, destination_of, constant_source, popped, program_counter, jump_piece, label_of, single_piece, double_piece, piece_of_none, piece_of_one, piece_of_two, instruction_of}
 use Rattle.asm_model.specs.Drafts.{Draft, by_progress, grown}
 use Rattle.asm_model.specs.Sound.{code_total, initialised_total, entry_total, export_total, least_total, ArePieces, IsSound}
 use Rattle.asm_model.proofs.Choices.{if_true, if_not, le_of}
@@ -61,7 +62,7 @@ one_code op width s = operation_code (instr.One op width s.src) s.base base.Numb
 
 single_code : (f : MnemonicForm) (width : Width) (o : Option Operand) → OkCode (single_piece f width o)
 single_code f width None = tt
-single_code (form.One op) width (Some o) = one_code op width (source_of (takes_constants op) o)
+single_code (form.One op) width (Some o) = one_code op width (source_of (takes_constant op) o)
 single_code (form.Constant op constant) width (Some o) = two_code op width (constant_source constant) (destination_of o)
 single_code (form.Twice op) width (Some o) = two_code op width (source_of false o) (destination_of o)
 single_code form.Pop width (Some o) = two_code _ width popped (destination_of o)

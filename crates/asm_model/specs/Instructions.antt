@@ -1,13 +1,11 @@
 -- What an instruction's operands give.
-use Rattle.std.specs.Prelude.{ℕ, ◌==◌, ◌&&◌, not, nat_lt, Bool, true, false, List, [], ◌∷◌, Option, Some, None, Result, Ok, Err, if◌then◌else◌}
+use Rattle.std.specs.Prelude.{ℕ, ◌==◌, ◌&&◌, not, Bool, true, false, List, [], ◌∷◌, Option, Some, None, Result, Ok, Err, if◌then◌else◌}
 use Rattle.msp_encode.specs.declared.registers.TheConstants.{PC, SP}
 use Rattle.msp_encode.specs.declared.instr.Op2.{Op2}
 use Rattle.msp_encode.specs.declared.instr.Op2.TheVariants as op2
 use Rattle.msp_encode.specs.declared.instr.Op1.{Op1}
-use Rattle.msp_encode.specs.declared.instr.Op1.TheVariants as op1
 use Rattle.msp_encode.specs.declared.instr.Cond.{Cond}
 use Rattle.msp_encode.specs.declared.instr.Width.{Width}
-use Rattle.msp_encode.specs.declared.instr.Width.TheVariants.{Wide, Byte}
 use Rattle.msp_encode.specs.declared.instr.Cg.{Cg}
 use Rattle.msp_encode.specs.declared.instr.Cg.TheVariants as cg
 use Rattle.msp_encode.specs.declared.instr.Src.{Src}
@@ -16,6 +14,7 @@ use Rattle.msp_encode.specs.declared.instr.Dst.{Dst}
 use Rattle.msp_encode.specs.declared.instr.Dst.TheVariants as dst
 use Rattle.msp_encode.specs.declared.instr.Instr.{Instr}
 use Rattle.msp_encode.specs.declared.instr.Instr.TheVariants as instr
+use Rattle.msp_encode.specs.Legality.{src_fits, dst_fits, takes_width, takes_constant, takes}
 use Rattle.asm_model.specs.declared.fault.AsmKind.{AsmKind}
 use Rattle.asm_model.specs.declared.fault.AsmKind.TheVariants.{BadOperand, NumberRange}
 use Rattle.asm_model.specs.declared.name.Name.{Name}
@@ -91,66 +90,10 @@ destination_of (operand.Immediate e) = None
 
 -- ---- which instructions have a spelling
 
-abbrev pub is_base : ℕ → Bool
-is_base r = nat_lt r 16 && not (r == 0) && not (r == 2) && not (r == 3)
-
-abbrev pub is_legal_source : Src → Bool
-is_legal_source (src.Reg r) = nat_lt r 16 && not (r == 3)
-is_legal_source (src.Indexed r x) = is_base r
-is_legal_source (src.Symbolic x) = true
-is_legal_source (src.Absolute x) = true
-is_legal_source (src.Indirect r) = is_base r
-is_legal_source (src.AutoInc r) = is_base r
-is_legal_source (src.Immediate x) = true
-is_legal_source (src.Const c) = true
-
-abbrev pub is_legal_destination : Dst → Bool
-is_legal_destination (dst.Reg r) = nat_lt r 16
-is_legal_destination (dst.Indexed r x) = is_base r
-is_legal_destination (dst.Symbolic x) = true
-is_legal_destination (dst.Absolute x) = true
-
-abbrev pub has_width : Op1 → Width → Bool
-has_width op Wide = true
-has_width op1.Rrc Byte = true
-has_width op1.Swpb Byte = false
-has_width op1.Rra Byte = true
-has_width op1.Sxt Byte = false
-has_width op1.Push Byte = true
-has_width op1.Call Byte = false
-
--- PUSH alone takes constants
-abbrev pub takes_constants : Op1 → Bool
-takes_constants op1.Push = true
-takes_constants op1.Rrc = false
-takes_constants op1.Swpb = false
-takes_constants op1.Rra = false
-takes_constants op1.Sxt = false
-takes_constants op1.Call = false
-
--- PUSH and CALL take immediates
-abbrev pub takes_immediates : Op1 → Bool
-takes_immediates op1.Push = true
-takes_immediates op1.Call = true
-takes_immediates op1.Rrc = false
-takes_immediates op1.Swpb = false
-takes_immediates op1.Rra = false
-takes_immediates op1.Sxt = false
-
-abbrev pub takes_source : Op1 → Src → Bool
-takes_source op (src.Reg r) = true
-takes_source op (src.Indexed r x) = true
-takes_source op (src.Symbolic x) = true
-takes_source op (src.Absolute x) = true
-takes_source op (src.Indirect r) = true
-takes_source op (src.AutoInc r) = true
-takes_source op (src.Immediate x) = takes_immediates op
-takes_source op (src.Const c) = takes_constants op
-
 -- `Legal` of the spelling as a test, but for jumps, whose offset the second pass knows
 abbrev pub is_legal : Instr → Bool
-is_legal (instr.Two op width source destination) = is_legal_source source && is_legal_destination destination
-is_legal (instr.One op width source) = is_legal_source source && has_width op width && takes_source op source
+is_legal (instr.Two op width source destination) = src_fits source && dst_fits destination
+is_legal (instr.One op width source) = src_fits source && takes_width op width && takes op source
 is_legal instr.Reti = true
 is_legal (instr.Jump condition offset) = false
 
@@ -200,7 +143,7 @@ jump_piece condition (Some name) = Ok (piece.Jump condition name)
 -- of one operand as written, or none
 abbrev pub single_piece : MnemonicForm → Width → Option Operand → Result Piece AsmKind
 single_piece f width None = Err BadOperand
-single_piece (form.One op) width (Some o) = one_piece op width (source_of (takes_constants op) o)
+single_piece (form.One op) width (Some o) = one_piece op width (source_of (takes_constant op) o)
 single_piece (form.Constant op constant) width (Some o) = two_piece op width (constant_source constant) (destination_of o)
 single_piece (form.Twice op) width (Some o) = two_piece op width (source_of false o) (destination_of o)
 single_piece form.Pop width (Some o) = two_piece op2.Mov width popped (destination_of o)

@@ -2,13 +2,14 @@
 
 ghost use Rattle.asm_model.specs.Laws.{TestedIsLegal, DraftsAreSound, ResultsMeetTheForm};
 
-use msp_encode::laws::legal_by_cases;
+use msp_encode::laws::{legal_by_cases, tests_tell};
 
 /// The test of legal instructions is right.
 pub fn tested_is_legal()
     ensures { TestedIsLegal }
 {
     legal_by_cases();
+    tests_tell();
 }
 
 /// What holds of each draft that the first pass gives.

@@ -12,14 +12,14 @@ use Rattle.msp_encode.specs.declared.instr.Src.{Src}
 use Rattle.msp_encode.specs.declared.instr.Dst.{Dst}
 use Rattle.msp_encode.specs.declared.instr.Instr.{Instr}
 use Rattle.msp_encode.specs.declared.instr.Instr.TheVariants as instr
-use Rattle.msp_encode.specs.Forms.{writes}
+use Rattle.msp_encode.specs.Forms.{writes, is_immediate}
 use Rattle.insert_model.specs.declared.aim.Aim.{Aim}
 use Rattle.insert_model.specs.declared.aim.Aim.TheVariants.{ToPc, ToSp, ToMemory, Elsewhere}
 use Rattle.insert_model.specs.declared.line.Line.{Line}
 use Rattle.insert_model.specs.declared.piece.Piece.{Piece}
 use Rattle.insert_model.specs.Words.{piece_words, unit_words}
 use Rattle.insert_model.specs.Source.{own}
-use Rattle.insert_model.specs.Units.{aim, aim_one, is_popped, is_immediate, is_pc, is_plain_pop, popping, writing, changing, one_unit, jump_unit, target_offset, unit_of, unit}
+use Rattle.insert_model.specs.Units.{aim, aim_one, is_popped, is_pc, is_plain_pop, popping, writing, changing, one_unit, jump_unit, target_offset, unit_of, unit}
 use Rattle.code_model.specs.Fields.{Fields}
 use Rattle.insert_model.specs.Groups.{Cell, cell, is_target, if_near, joins, Group, members}
 use Rattle.insert_model.specs.Layout.{Jumps, jump_by, line_unit_of, line_unit, wide_unit, wide_unit_of, unit_of_lines, unit_in, units, before}

@@ -2,7 +2,7 @@
 
 ghost use Rattle.std.specs.Prelude.{◌≡◌};
 ghost use Rattle.msp_encode.specs.Spelling.{SrcFits, DstFits};
-ghost use Rattle.insert_model.specs.Units.{is_static, absolute_aim, aim, aim_one, is_immediate, is_wide_move, is_free, is_plain_pop, into_r4, through_r4, from_r4};
+ghost use Rattle.insert_model.specs.Units.{is_static, absolute_aim, aim, aim_one, is_wide_move, is_free, is_plain_pop, into_r4, through_r4, from_r4};
 ghost use Rattle.check_inserter.specs.Fitting.{AimFits};
 
 use code_model::parts::RelKind;
@@ -70,13 +70,6 @@ fn is_static(size: usize, index: u16, kind: Option<RelKind>) -> bool
         Some(RelKind::Data) => usize::from(index) < size,
         None | Some(RelKind::Code | RelKind::Lo | RelKind::Hi) => false,
     }
-}
-
-/// Tells whether a source is an immediate.
-pub(crate) fn is_immediate(src: Src) -> bool
-    ensures { result ≡ is_immediate src }
-{
-    matches!(src, Src::Immediate(_))
 }
 
 /// Tells whether a pop is of a whole word into one of R6 to R15.

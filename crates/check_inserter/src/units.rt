@@ -10,7 +10,7 @@ ghost use Rattle.code_model.specs.declared.object.TheConstants.{CODE_WORDS_MAX};
 use crate::guards::{
     branch, give_sp, growth_guard, jump, plain, pop_guard, pop_r4, sp_guard, store_guard, take_sp,
 };
-use crate::operands::{aim, aim_one, from_r4, into_r4, is_immediate, is_plain_pop, through_r4};
+use crate::operands::{aim, aim_one, from_r4, into_r4, is_plain_pop, through_r4};
 use crate::words::{put_both, put_pieces};
 use code_model::parts::RelKind;
 use insert_model::aim::Aim;
@@ -115,7 +115,7 @@ fn put_writing(
 {
     match aim {
         Aim::ToPc => {
-            if is_immediate(src) {
+            if src.is_immediate() {
                 put_pieces(out, &[piece])
             } else {
                 put_pieces(
@@ -213,7 +213,7 @@ fn put_call(out: &mut Vec<Word>, src: Src, piece: Piece) -> Result<(), AllocErro
     requires piece { InstrFits piece.instr }
     ensures { OnOk result (out.new.items ≡ out.old.items ++ unit_words (calling src piece)) }
 {
-    if is_immediate(src) {
+    if src.is_immediate() {
         put_both(out, &growth_guard(), &[piece])
     } else {
         put_call_of_value(out, src, piece.source)

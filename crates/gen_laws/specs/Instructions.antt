@@ -1,6 +1,7 @@
 -- The instructions of blocks.
 use Rattle.std.specs.Prelude.{ℕ, ◌≤◌, ◌<◌, List, [], ◌∷◌, pos}
 use Rattle.std.specs.List.{flat_map}
+use Rattle.msp_encode.specs.declared.registers.TheConstants.{PC, SP}
 use Rattle.msp_encode.specs.declared.instr.Op1.TheVariants.{Rra, Push, Call}
 use Rattle.msp_encode.specs.declared.instr.Op2.TheVariants as op
 use Rattle.msp_encode.specs.declared.instr.Cond.TheVariants.{Ne}
@@ -20,11 +21,11 @@ instrs (Xor from to) = instr.Two op.Xor Wide (src.Reg from) (dst.Reg to) ∷ []
 instrs (Keep from place) = instr.Two op.Mov Wide (src.Reg from) (dst.Absolute place) ∷ []
 instrs (Store from place) =
     instr.Two op.Mov Wide (src.Immediate place) (dst.Reg 12) ∷ instr.Two op.Mov Wide (src.Reg from) (dst.Indexed 12 0) ∷ []
-instrs (Pass from to) = instr.One Push Wide (src.Reg from) ∷ instr.Two op.Mov Wide (src.AutoInc 1) (dst.Reg to) ∷ []
+instrs (Pass from to) = instr.One Push Wide (src.Reg from) ∷ instr.Two op.Mov Wide (src.AutoInc SP) (dst.Reg to) ∷ []
 instrs (Halve to) = instr.One Rra Wide (src.Reg to) ∷ []
 instrs (Skip from to) = instr.Jump Ne (pos 1) ∷ instr.Two op.Mov Wide (src.Reg from) (dst.Reg to) ∷ []
 instrs (Emit from) = instr.Two op.Mov Wide (src.Reg from) (dst.Reg 12) ∷ instr.One Call Wide (src.Immediate EMITS) ∷ []
-instrs Restart = instr.Two op.Mov Wide (src.Immediate 0) (dst.Reg 0) ∷ []
+instrs Restart = instr.Two op.Mov Wide (src.Immediate 0) (dst.Reg PC) ∷ []
 
 -- those of blocks one behind another
 unfoldable pub all_instrs : List Block → List Instr

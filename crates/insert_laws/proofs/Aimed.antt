@@ -15,7 +15,7 @@ use Rattle.msp_encode.specs.declared.instr.Dst.{Dst}
 use Rattle.msp_encode.specs.declared.instr.Dst.TheVariants as dst
 use Rattle.msp_encode.specs.declared.instr.Instr.{Instr}
 use Rattle.msp_encode.specs.declared.instr.Instr.TheVariants as instr
-use Rattle.msp_encode.specs.Forms.{DstIs, IsCall, writes}
+use Rattle.msp_encode.specs.Forms.{DstIs, IsCall, writes, is_immediate}
 use Rattle.code_model.specs.declared.object.Object.{Object}
 use Rattle.kernel_model.specs.declared.map.TheConstants.{STACK_LIMIT}
 use Rattle.kernel_model.specs.declared.entries.TheConstants.{CALLS, GOES, STACK_FAULT, STORE_FAULT}
@@ -37,7 +37,7 @@ use Rattle.insert_model.specs.Layout.{difference_of, beside}
 use Rattle.insert_model.specs.Inserted.{moved_value}
 use Rattle.insert_model.specs.Faults.{IsStartOffset, IsJumpStart, IsSourceTarget, IsSourceCallee, TransferMisses, JumpMisses}
 use Rattle.insert_model.specs.Guards.{base, plain, save, restore, branch, take_sp, pop_r4, give_sp, region_guard, store_guard, growth_guard, pop_guard, sp_guard}
-use Rattle.insert_model.specs.Units.{static_bytes, aim, aim_one, is_popped, is_immediate, is_pc, is_plain_pop, into_r4, through_r4, from_r4, popping, writing, changing, calling_value, one_unit, target_offset, jump_unit, unit_of, unit}
+use Rattle.insert_model.specs.Units.{static_bytes, aim, aim_one, is_popped, is_pc, is_plain_pop, into_r4, through_r4, from_r4, popping, writing, changing, calling_value, one_unit, target_offset, jump_unit, unit_of, unit}
 use Rattle.insert_laws.specs.Pieces.{pieces_of, moved_dst, moved_instr}
 use Rattle.insert_laws.specs.Shapes.{IsCleanLine}
 use Rattle.insert_laws.proofs.UnitsFit.{own_instr}

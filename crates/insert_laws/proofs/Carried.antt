@@ -29,11 +29,11 @@ use Rattle.insert_model.specs.declared.line.Line.{Line}
 use Rattle.insert_model.specs.declared.piece.Piece.{Piece}
 use Rattle.insert_model.specs.declared.piece.Word.{Word}
 use Rattle.msp_encode.specs.Spelled.{count}
-use Rattle.msp_encode.specs.Forms.{writes}
+use Rattle.msp_encode.specs.Forms.{writes, is_immediate}
 use Rattle.insert_model.specs.Words.{with_kind, operand_words, piece_words, unit_words}
 use Rattle.insert_model.specs.Source.{own_piece, own}
 use Rattle.insert_model.specs.Guards.{base, plain, branch, take_sp, pop_r4, give_sp, region_guard, store_guard, growth_guard, pop_guard, sp_guard}
-use Rattle.insert_model.specs.Units.{static_bytes, aim, aim_one, is_popped, is_immediate, is_pc, is_plain_pop, into_r4, through_r4, from_r4, popping, writing, changing, calling_value, one_unit, target_offset, jump_unit, unit_of, unit}
+use Rattle.insert_model.specs.Units.{static_bytes, aim, aim_one, is_popped, is_pc, is_plain_pop, into_r4, through_r4, from_r4, popping, writing, changing, calling_value, one_unit, target_offset, jump_unit, unit_of, unit}
 use Rattle.insert_model.specs.Groups.{Cell, cell, Group}
 use Rattle.insert_model.specs.Layout.{difference_of, beside}
 use Rattle.insert_laws.specs.Pieces.{pieces_of, moved_src, moved_dst, moved_instr}

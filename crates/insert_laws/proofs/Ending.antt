@@ -24,11 +24,11 @@ use Rattle.code_laws.specs.Laws.{IsSame}
 use Rattle.insert_model.specs.declared.line.Line.{Line}
 use Rattle.insert_model.specs.declared.piece.Piece.{Piece}
 use Rattle.msp_encode.specs.Spelled.{count}
-use Rattle.msp_encode.specs.Forms.{IsMov, IsWide, DstIs, IsImmediate, IsJmp, IsAlways}
+use Rattle.msp_encode.specs.Forms.{IsMov, IsWide, DstIs, IsImmediate, IsJmp, IsAlways, is_immediate}
 use Rattle.insert_model.specs.Words.{unit_words}
 use Rattle.insert_model.specs.Source.{own}
 use Rattle.insert_model.specs.Guards.{jump, branch, pop_r4, pop_guard}
-use Rattle.insert_model.specs.Units.{static_bytes, aim, is_popped, is_immediate, into_r4, popping, writing, two_unit, target_offset, jump_unit, unit_of, unit}
+use Rattle.insert_model.specs.Units.{static_bytes, aim, is_popped, into_r4, popping, writing, two_unit, target_offset, jump_unit, unit_of, unit}
 use Rattle.insert_model.specs.Groups.{Group, groups}
 use Rattle.insert_model.specs.Layout.{final_offset, place_map}
 use Rattle.insert_model.specs.Inserted.{moved}

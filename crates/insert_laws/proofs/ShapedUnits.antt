@@ -14,7 +14,7 @@ use Rattle.msp_encode.specs.declared.instr.Src.TheVariants as src
 use Rattle.msp_encode.specs.declared.instr.Instr.{Instr}
 use Rattle.msp_encode.specs.declared.instr.Instr.TheVariants as instr
 use Rattle.msp_encode.specs.Spelling.{InstrFits}
-use Rattle.msp_encode.specs.Forms.{Changes, Stacks, Pops, IsReti, WritesReg}
+use Rattle.msp_encode.specs.Forms.{Changes, Stacks, Pops, IsReti, WritesReg, is_immediate}
 use Rattle.code_model.specs.declared.object.Object.{Object}
 use Rattle.code_model.specs.declared.parts.RelKind.{RelKind}
 use Rattle.code_model.specs.declared.guards.Reach.{Reach}
@@ -28,7 +28,7 @@ use Rattle.insert_model.specs.declared.line.Line.{Line}
 use Rattle.insert_model.specs.declared.piece.Piece.{Piece}
 use Rattle.insert_model.specs.Source.{own}
 use Rattle.insert_model.specs.Guards.{plain, save, jump, branch, store_guard, wide_guard, growth_guard}
-use Rattle.insert_model.specs.Units.{static_bytes, is_static, is_immediate, aim_one, into_r4, changing, calling_value, calling, one_unit, jump_unit, target_offset, unit_of, unit}
+use Rattle.insert_model.specs.Units.{static_bytes, is_static, aim_one, into_r4, changing, calling_value, calling, one_unit, jump_unit, target_offset, unit_of, unit}
 use Rattle.insert_model.specs.Groups.{Cell, cell, Group, members}
 use Rattle.insert_model.specs.Layout.{difference_of, beside, final_offset}
 use Rattle.insert_model.specs.Faults.{UsesCheck, SrcUsesCheck, HasSymbolic, HasBadOperand, IsSpecial, IsAutoInc, HasForbiddenPop}

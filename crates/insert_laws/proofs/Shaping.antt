@@ -13,7 +13,7 @@ use Rattle.msp_encode.specs.declared.instr.Dst.TheVariants as dst
 use Rattle.msp_encode.specs.declared.instr.Instr.{Instr}
 use Rattle.msp_encode.specs.declared.instr.Instr.TheVariants as instr
 use Rattle.msp_encode.specs.Spelling.{DstFits, InstrFits}
-use Rattle.msp_encode.specs.Forms.{Writes, IsMov, IsWide, DstIs, Pops, IsReti, WritesReg, IsImmediate, writes}
+use Rattle.msp_encode.specs.Forms.{Writes, IsMov, IsWide, DstIs, Pops, IsReti, WritesReg, IsImmediate, writes, is_immediate}
 use Rattle.code_model.specs.declared.object.Object.{Object}
 use Rattle.code_model.specs.declared.parts.RelKind.{RelKind}
 use Rattle.code_model.specs.declared.guards.GuardKind.{GuardKind}
@@ -24,7 +24,7 @@ use Rattle.insert_model.specs.declared.aim.Aim.TheVariants.{ToPc, ToSp, ToMemory
 use Rattle.insert_model.specs.declared.line.Line.{Line}
 use Rattle.insert_model.specs.declared.piece.Piece.{Piece}
 use Rattle.insert_model.specs.Guards.{jump, branch, take_sp, pop_r4, give_sp, store_guard, pop_guard, sp_guard}
-use Rattle.insert_model.specs.Units.{is_static, aim, is_popped, is_immediate, is_pc, is_wide_move, is_free, is_plain_pop, into_r4, through_r4, from_r4, popping, setting_sp, writing, two_unit}
+use Rattle.insert_model.specs.Units.{is_static, aim, is_popped, is_pc, is_wide_move, is_free, is_plain_pop, into_r4, through_r4, from_r4, popping, setting_sp, writing, two_unit}
 use Rattle.insert_model.specs.Source.{own_piece, own}
 use Rattle.insert_model.specs.Faults.{UsesCheck, SrcUsesCheck, ChangesFlags, SetsPc, HasSymbolic, IsNoPopTarget, IsMemory, HasForbiddenPop}
 use Rattle.insert_laws.specs.Shapes.{saving, IsGuard, IsServed, Shaped, Ends, Free, Guards, IsFreeForm, IsCleanLine}

@@ -14,7 +14,7 @@ use Rattle.msp_encode.specs.declared.instr.Dst.{Dst}
 use Rattle.msp_encode.specs.declared.instr.Dst.TheVariants as dst
 use Rattle.msp_encode.specs.declared.instr.Instr.{Instr}
 use Rattle.msp_encode.specs.declared.instr.Instr.TheVariants as instr
-use Rattle.msp_encode.specs.Forms.{Writes, Changes, Pops, writes}
+use Rattle.msp_encode.specs.Forms.{Writes, Changes, Pops, writes, is_immediate}
 use Rattle.code_model.specs.declared.object.Object.{Object}
 use Rattle.code_model.specs.declared.parts.RelKind.{RelKind}
 use Rattle.code_model.specs.declared.parts.RelKind.TheVariants.{Code, Data, Lo, Hi}
@@ -25,7 +25,7 @@ use Rattle.insert_model.specs.declared.line.Line.{Line}
 use Rattle.insert_model.specs.declared.piece.Piece.{Piece}
 use Rattle.insert_model.specs.Source.{own}
 use Rattle.insert_model.specs.Guards.{plain, branch, take_sp, pop_r4, give_sp, region_guard, store_guard, growth_guard, pop_guard, sp_guard}
-use Rattle.insert_model.specs.Units.{static_bytes, is_static, aim, aim_one, is_popped, is_immediate, is_pc, is_plain_pop, into_r4, through_r4, from_r4, popping, writing, two_unit, changing, calling_value, one_unit, target_offset, jump_unit, unit_of, unit}
+use Rattle.insert_model.specs.Units.{static_bytes, is_static, aim, aim_one, is_popped, is_pc, is_plain_pop, into_r4, through_r4, from_r4, popping, writing, two_unit, changing, calling_value, one_unit, target_offset, jump_unit, unit_of, unit}
 use Rattle.insert_model.specs.Groups.{Cell, cell, Group}
 use Rattle.insert_model.specs.Layout.{difference_of, beside}
 use Rattle.insert_model.specs.Faults.{IsMemory}

@@ -28,12 +28,12 @@ use Rattle.insert_model.specs.declared.fault.InsertKind.TheVariants.{BadTarget}
 use Rattle.insert_model.specs.declared.line.Line.{Line}
 use Rattle.insert_model.specs.declared.piece.Piece.{Piece}
 use Rattle.msp_encode.specs.Spelled.{count}
-use Rattle.msp_encode.specs.Forms.{writes}
+use Rattle.msp_encode.specs.Forms.{writes, is_immediate}
 use Rattle.insert_model.specs.Source.{own, lines}
 use Rattle.insert_model.specs.declared.aim.Aim.{Aim}
 use Rattle.insert_model.specs.declared.aim.Aim.TheVariants.{ToPc, ToSp, ToMemory, Elsewhere}
 use Rattle.insert_model.specs.Guards.{branch, pop_r4, growth_guard, pop_guard}
-use Rattle.insert_model.specs.Units.{static_bytes, aim, aim_one, is_popped, is_immediate, is_pc, is_plain_pop, into_r4, from_r4, popping, writing, changing, calling_value, one_unit, target_offset, jump_unit, unit_of, unit}
+use Rattle.insert_model.specs.Units.{static_bytes, aim, aim_one, is_popped, is_pc, is_plain_pop, into_r4, from_r4, popping, writing, changing, calling_value, one_unit, target_offset, jump_unit, unit_of, unit}
 use Rattle.insert_model.specs.Groups.{Group, members, behind, groups}
 use Rattle.insert_model.specs.Layout.{before, place_map}
 use Rattle.insert_model.specs.Inserted.{moved_export, with_guards, inserted}

@@ -19,7 +19,7 @@ use Rattle.msp_encode.specs.declared.instr.Instr.{Instr}
 use Rattle.msp_encode.specs.declared.instr.Instr.TheVariants as instr
 use Rattle.msp_encode.specs.Spelling.{src_words, Spells, SrcFits, DstFits, InstrFits, TakesWidth, Takes}
 use Rattle.msp_encode.specs.Laws.{LegalByCases}
-use Rattle.msp_encode.specs.Forms.{writes}
+use Rattle.msp_encode.specs.Forms.{writes, is_immediate}
 use Rattle.msp_decode.specs.Reading.{NoneBegins}
 use Rattle.msp_decode.specs.Function.{reading, ReadingLaw}
 use Rattle.code_model.specs.declared.object.Object.{Object}
@@ -34,7 +34,7 @@ use Rattle.insert_model.specs.declared.line.Line.{Line}
 use Rattle.insert_model.specs.declared.piece.Piece.{Piece}
 use Rattle.insert_model.specs.Source.{own, own_piece, line_at, with_line, lines_from, lines}
 use Rattle.insert_model.specs.Guards.{plain, branch, pop_r4, base, region_guard, store_guard, wide_guard, growth_guard, pop_guard, sp_guard}
-use Rattle.insert_model.specs.Units.{is_static, aim, aim_one, is_popped, is_immediate, is_pc, is_plain_pop, into_r4, through_r4, from_r4, popping, setting_sp, writing, changing, calling_value, calling, one_unit, jump_unit, target_offset, unit_of, unit}
+use Rattle.insert_model.specs.Units.{is_static, aim, aim_one, is_popped, is_pc, is_plain_pop, into_r4, through_r4, from_r4, popping, setting_sp, writing, changing, calling_value, calling, one_unit, jump_unit, target_offset, unit_of, unit}
 use Rattle.insert_laws.specs.Pieces.{moved_src, moved_dst, moved_instr, standing}
 use Rattle.insert_laws.proofs.Streams.{FitEach}
 use Rattle.kernel_model.specs.declared.entries.TheConstants.{GOES}

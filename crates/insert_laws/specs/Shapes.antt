@@ -1,6 +1,7 @@
 -- The shape of the pieces of an object with guards: free pieces, and guards with what they guard.
 use Rattle.std.specs.Prelude.{◌≡◌, ℕ, ◌%◌, ◌<◌, ◌≤◌, ◌⊎◌, List, [], ◌∷◌, ◌++◌, length, Option, None}
 use Rattle.std.specs.List.{AllByRecursion}
+use Rattle.msp_encode.specs.declared.registers.TheConstants.{PC, SP, SR, CHECKED, KEPT_STATUS}
 use Rattle.msp_encode.specs.declared.instr.Op2.TheVariants.{Mov}
 use Rattle.msp_encode.specs.declared.instr.Width.TheVariants.{Wide}
 use Rattle.msp_encode.specs.declared.instr.Src.TheVariants as src
@@ -23,7 +24,7 @@ use Rattle.insert_model.specs.Guards.{store_guard, wide_guard, growth_guard, pop
 
 -- `MOV SR,R5`, with which each guard begins
 abbrev pub saving : Instr
-saving = instr.Two Mov Wide (src.Reg 2) (dst.Reg 5)
+saving = instr.Two Mov Wide (src.Reg SR) (dst.Reg KEPT_STATUS)
 
 -- the pieces of a store guard
 pub record IsStoreGuard (gs : List Piece) : Type 0 where
@@ -54,14 +55,14 @@ IsGuard guard.Sp gs = gs ≡ sp_guard
 
 -- a store through 0(R4) whose index isn't relocated, or an operation on @R4
 abbrev pub IsThroughR4 : Option RelKind → Instr → Type 0
-IsThroughR4 k (instr.Two op w s d) = Writes op × (d ≡ dst.Indexed 4 0) × (k ≡ None) × StepsNoPointer s
+IsThroughR4 k (instr.Two op w s d) = Writes op × (d ≡ dst.Indexed CHECKED 0) × (k ≡ None) × StepsNoPointer s
 IsThroughR4 k (instr.One op w s) = Changes op × IsAtR4 s
 IsThroughR4 k instr.Reti = ⊥
 IsThroughR4 k (instr.Jump c n) = ⊥
 
 -- a store through x(R4), where x isn't relocated, even and at most so many bytes
 abbrev pub IsNearR4 : ℕ → Option RelKind → Instr → Type 0
-IsNearR4 most k (instr.Two op w s d) = Writes op × ((x : ℕ) × ((d ≡ dst.Indexed 4 x) × ((x % 2 ≡ 0) × (x ≤ most)))) × (k ≡ None) × StepsNoPointer s
+IsNearR4 most k (instr.Two op w s d) = Writes op × ((x : ℕ) × ((d ≡ dst.Indexed CHECKED x) × ((x % 2 ≡ 0) × (x ≤ most)))) × (k ≡ None) × StepsNoPointer s
 IsNearR4 most k _ = ⊥
 
 -- a piece that a guard of this kind may stand before
@@ -90,14 +91,14 @@ pub data Shaped (F : Piece → Type 0) (version : ℕ) : List Piece → Type 0 w
 -- no rule on forms asks for a guard
 pub record IsFreeForm (p : Piece) : Type 0 where
   pub no_reti : IsReti p.instr → ⊥
-  pub pc : WritesReg p.instr 0 → IsBranch p.instr
-  pub no_sp : WritesReg p.instr 1 → ⊥
+  pub pc : WritesReg p.instr PC → IsBranch p.instr
+  pub no_sp : WritesReg p.instr SP → ⊥
   pub no_memory : WritesMemory p.instr → ⊥
   pub no_pop : ReadsStack p.instr → ⊥
   pub no_push : IsPushOrCall p.instr → ⊥
   pub no_save : p.instr ≡ saving → ⊥
   -- SR is written by flags alone, which aren't relocated
-  pub sr : WritesReg p.instr 2 → (ChangesFlags p.instr p.source → ⊥) → ⊥
+  pub sr : WritesReg p.instr SR → (ChangesFlags p.instr p.source → ⊥) → ⊥
 
 -- a source instruction that nothing is wrong with
 pub record IsCleanLine (o : Object) (l : Line) : Type 0 where

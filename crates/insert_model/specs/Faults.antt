@@ -1,7 +1,7 @@
 -- What is wrong with a source object, and where.
 use Rattle.std.specs.Prelude.{◌≡◌, ◌≢◌, ℕ, ◌+◌, ◌*◌, ◌<◌, ◌≤◌, ◌⊎◌, ◌==◌, if◌then◌else◌, List, [], ◌∷◌, ◌++◌, length, ℤ, pos, ◌+ℤ◌, false, Option, None, Some, MatchOption, Result, Ok, Err}
 use Rattle.std.specs.List.{Any}
-use Rattle.msp_encode.specs.declared.registers.TheConstants.{CHECKED, KEPT_STATUS, PC, SP, SR}
+use Rattle.msp_encode.specs.declared.registers.TheConstants.{PC, SP, SR, CHECKED, KEPT_STATUS}
 use Rattle.msp_encode.specs.declared.instr.Src.{Src}
 use Rattle.msp_encode.specs.declared.instr.Src.TheVariants as src
 use Rattle.msp_encode.specs.declared.instr.Dst.{Dst}
@@ -153,7 +153,7 @@ HasWrongWord l = IsWrongWithin l 0 ⊎ (IsWrongWithin l 1 ⊎ IsWrongWithin l 2)
 
 -- RETI, or a write of SR or PC that no unit has
 abbrev pub HasForbiddenWrite : Line → Type 0
-HasForbiddenWrite l = IsReti l.instr ⊎ ((WritesReg l.instr 2 × (ChangesFlags l.instr l.second → ⊥)) ⊎ (WritesReg l.instr 0 × (SetsPc l.instr → ⊥)))
+HasForbiddenWrite l = IsReti l.instr ⊎ ((WritesReg l.instr SR × (ChangesFlags l.instr l.second → ⊥)) ⊎ (WritesReg l.instr PC × (SetsPc l.instr → ⊥)))
 
 -- an operand that no unit has
 abbrev pub HasForbiddenRead : Line → Type 0

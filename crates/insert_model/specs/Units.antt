@@ -1,6 +1,6 @@
 -- The unit of each source instruction: what stands for it in an object with guards.
 use Rattle.std.specs.Prelude.{ℕ, ◌+◌, ◌-◌, ◌*◌, ◌/◌, ◌==◌, ◌&&◌, Bool, true, false, nat_le, nat_lt, if◌then◌else◌, List, [], ◌∷◌, ◌++◌, length, ℤ, pos, negsuc, Option, None, Some}
-use Rattle.msp_encode.specs.declared.registers.TheConstants.{CHECKED, PC, SP}
+use Rattle.msp_encode.specs.declared.registers.TheConstants.{PC, SP, CHECKED}
 use Rattle.msp_encode.specs.declared.instr.Op2.{Op2}
 use Rattle.msp_encode.specs.declared.instr.Op2.TheVariants.{Mov}
 use Rattle.msp_encode.specs.declared.instr.Op1.{Op1}
@@ -15,7 +15,7 @@ use Rattle.msp_encode.specs.declared.instr.Dst.{Dst}
 use Rattle.msp_encode.specs.declared.instr.Dst.TheVariants as dst
 use Rattle.msp_encode.specs.declared.instr.Instr.{Instr}
 use Rattle.msp_encode.specs.declared.instr.Instr.TheVariants as instr
-use Rattle.msp_encode.specs.Forms.{writes, is_dst, pops}
+use Rattle.msp_encode.specs.Forms.{writes, is_dst, pops, is_immediate}
 use Rattle.code_model.specs.declared.parts.RelKind.{RelKind}
 use Rattle.code_model.specs.declared.parts.RelKind.TheVariants.{Code, Data, Lo, Hi}
 use Rattle.code_model.specs.Fields.{Fields}
@@ -64,16 +64,6 @@ aim_one size (src.Const c) k = Elsewhere
 -- the source is @SP+
 abbrev pub is_popped : Src → Bool
 is_popped s = pops s SP
-
-abbrev pub is_immediate : Src → Bool
-is_immediate (src.Reg n) = false
-is_immediate (src.Indexed n x) = false
-is_immediate (src.Symbolic x) = false
-is_immediate (src.Absolute x) = false
-is_immediate (src.Indirect n) = false
-is_immediate (src.AutoInc n) = false
-is_immediate (src.Immediate x) = true
-is_immediate (src.Const c) = false
 
 abbrev pub is_pc : Dst → Bool
 is_pc d = is_dst d PC
@@ -135,7 +125,7 @@ two_unit size op w s d p =
 abbrev pub changing : Op1 → Width → Piece → Aim → List Piece
 changing op w p ToPc = p ∷ []
 changing op w p ToSp = p ∷ []
-changing op w p (ToMemory n x k) = store_guard n x k ++ plain (instr.One op w (src.Indirect 4)) ∷ []
+changing op w p (ToMemory n x k) = store_guard n x k ++ plain (instr.One op w (src.Indirect CHECKED)) ∷ []
 changing op w p Elsewhere = p ∷ []
 
 -- `CALL src` of a value

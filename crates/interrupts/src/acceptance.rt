@@ -7,18 +7,24 @@ ghost use Rattle.machine_model.specs.Context.{reg};
 ghost use Rattle.machine_model.specs.Pairs.{put_pair};
 ghost use Rattle.machine_model.specs.Operands.{sum_of};
 ghost use Rattle.machine_model.specs.Does.{lowered, memory_after};
-ghost use Rattle.machine_model.specs.Accepting.{accepted, vector_address};
+ghost use Rattle.machine_model.specs.Accepting.{accepted, allows_interrupts, vector_address};
 ghost use Rattle.machine_model.specs.Rising.{Lacks};
 ghost use Rattle.interrupts.specs.Pushed.{pushed_bytes};
 
 use crate::lines::LINES;
 use flat_mem::FlatMem;
 use kernel_model::map::VECTORS;
+use kernel_model::status::{GIE, SCG0};
 use machine_model::writes::Writes;
 use msp_machine::regs::{PC, Regs, SP, SR};
 
-/// The one bit of SR that an acceptance keeps: SCG0.
-const SCG0: u16 = 0x0040;
+/// Tells whether interrupts are accepted with this SR: where it has GIE.
+#[inline(always)]
+pub fn are_allowed(sr: u16) -> bool
+    ensures { result ≡ allows_interrupts sr }
+{
+    sr / GIE % 2 == 1
+}
 
 /// Accepts an interrupt of a line, 0 to 13: pushes PC and then SR, clears SR but for SCG0, and goes to the address that was at the
 /// line's vector before the pushes. Gives the four bytes that were written.

@@ -1,6 +1,7 @@
 -- Who runs, and the contexts that the kernel makes.
 use Rattle.std.specs.Prelude.{◌≡◌, ℕ, ◌+◌, ◌<◌, ◌==◌, if◌then◌else◌, List, [], ◌∷◌}
 use Rattle.kernel_model.specs.declared.map.TheConstants.{IDLE, KERNEL_TOP}
+use Rattle.kernel_model.specs.declared.status.TheConstants.{GIE}
 use Rattle.kernel_model.specs.Kernel.{Kernel}
 use Rattle.kernel_model.specs.Words.{none, running, running_module, app_of}
 
@@ -24,7 +25,7 @@ DomainRuns k = running_domain k < 12
 
 -- a new thread's registers: all 0 but PC, SP, SR, where interrupts are allowed, and R12
 abbrev pub new_context : (pc sp r12 : ℕ) → List ℕ
-new_context pc sp r12 = pc ∷ sp ∷ 8 ∷ 0 ∷ 0 ∷ 0 ∷ 0 ∷ 0 ∷ 0 ∷ 0 ∷ 0 ∷ 0 ∷ r12 ∷ 0 ∷ 0 ∷ 0 ∷ []
+new_context pc sp r12 = pc ∷ sp ∷ GIE ∷ 0 ∷ 0 ∷ 0 ∷ 0 ∷ 0 ∷ 0 ∷ 0 ∷ 0 ∷ 0 ∷ r12 ∷ 0 ∷ 0 ∷ 0 ∷ []
 
 -- those of the machine that idles
 abbrev pub idle_context : List ℕ

@@ -4,13 +4,11 @@ ghost use Rattle.std.specs.Prelude.{◌≡◌, length};
 ghost use Rattle.kernel_model.specs.Running.{new_context};
 ghost use Rattle.kernel_threads.specs.Contexts.{taken};
 
+use kernel_model::status::GIE;
 use msp_machine::Regs;
 
 /// How many registers there are.
 const REGISTERS: usize = 16;
-
-/// GIE alone: interrupts are allowed.
-const INTERRUPTS_ON: u16 = 8;
 
 /// The registers, R0 to R15.
 pub fn words_of(r: &Regs) -> [u16; 16]
@@ -44,7 +42,7 @@ pub fn new_context(pc: u16, sp: u16, r12: u16) -> [u16; 16]
     [
         pc,
         sp,
-        INTERRUPTS_ON,
+        GIE,
         0,
         0,
         0,

@@ -2,6 +2,7 @@
 use Rattle.std.specs.Prelude.{◌≡◌, ℕ, ◌+◌, ◌*◌, ◌%◌, ◌<◌, ◌≤◌, ◌⊎◌, List, [], true, pos}
 use Rattle.machine_model.specs.Context.{reg, IsContext}
 use Rattle.machine_model.specs.Does.{does, Effect}
+use Rattle.msp_encode.specs.declared.registers.TheConstants.{PC, SP, SR, CHECKED, KEPT_STATUS}
 use Rattle.msp_encode.specs.declared.instr.Width.TheVariants.{Wide}
 use Rattle.msp_encode.specs.declared.instr.Op2.TheVariants.{Mov, Add, Cmp}
 use Rattle.msp_encode.specs.declared.instr.Src.{Src}
@@ -34,34 +35,34 @@ pub record IsGuardAt (g : GuardAt) : Type 0 where
 
 -- the instruction at a place of a guard, and its number of words. The guarded instruction is none of the guard's own.
 abbrev pub IsOwn : GuardPlace → GuardAt → Bounds → Instr → ℕ → Type 0
-IsOwn TakesAddress g b i n = (i ≡ instr.Two Mov Wide g.from (dst.Reg 4)) × (n ≡ 1)
-IsOwn AddsIndex g b i n = (i ≡ instr.Two Add Wide (src.Immediate g.x) (dst.Reg 4)) × (n ≡ 2)
-IsOwn ComparesLow g b i n = (i ≡ instr.Two Cmp Wide (src.Immediate b.lo) (dst.Reg 4)) × (n ≡ 2)
+IsOwn TakesAddress g b i n = (i ≡ instr.Two Mov Wide g.from (dst.Reg CHECKED)) × (n ≡ 1)
+IsOwn AddsIndex g b i n = (i ≡ instr.Two Add Wide (src.Immediate g.x) (dst.Reg CHECKED)) × (n ≡ 2)
+IsOwn ComparesLow g b i n = (i ≡ instr.Two Cmp Wide (src.Immediate b.lo) (dst.Reg CHECKED)) × (n ≡ 2)
 IsOwn JumpsIfLow g b i n = (i ≡ instr.Jump Nc (pos 3)) × (n ≡ 1)
-IsOwn ComparesHigh g b i n = (i ≡ instr.Two Cmp Wide (src.Immediate b.hi) (dst.Reg 4)) × (n ≡ 2)
+IsOwn ComparesHigh g b i n = (i ≡ instr.Two Cmp Wide (src.Immediate b.hi) (dst.Reg CHECKED)) × (n ≡ 2)
 IsOwn JumpsIfHigh g b i n = (i ≡ instr.Jump Nc (pos 2)) × (n ≡ 1)
-IsOwn StoreFails g b i n = (i ≡ instr.Two Mov Wide (src.Immediate STORE_FAULT) (dst.Reg 0)) × (n ≡ 2)
-IsOwn StoreRestores g b i n = (i ≡ instr.Two Mov Wide (src.Reg 5) (dst.Reg 2)) × (n ≡ 1)
-IsOwn ComparesLimit g b i n = (i ≡ instr.Two Cmp Wide (src.Absolute STACK_LIMIT) (dst.Reg 1)) × (n ≡ 2)
+IsOwn StoreFails g b i n = (i ≡ instr.Two Mov Wide (src.Immediate STORE_FAULT) (dst.Reg PC)) × (n ≡ 2)
+IsOwn StoreRestores g b i n = (i ≡ instr.Two Mov Wide (src.Reg KEPT_STATUS) (dst.Reg SR)) × (n ≡ 1)
+IsOwn ComparesLimit g b i n = (i ≡ instr.Two Cmp Wide (src.Absolute STACK_LIMIT) (dst.Reg SP)) × (n ≡ 2)
 IsOwn JumpsIfRoom g b i n = (i ≡ instr.Jump C (pos 2)) × (n ≡ 1)
-IsOwn GrowthFails g b i n = (i ≡ instr.Two Mov Wide (src.Immediate STACK_FAULT) (dst.Reg 0)) × (n ≡ 2)
-IsOwn GrowthRestores g b i n = (i ≡ instr.Two Mov Wide (src.Reg 5) (dst.Reg 2)) × (n ≡ 1)
-IsOwn ComparesTop g b i n = (i ≡ instr.Two Cmp Wide (src.Reg 1) (dst.Absolute STACK_TOP)) × (n ≡ 2)
+IsOwn GrowthFails g b i n = (i ≡ instr.Two Mov Wide (src.Immediate STACK_FAULT) (dst.Reg PC)) × (n ≡ 2)
+IsOwn GrowthRestores g b i n = (i ≡ instr.Two Mov Wide (src.Reg KEPT_STATUS) (dst.Reg SR)) × (n ≡ 1)
+IsOwn ComparesTop g b i n = (i ≡ instr.Two Cmp Wide (src.Reg SP) (dst.Absolute STACK_TOP)) × (n ≡ 2)
 IsOwn JumpsIfFilled g b i n = (i ≡ instr.Jump Ne (pos 2)) × (n ≡ 1)
-IsOwn PopFails g b i n = (i ≡ instr.Two Mov Wide (src.Immediate STACK_FAULT) (dst.Reg 0)) × (n ≡ 2)
-IsOwn PopRestores g b i n = (i ≡ instr.Two Mov Wide (src.Reg 5) (dst.Reg 2)) × (n ≡ 1)
-IsOwn ComparesNewLow g b i n = (i ≡ instr.Two Cmp Wide (src.Absolute STACK_LIMIT) (dst.Reg 4)) × (n ≡ 2)
+IsOwn PopFails g b i n = (i ≡ instr.Two Mov Wide (src.Immediate STACK_FAULT) (dst.Reg PC)) × (n ≡ 2)
+IsOwn PopRestores g b i n = (i ≡ instr.Two Mov Wide (src.Reg KEPT_STATUS) (dst.Reg SR)) × (n ≡ 1)
+IsOwn ComparesNewLow g b i n = (i ≡ instr.Two Cmp Wide (src.Absolute STACK_LIMIT) (dst.Reg CHECKED)) × (n ≡ 2)
 IsOwn JumpsIfNewLow g b i n = (i ≡ instr.Jump Nc (pos 3)) × (n ≡ 1)
-IsOwn ComparesNewHigh g b i n = (i ≡ instr.Two Cmp Wide (src.Reg 4) (dst.Absolute STACK_TOP)) × (n ≡ 2)
+IsOwn ComparesNewHigh g b i n = (i ≡ instr.Two Cmp Wide (src.Reg CHECKED) (dst.Absolute STACK_TOP)) × (n ≡ 2)
 IsOwn JumpsIfNewHigh g b i n = (i ≡ instr.Jump C (pos 2)) × (n ≡ 1)
-IsOwn SpFails g b i n = (i ≡ instr.Two Mov Wide (src.Immediate STACK_FAULT) (dst.Reg 0)) × (n ≡ 2)
-IsOwn SpRestores g b i n = (i ≡ instr.Two Mov Wide (src.Reg 5) (dst.Reg 2)) × (n ≡ 1)
+IsOwn SpFails g b i n = (i ≡ instr.Two Mov Wide (src.Immediate STACK_FAULT) (dst.Reg PC)) × (n ≡ 2)
+IsOwn SpRestores g b i n = (i ≡ instr.Two Mov Wide (src.Reg KEPT_STATUS) (dst.Reg SR)) × (n ≡ 1)
 IsOwn _ g b i n = ⊥
 
 -- the context stands at a place of the guard, and what is to be known there is so
 pub record IsAtOwn (p : GuardPlace) (g : GuardAt) (b : Bounds) (kb : ℕ) (r : List ℕ) : Type 0 where
-  pub pc : reg r 0 ≡ g.at + 2 * place_offset p
-  pub saved : keeps_status p ≡ true → IsStatus kb (reg r 5)
+  pub pc : reg r PC ≡ g.at + 2 * place_offset p
+  pub saved : keeps_status p ≡ true → IsStatus kb (reg r KEPT_STATUS)
   pub known : place_fact p b r
 
 -- a step leads to the place q, and writes nothing
@@ -73,7 +74,7 @@ pub record GoesTo (q : GuardPlace) (g : GuardAt) (b : Bounds) (kb : ℕ) (e : Ef
 -- a step leads to the entry for faults, and writes nothing
 pub record Faults (entry : ℕ) (b : Bounds) (kb : ℕ) (e : Effect) : Type 0 where
   pub steady : IsSteady kb b.low b.top e.context
-  pub entry_is : reg e.context 0 ≡ entry
+  pub entry_is : reg e.context PC ≡ entry
   pub silent : e.written ≡ []
 
 -- where the step at a place leads. The guarded instructions are left to laws of their own.
@@ -105,18 +106,18 @@ Next _ g b kb e = Unit {0}
 -- the address was taken from a register and is still that register's value, or is about to be
 abbrev pub TakesFrom : GuardPlace → GuardAt → ℕ → List ℕ → Type 0
 TakesFrom TakesAddress g k r = g.from ≡ src.Reg k
-TakesFrom AddsIndex g k r = (g.x ≡ 0) × (reg r 4 ≡ reg r k)
-TakesFrom ComparesLow g k r = reg r 4 ≡ reg r k
-TakesFrom JumpsIfLow g k r = reg r 4 ≡ reg r k
-TakesFrom ComparesHigh g k r = reg r 4 ≡ reg r k
-TakesFrom JumpsIfHigh g k r = reg r 4 ≡ reg r k
-TakesFrom StoreRestores g k r = reg r 4 ≡ reg r k
+TakesFrom AddsIndex g k r = (g.x ≡ 0) × (reg r CHECKED ≡ reg r k)
+TakesFrom ComparesLow g k r = reg r CHECKED ≡ reg r k
+TakesFrom JumpsIfLow g k r = reg r CHECKED ≡ reg r k
+TakesFrom ComparesHigh g k r = reg r CHECKED ≡ reg r k
+TakesFrom JumpsIfHigh g k r = reg r CHECKED ≡ reg r k
+TakesFrom StoreRestores g k r = reg r CHECKED ≡ reg r k
 TakesFrom _ g k r = ⊥
 
 -- a step of the guard keeps it so
 abbrev pub SameLaw : Type 0
 SameLaw = (p : GuardPlace) (g : GuardAt) (b : Bounds) (m r : List ℕ) (i : Instr) (n k : ℕ) → IsContext r → IsOwn p g b i n → 6 ≤ k → k < 16
-    → TakesFrom p g k r → reg (does m r i n).context 4 ≡ reg (does m r i n).context k
+    → TakesFrom p g k r → reg (does m r i n).context CHECKED ≡ reg (does m r i n).context k
 
 -- one step from a place at which what is to be known is so
 abbrev pub OwnLaw : Type 0

@@ -1,5 +1,6 @@
 -- The places of the four guards, and what is known at each.
 use Rattle.std.specs.Prelude.{◌≡◌, ◌≢◌, ℕ, ◌+◌, ◌<◌, ◌≤◌, Bool, true, false, List}
+use Rattle.msp_encode.specs.declared.registers.TheConstants.{SP, SR, CHECKED}
 use Rattle.machine_model.specs.Context.{reg}
 use Rattle.machine_model.specs.Status.{carry, is_zero}
 use Rattle.machine_laws.specs.Steady.{Bounds}
@@ -75,24 +76,24 @@ keeps_status SetsSp = false
 keeps_status _ = true
 
 abbrev pub is_carry : List ℕ → Bool
-is_carry r = carry (reg r 2)
+is_carry r = carry (reg r SR)
 
 -- what is known of R4, SP and the flags
 abbrev pub place_fact : GuardPlace → Bounds → List ℕ → Type 0
-place_fact JumpsIfLow b r = is_carry r ≡ true → b.lo ≤ reg r 4
-place_fact ComparesHigh b r = b.lo ≤ reg r 4
-place_fact JumpsIfHigh b r = (b.lo ≤ reg r 4) × (is_carry r ≡ false → reg r 4 < b.hi)
-place_fact StoreRestores b r = (b.lo ≤ reg r 4) × (reg r 4 < b.hi)
-place_fact Stores b r = (b.lo ≤ reg r 4) × (reg r 4 < b.hi)
-place_fact JumpsIfRoom b r = is_carry r ≡ true → b.low + 6 ≤ reg r 1
-place_fact GrowthRestores b r = b.low + 6 ≤ reg r 1
-place_fact Grows b r = b.low + 6 ≤ reg r 1
-place_fact JumpsIfFilled b r = is_zero (reg r 2) ≡ false → reg r 1 ≢ b.top
-place_fact PopRestores b r = reg r 1 ≢ b.top
-place_fact Pops b r = reg r 1 ≢ b.top
-place_fact JumpsIfNewLow b r = is_carry r ≡ true → b.low + 6 ≤ reg r 4
-place_fact ComparesNewHigh b r = b.low + 6 ≤ reg r 4
-place_fact JumpsIfNewHigh b r = (b.low + 6 ≤ reg r 4) × (is_carry r ≡ true → reg r 4 ≤ b.top)
-place_fact SpRestores b r = (b.low + 6 ≤ reg r 4) × (reg r 4 ≤ b.top)
-place_fact SetsSp b r = (b.low + 6 ≤ reg r 4) × (reg r 4 ≤ b.top)
+place_fact JumpsIfLow b r = is_carry r ≡ true → b.lo ≤ reg r CHECKED
+place_fact ComparesHigh b r = b.lo ≤ reg r CHECKED
+place_fact JumpsIfHigh b r = (b.lo ≤ reg r CHECKED) × (is_carry r ≡ false → reg r CHECKED < b.hi)
+place_fact StoreRestores b r = (b.lo ≤ reg r CHECKED) × (reg r CHECKED < b.hi)
+place_fact Stores b r = (b.lo ≤ reg r CHECKED) × (reg r CHECKED < b.hi)
+place_fact JumpsIfRoom b r = is_carry r ≡ true → b.low + 6 ≤ reg r SP
+place_fact GrowthRestores b r = b.low + 6 ≤ reg r SP
+place_fact Grows b r = b.low + 6 ≤ reg r SP
+place_fact JumpsIfFilled b r = is_zero (reg r SR) ≡ false → reg r SP ≢ b.top
+place_fact PopRestores b r = reg r SP ≢ b.top
+place_fact Pops b r = reg r SP ≢ b.top
+place_fact JumpsIfNewLow b r = is_carry r ≡ true → b.low + 6 ≤ reg r CHECKED
+place_fact ComparesNewHigh b r = b.low + 6 ≤ reg r CHECKED
+place_fact JumpsIfNewHigh b r = (b.low + 6 ≤ reg r CHECKED) × (is_carry r ≡ true → reg r CHECKED ≤ b.top)
+place_fact SpRestores b r = (b.low + 6 ≤ reg r CHECKED) × (reg r CHECKED ≤ b.top)
+place_fact SetsSp b r = (b.low + 6 ≤ reg r CHECKED) × (reg r CHECKED ≤ b.top)
 place_fact _ b r = Unit {0}

@@ -3,6 +3,7 @@ use Rattle.std.specs.Prelude.{◌≡◌, ℕ, ◌+◌, ◌/◌, ◌%◌, ◌<◌
 use Rattle.machine_model.specs.Memory.{word_at}
 use Rattle.machine_model.specs.Context.{reg, IsContext}
 use Rattle.kernel_model.specs.declared.map.TheConstants.{STACK_LIMIT, STACK_TOP}
+use Rattle.msp_encode.specs.declared.registers.TheConstants.{SP, SR}
 
 -- a possible SR: no bit outside 010F, and these control bits (bits 3 to 7): 1 for an application, 0 for a module
 pub record IsStatus (kb sr : ℕ) : Type 0 where
@@ -25,9 +26,9 @@ pub record AreBounds (b : Bounds) : Type 0 where
 -- SP keeps room for the four bytes of an acceptance
 pub record IsSteady (kb low top : ℕ) (r : List ℕ) : Type 0 where
   pub context : IsContext r
-  pub room : low + 4 ≤ reg r 1
-  pub within : reg r 1 ≤ top
-  pub status : IsStatus kb (reg r 2)
+  pub room : low + 4 ≤ reg r SP
+  pub within : reg r SP ≤ top
+  pub status : IsStatus kb (reg r SR)
 
 -- the words for the current limit and the current top are those of the stack
 pub record Limits (m : List ℕ) (low top : ℕ) : Type 0 where

@@ -1,5 +1,6 @@
 -- A context as a list of sixteen words.
 use Rattle.std.specs.Prelude.{◌≡◌, ℕ, ◌%◌, ◌<◌, List, length, slice_index, slice_set, nat_lt, ◌==◌, if◌then◌else◌}
+use Rattle.msp_encode.specs.declared.registers.TheConstants.{PC, SP, CONSTANTS}
 use Rattle.machine_model.specs.Memory.{even}
 
 abbrev pub reg : List ℕ → ℕ → ℕ
@@ -11,7 +12,7 @@ set_reg r n v = if nat_lt n 2 then slice_set r n (even v) else (if n == 3 then r
 
 pub record IsContext (r : List ℕ) : Type 0 where
   pub words : length r ≡ 16
-  pub pc_even : reg r 0 % 2 ≡ 0
-  pub sp_even : reg r 1 % 2 ≡ 0
-  pub zero : reg r 3 ≡ 0
+  pub pc_even : reg r PC % 2 ≡ 0
+  pub sp_even : reg r SP % 2 ≡ 0
+  pub zero : reg r CONSTANTS ≡ 0
   pub small : (k : ℕ) → reg r k < 65536

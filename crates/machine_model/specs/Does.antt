@@ -5,6 +5,7 @@ use Rattle.machine_model.specs.Context.{reg, set_reg}
 use Rattle.machine_model.specs.Status.{carry, is_zero, negative, overflow}
 use Rattle.machine_model.specs.Operands.{sum_of, source_value, after_source, place_to, place_of, value_in, put_context, put_pairs, stored, NamesRegisters, NamesRegister}
 use Rattle.machine_model.specs.Alu.{alu, alu_one}
+use Rattle.msp_encode.specs.declared.registers.TheConstants.{PC, SP, SR}
 use Rattle.msp_encode.specs.declared.instr.Width.{Width}
 use Rattle.msp_encode.specs.declared.instr.Width.TheVariants.{Wide}
 use Rattle.msp_encode.specs.declared.instr.Op2.{Op2}
@@ -29,18 +30,18 @@ memory_after m e = put_all m e.written
 
 -- PC past the n words of the instruction
 abbrev pub passed : List ℕ → ℕ → List ℕ
-passed r n = set_reg r 0 (sum_of (reg r 0) (2 * n))
+passed r n = set_reg r PC (sum_of (reg r PC) (2 * n))
 
 -- an operation of two operands
 unfoldable pub two : Op2 → Width → Src → Dst → ℕ → List ℕ → List ℕ → Effect
 two op w s d n m r =
-    let pc = reg r 0 in
+    let pc = reg r PC in
     let r1 = passed r n in
     let v = source_value w s (sum_of pc 2) m r1 in
     let r2 = after_source w s r1 in
     let p = place_to d (sum_of pc (2 * n - 2)) r2 in
-    let o = alu op w v (value_in w p m r2) (reg r2 2) in
-    let r3 = set_reg r2 2 o.status in
+    let o = alu op w v (value_in w p m r2) (reg r2 SR) in
+    let r3 = set_reg r2 SR o.status in
     record {
       context = if writes op then put_context p o.value r3 else r3;
       written = if writes op then put_pairs w p o.value else [];
@@ -48,38 +49,38 @@ two op w s d n m r =
 
 -- SP lowered by two
 abbrev pub lowered : List ℕ → List ℕ
-lowered r = set_reg r 1 (sum_of (reg r 1) 65534)
+lowered r = set_reg r SP (sum_of (reg r SP) 65534)
 
 abbrev pub raised : List ℕ → List ℕ
-raised r = set_reg r 1 (sum_of (reg r 1) 2)
+raised r = set_reg r SP (sum_of (reg r SP) 2)
 
 -- an operation of one operand that writes it
 unfoldable pub change : Op1 → Width → Src → ℕ → List ℕ → List ℕ → Effect
 change op w s n m r =
-    let pc = reg r 0 in
+    let pc = reg r PC in
     let r1 = passed r n in
     let v = source_value w s (sum_of pc 2) m r1 in
     let p = place_of s (sum_of pc 2) r1 in
     let r2 = after_source w s r1 in
-    let o = alu_one op w v (reg r2 2) in
+    let o = alu_one op w v (reg r2 SR) in
     record {
-      context = put_context p o.value (set_reg r2 2 o.status);
+      context = put_context p o.value (set_reg r2 SR o.status);
       written = put_pairs w p o.value;
     }
 
 unfoldable pub push : Width → Src → ℕ → List ℕ → List ℕ → Effect
 push w s n m r =
     let r1 = passed r n in
-    let v = source_value w s (sum_of (reg r 0) 2) m r1 in
+    let v = source_value w s (sum_of (reg r PC) 2) m r1 in
     let r2 = lowered (after_source w s r1) in
-    record { context = r2; written = stored w (reg r2 1) v }
+    record { context = r2; written = stored w (reg r2 SP) v }
 
 unfoldable pub call : Src → ℕ → List ℕ → List ℕ → Effect
 call s n m r =
     let r1 = passed r n in
-    let v = source_value Wide s (sum_of (reg r 0) 2) m r1 in
+    let v = source_value Wide s (sum_of (reg r PC) 2) m r1 in
     let r2 = lowered (after_source Wide s r1) in
-    record { context = set_reg r2 0 v; written = stored Wide (reg r2 1) (reg r2 0) }
+    record { context = set_reg r2 PC v; written = stored Wide (reg r2 SP) (reg r2 PC) }
 
 unfoldable pub one : Op1 → Width → Src → ℕ → List ℕ → List ℕ → Effect
 one Push w s n m r = push w s n m r
@@ -91,9 +92,9 @@ one Sxt w s n m r = change Sxt w s n m r
 
 unfoldable pub reti : List ℕ → List ℕ → Effect
 reti m r =
-    let sp = reg r 1 in
-    let r1 = raised (set_reg r 2 (word_at m sp)) in
-    record { context = raised (set_reg r1 0 (word_at m (reg r1 1))); written = [] }
+    let sp = reg r SP in
+    let r1 = raised (set_reg r SR (word_at m sp)) in
+    record { context = raised (set_reg r1 PC (word_at m (reg r1 SP))); written = [] }
 
 abbrev pub holds : Cond → ℕ → Bool
 holds Ne sr = not (is_zero sr)
@@ -113,7 +114,7 @@ target pc (negsuc k) = sum_of pc (65536 - 2 * k)
 unfoldable pub jump : Cond → ℤ → List ℕ → Effect
 jump c k r =
     record {
-      context = set_reg r 0 (if holds c (reg r 2) then target (reg r 0) k else sum_of (reg r 0) 2);
+      context = set_reg r PC (if holds c (reg r SR) then target (reg r PC) k else sum_of (reg r PC) 2);
       written = [];
     }
 

@@ -1,7 +1,6 @@
 //! What the first pass collects.
 
 ghost use Rattle.std.specs.Prelude.{◌≡◌, ◌+◌, ◌<◌, ◌≤◌, ◌++◌, [], ◌∷◌, length, ◌*◌, OnOk};
-ghost use Rattle.msp_encode.specs.Spelling.{words_after, src_words, dst_words};
 ghost use Rattle.asm_model.specs.Drafts.{first_progress, placed, place_in, code_words, grown};
 ghost use Rattle.msp_asm.specs.declared.drafts.Stop.TheVariants.{Memory};
 
@@ -11,7 +10,6 @@ use asm_model::piece::{Piece, Placed};
 use asm_model::progress::{Progress, Section, Version};
 use code_model::object::{CODE_WORDS_MAX, STATIC_BYTES_MAX};
 use edge_io::lists::Items;
-use msp_encode::instr::{Dst, Instr, Src};
 use std::alloc::AllocError;
 
 /// Why the assembler stops at a line.
@@ -64,47 +62,13 @@ pub(crate) fn place(section: Section, p: Progress) -> Value
     }
 }
 
-/// How many words a source has behind the instruction word.
-pub(crate) fn source_words(src: &Src) -> u16
-    ensures value { result ≡ length (src_words src.now) }
-    ensures small { result ≤ 1 }
-{
-    match src {
-        Src::Indexed(_, _) | Src::Symbolic(_) | Src::Absolute(_) | Src::Immediate(_) => 1,
-        Src::Reg(_) | Src::Indirect(_) | Src::AutoInc(_) | Src::Const(_) => 0,
-    }
-}
-
-/// How many words a destination has behind the instruction word.
-fn destination_words(dst: &Dst) -> u16
-    ensures value { result ≡ length (dst_words dst.now) }
-    ensures small { result ≤ 1 }
-{
-    match dst {
-        Dst::Reg(_) => 0,
-        Dst::Indexed(_, _) | Dst::Symbolic(_) | Dst::Absolute(_) => 1,
-    }
-}
-
-/// How many words an instruction has, 1 to 3.
-fn instruction_words(i: &Instr) -> u16
-    ensures value { result ≡ 1 + length (words_after i.now) }
-    ensures small { result ≤ 3 }
-{
-    match i {
-        Instr::Two { src, dst, .. } => 1 + source_words(src) + destination_words(dst),
-        Instr::One { src, .. } => 1 + source_words(src),
-        Instr::Reti | Instr::Jump { .. } => 1,
-    }
-}
-
 /// How many words a piece adds to the code.
 pub(crate) fn words(piece: &Piece) -> u32
     ensures value { result ≡ code_words piece.now }
     ensures small { result ≤ 3 }
 {
     match piece {
-        Piece::Operation { instr, .. } => instruction_words(instr) as u32,
+        Piece::Operation { instr, .. } => instr.words() as u32,
         Piece::Jump { .. } => 1,
         Piece::Word { .. } | Piece::Byte(_) | Piece::Entry(_) | Piece::Export { .. } => 0,
     }

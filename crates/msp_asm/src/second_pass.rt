@@ -12,7 +12,7 @@ ghost use Rattle.msp_asm.specs.Given.{IsLegalPiece, Puts, output_of};
 ghost use Rattle.code_model.specs.declared.object.TheConstants.{CODE_BYTES_MAX, CODE_WORDS_MAX, STATIC_BYTES_MAX};
 
 use crate::built::Built;
-use crate::drafts::{Stop, source_words};
+use crate::drafts::Stop;
 use crate::words::{
     known, place_destination, place_source, push_relocation, relocation_on, suit,
     use_of_destination, use_of_source, word_on,
@@ -100,7 +100,7 @@ fn behind(at: u32, src: &Src) -> u32
     ensures value { result ≡ behind_source at src.now }
     ensures small { result < 65536 }
 {
-    at + 2 + 2 * source_words(src) as u32
+    at + 2 + 2 * src.words() as u32
 }
 
 /// Appends the relocations of an instruction at an offset.

@@ -1,5 +1,5 @@
 -- The reading finds each instruction that is spelled.
-use Rattle.std.proofs.Common.{◌≡◌, ℕ, ◌-◌, ◌/◌, ◌%◌, ◌≤◌, ◌<◌, true, false, cond, eqb, leb, [], ◌∷◌, ◌++◌, length, Some, ℤ, refl, ap, ◌∙◌, arith}
+use Rattle.std.proofs.Common.{◌≡◌, ℕ, ◌-◌, ◌/◌, ◌%◌, ◌≤◌, ◌<◌, true, false, ◌&&◌, cond, eqb, leb, [], ◌∷◌, ◌++◌, length, Some, ℤ, refl, ap, ◌∙◌, arith}
 use Rattle.std.proofs.lemmas.Bool.Decides.{nat_tests}
 use Rattle.std.proofs.lemmas.Int.{ints}
 use Rattle.std.proofs.lemmas.List.{length-append}
@@ -22,7 +22,8 @@ use Rattle.msp_encode.specs.declared.instr.Instr.TheVariants as instr
 use Rattle.msp_encode.specs.Spelling.{op2_code, op1_code, cond_code, width_code, ConstRow, SrcRow, DstRow, src_words, dst_words, Takes, TakesWidth, OffsetRow, First, words_after, TwoFields, OneFields, JumpFields}
 use Rattle.msp_encode.proofs.Codes.{op2_code-range, op1_code-range}
 use Rattle.msp_decode.specs.Reading.{Leads}
-use Rattle.msp_decode.specs.Function.{chosen, op2s, op1s, conds, source_rows, dst_rows, width_of, takes, signed_ten, read_two, read_one, read_jump, read_instr}
+use Rattle.msp_encode.specs.Legality.{takes_width, takes}
+use Rattle.msp_decode.specs.Function.{chosen, op2s, op1s, conds, source_rows, dst_rows, width_of, signed_ten, read_two, read_one, read_jump, read_instr}
 use Rattle.msp_decode.proofs.Lists.{leads-one, leads-second}
 
 source_rows-const : (c : Cg) (r m x : ℕ) → ConstRow c r m → source_rows r x m ≡ Some (src.Const c)
@@ -111,25 +112,8 @@ two-complete op width s d w w1 w2 f e =
     let by_width : width_of w ≡ width = width_of-complete width w f.width_bit in
     simp (by_op, by_source, by_destination, by_width)
 
-takes-complete : (op : Op1) (width : Width) (s : Src) → TakesWidth op width → Takes op s → takes op width s ≡ true
-takes-complete Push width s h k = refl
-takes-complete Rrc width (src.Const c) h k = absurd k
-takes-complete Rrc width (src.Immediate x) h k = absurd k
-takes-complete Rrc width s h k = refl
-takes-complete Rra width (src.Const c) h k = absurd k
-takes-complete Rra width (src.Immediate x) h k = absurd k
-takes-complete Rra width s h k = refl
-takes-complete Swpb Byte s h k = absurd h
-takes-complete Swpb Wide (src.Const c) h k = absurd k
-takes-complete Swpb Wide (src.Immediate x) h k = absurd k
-takes-complete Swpb Wide s h k = refl
-takes-complete Sxt Byte s h k = absurd h
-takes-complete Sxt Wide (src.Const c) h k = absurd k
-takes-complete Sxt Wide (src.Immediate x) h k = absurd k
-takes-complete Sxt Wide s h k = refl
-takes-complete Call Byte s h k = absurd h
-takes-complete Call Wide (src.Const c) h k = absurd k
-takes-complete Call Wide s h k = refl
+takes-complete : (op : Op1) (width : Width) (s : Src) → TakesWidth op width → Takes op s → (takes_width op width && takes op s) ≡ true
+takes-complete op width s h k = grind arith
 
 signed_ten-complete : (z : ℤ) (k : ℕ) → k < 1024 → OffsetRow z k → signed_ten k ≡ z
 signed_ten-complete z k h e = grind (arith, nat_tests, ints)
@@ -148,7 +132,7 @@ one-complete op width s w w1 f e =
     let by_op : chosen op1s (w / 128 % 8) ≡ Some op = chosen-op1 op (w / 128 % 8) f.op_code in
     let by_source : source_rows (w % 16) w1 (w / 16 % 4) ≡ Some s = source_rows-complete s (w % 16) (w / 16 % 4) w1 f.source e in
     let by_width : width_of w ≡ width = width_of-complete width w f.width_bit in
-    let by_takes : takes op width s ≡ true = takes-complete op width s f.takes_width f.takes in
+    let by_takes : (takes_width op width && takes op s) ≡ true = takes-complete op width s f.takes_width f.takes in
     simp (other, by_op, by_source, by_width, by_takes)
 
 jump-complete : (c : Cond) (z : ℤ) (w : ℕ) → JumpFields c z w → read_jump w ≡ Some (instr.Jump c z)

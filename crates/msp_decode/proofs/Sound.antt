@@ -1,5 +1,5 @@
 -- What the reading finds is spelled.
-use Rattle.std.proofs.Common.{◌≡◌, ℕ, suc, ◌+◌, ◌-◌, ◌/◌, ◌%◌, ◌≤◌, ◌<◌, Bool, true, false, cond, eqb, leb, [], ◌∷◌, length, take, Option, None, Some, MatchOption, refl, ap, sym, subst, ◌∙◌, arith}
+use Rattle.std.proofs.Common.{◌&&◌, ◌≡◌, ℕ, suc, ◌+◌, ◌-◌, ◌/◌, ◌%◌, ◌≤◌, ◌<◌, Bool, true, false, cond, eqb, leb, [], ◌∷◌, length, take, Option, None, Some, MatchOption, refl, ap, sym, subst, ◌∙◌, arith}
 use Rattle.std.proofs.lemmas.Bool.Decides.{nat_tests}
 use Rattle.std.proofs.lemmas.Int.{ints}
 use Rattle.msp_encode.specs.declared.instr.Op1.{Op1}
@@ -8,7 +8,8 @@ use Rattle.msp_encode.specs.declared.instr.Src.{Src}
 use Rattle.msp_encode.specs.declared.instr.Instr.{Instr}
 use Rattle.msp_encode.specs.Spelling.{op2_code, op1_code, cond_code, width_code, SrcRow, DstRow, src_words, dst_words, Takes, TakesWidth, OffsetRow, First, words_after, Spells}
 use Rattle.msp_decode.specs.Reading.{Leads, NoneBegins}
-use Rattle.msp_decode.specs.Function.{chosen, op2s, op1s, conds, source_rows, dst_rows, width_of, takes, signed_ten, then_option, read_two, read_one, read_jump, read_instr, reading, ReadingLaw}
+use Rattle.msp_encode.specs.Legality.{takes_width, takes}
+use Rattle.msp_decode.specs.Function.{chosen, op2s, op1s, conds, source_rows, dst_rows, width_of, signed_ten, then_option, read_two, read_one, read_jump, read_instr, reading, ReadingLaw}
 use Rattle.msp_decode.proofs.Lists.{leads-join, longer}
 use Rattle.msp_decode.proofs.Complete.{read_instr-complete, length-words_after}
 use Rattle.msp_decode.proofs.Retold.{with_words, with_words-first, with_words-leads}
@@ -34,7 +35,7 @@ width_of-sound w = grind (arith, nat_tests)
 signed_ten-sound : (k : ℕ) → k < 1024 → OffsetRow (signed_ten k) k
 signed_ten-sound k h = grind (arith, nat_tests, ints)
 
-takes-sound : (op : Op1) (width : Width) (s : Src) → takes op width s ≡ true → TakesWidth op width × Takes op s
+takes-sound : (op : Op1) (width : Width) (s : Src) → (takes_width op width && takes op s) ≡ true → TakesWidth op width × Takes op s
 takes-sound op width s e = grind arith
 
 match-bind : {X Y : Type 0} (o : Option X) (f : X → Option Y) (P : X → Type 0) (Q : Y → Type 0) → MatchOption o (Unit {0}) P → ((x : X) → P x → MatchOption (f x) (Unit {0}) Q) → MatchOption (then_option o f) (Unit {0}) Q
@@ -64,7 +65,7 @@ one-sound w w1 w2 form =
     match-if (eqb w 4864) _ _ _ (λ e. let same : w ≡ 4864 = grind (arith, nat_tests) in (same, refl)) (λ e.
     match-bind (chosen op1s (w / 128 % 8)) _ _ _ (chosen-op1-sound (w / 128 % 8)) (λ op e.
     match-bind (source_rows (w % 16) w1 (w / 16 % 4)) _ _ _ (source_rows-sound (w % 16) (w / 16 % 4) w1 (omega arith)) (λ s f.
-    match-if (takes op (width_of w) s) _ _ _ (λ t. let taken = takes-sound op (width_of w) s t in (
+    match-if (takes_width op (width_of w) && takes op s) _ _ _ (λ t. let taken = takes-sound op (width_of w) s t in (
       record { form = form; op_code = sym e; width_bit = width_of-sound w; source = f.0; takes_width = taken.0; takes = taken.1 },
       longer (src_words s) w1 w2 f.1,
     )) (λ t. tt))))

@@ -16,6 +16,7 @@ use Rattle.msp_encode.specs.declared.instr.Dst.TheVariants as dst
 use Rattle.msp_encode.specs.declared.instr.Instr.{Instr}
 use Rattle.msp_encode.specs.declared.instr.Instr.TheVariants as instr
 use Rattle.msp_encode.specs.Spelling.{Spells, src_words, words_after}
+use Rattle.msp_encode.specs.Legality.{takes_width, takes}
 use Rattle.msp_decode.specs.Reading.{NoneBegins}
 
 -- the item at a place
@@ -47,27 +48,6 @@ dst_rows r x m =
 abbrev pub width_of : ℕ → Width
 width_of w = if w / 64 % 2 == 1 then Byte else Wide
 
--- which operands an operation takes
-abbrev pub is_const : Src → Bool
-is_const (src.Const c) = true
-is_const _ = false
-
-abbrev pub is_immediate : Src → Bool
-is_immediate (src.Immediate x) = true
-is_immediate _ = false
-
-abbrev pub is_wide : Width → Bool
-is_wide Wide = true
-is_wide Byte = false
-
-abbrev pub takes : Op1 → Width → Src → Bool
-takes Push w s = true
-takes Call w s = is_wide w && not (is_const s)
-takes Rrc w s = not (is_const s) && not (is_immediate s)
-takes Rra w s = not (is_const s) && not (is_immediate s)
-takes Swpb w s = is_wide w && not (is_const s) && not (is_immediate s)
-takes Sxt w s = is_wide w && not (is_const s) && not (is_immediate s)
-
 abbrev pub then_option : {X Y : Type 0} → Option X → (X → Option Y) → Option Y
 then_option None f = None
 then_option (Some x) f = f x
@@ -84,7 +64,7 @@ read_one w0 w1 =
     if w0 == 4864 then Some instr.Reti
     else then_option (chosen op1s (w0 / 128 % 8)) (λ op.
     then_option (source_rows (w0 % 16) w1 (w0 / 16 % 4)) (λ s.
-    if takes op (width_of w0) s then Some (instr.One op (width_of w0) s) else None))
+    if takes_width op (width_of w0) && takes op s then Some (instr.One op (width_of w0) s) else None))
 
 abbrev pub signed_ten : ℕ → ℤ
 signed_ten k = if nat_lt k 512 then pos k else negsuc (1023 - k)

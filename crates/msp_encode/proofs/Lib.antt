@@ -1,3 +1,4 @@
 pub mod Codes
 pub mod Cases
 pub mod Spelled
+pub mod Tests

@@ -103,6 +103,10 @@ abbrev pub Pops : Src → ℕ → Type 0
 Pops (src.AutoInc n) r = n ≡ r
 Pops _ r = ⊥
 
+abbrev pub is_immediate : Src → Bool
+is_immediate (src.Immediate x) = true
+is_immediate _ = false
+
 abbrev pub IsImmediate : Src → Type 0
 IsImmediate (src.Immediate x) = Unit {0}
 IsImmediate _ = ⊥

@@ -1,8 +1,9 @@
 //! Forms of instructions: what their operations and operands do, and how many words they have.
 
 ghost use Rattle.std.specs.Prelude.{◌≡◌, ◌+◌, ◌↔◌, ◌≤◌, IsTrue, length, not};
-ghost use Rattle.msp_encode.specs.Forms.{writes, Writes, Tests, IsMov, IsBisOrBic, changes, Changes, Stacks, IsCall, IsAlways, IsWide, const_value, is_src, SrcIs, is_dst, DstIs, pops, Pops, IsReti, IsJmp, WritesReg};
-ghost use Rattle.msp_encode.specs.Spelling.{src_words, dst_words, words_after};
+ghost use Rattle.msp_encode.specs.Forms.{writes, Writes, Tests, IsMov, IsBisOrBic, changes, Changes, Stacks, IsCall, IsAlways, IsWide, const_value, is_src, SrcIs, is_dst, DstIs, pops, Pops, is_immediate, IsImmediate, IsReti, IsJmp, WritesReg};
+ghost use Rattle.msp_encode.specs.Legality.{takes_constant, takes_immediate};
+ghost use Rattle.msp_encode.specs.Spelling.{src_words, dst_words, words_after, TakesConst, TakesImmediate};
 
 use crate::instr::{Cg, Cond, Dst, Instr, Op1, Op2, Src, Width};
 
@@ -59,6 +60,22 @@ impl Op1 {
         matches!(self, Op1::Push | Op1::Call)
     }
 
+    /// Tells whether the operation takes a generated constant: PUSH alone does.
+    pub fn takes_constant(self) -> bool
+        ensures is { result ≡ takes_constant self }
+        ensures says { IsTrue result ↔ TakesConst self }
+    {
+        matches!(self, Op1::Push)
+    }
+
+    /// Tells whether the operation takes an immediate: PUSH and CALL do.
+    pub fn takes_immediate(self) -> bool
+        ensures is { result ≡ takes_immediate self }
+        ensures says { IsTrue result ↔ TakesImmediate self }
+    {
+        matches!(self, Op1::Push | Op1::Call)
+    }
+
     /// Tells whether the operation is CALL.
     pub fn is_call(self) -> bool
         ensures { IsTrue result ↔ IsCall self }
@@ -104,31 +121,40 @@ impl Cg {
 
 impl Src {
     /// Tells whether the operand is this register.
-    pub fn is_reg(self, register: u8) -> bool
-        ensures is { result ≡ is_src self register }
-        ensures says { IsTrue result ↔ SrcIs self register }
+    pub fn is_reg(&self, register: u8) -> bool
+        ensures is { result ≡ is_src self.now register }
+        ensures says { IsTrue result ↔ SrcIs self.now register }
     {
         match self {
-            Src::Reg(n) => n == register,
+            Src::Reg(n) => *n == register,
             _ => false,
         }
     }
 
     /// Tells whether the operand is what this register points to, with its increment.
-    pub fn pops(self, register: u8) -> bool
-        ensures is { result ≡ pops self register }
-        ensures says { IsTrue result ↔ Pops self register }
+    pub fn pops(&self, register: u8) -> bool
+        ensures is { result ≡ pops self.now register }
+        ensures says { IsTrue result ↔ Pops self.now register }
     {
         match self {
-            Src::AutoInc(n) => n == register,
+            Src::AutoInc(n) => *n == register,
             _ => false,
         }
     }
 
+    /// Tells whether the operand is an immediate.
+    pub fn is_immediate(&self) -> bool
+        ensures is { result ≡ is_immediate self.now }
+        ensures says { IsTrue result ↔ IsImmediate self.now }
+    {
+        matches!(self, Src::Immediate(_))
+    }
+
     /// How many words the operand has behind the instruction word, 0 or 1.
     #[inline(always)]
-    pub fn words(self) -> usize
-        ensures { result ≡ length (src_words self) }
+    pub fn words(&self) -> usize
+        ensures is { result ≡ length (src_words self.now) }
+        ensures most { result ≤ 1 }
     {
         match self {
             Src::Indexed(_, _) | Src::Symbolic(_) | Src::Absolute(_) | Src::Immediate(_) => 1,
@@ -139,20 +165,21 @@ impl Src {
 
 impl Dst {
     /// Tells whether the operand is this register.
-    pub fn is_reg(self, register: u8) -> bool
-        ensures is { result ≡ is_dst self register }
-        ensures says { IsTrue result ↔ DstIs self register }
+    pub fn is_reg(&self, register: u8) -> bool
+        ensures is { result ≡ is_dst self.now register }
+        ensures says { IsTrue result ↔ DstIs self.now register }
     {
         match self {
-            Dst::Reg(n) => n == register,
+            Dst::Reg(n) => *n == register,
             _ => false,
         }
     }
 
     /// How many words the operand has behind the instruction word, 0 or 1.
     #[inline(always)]
-    pub fn words(self) -> usize
-        ensures { result ≡ length (dst_words self) }
+    pub fn words(&self) -> usize
+        ensures is { result ≡ length (dst_words self.now) }
+        ensures most { result ≤ 1 }
     {
         match self {
             Dst::Indexed(_, _) | Dst::Symbolic(_) | Dst::Absolute(_) => 1,
@@ -164,8 +191,8 @@ impl Dst {
 impl Instr {
     /// How many words the instruction has, 1 to 3.
     #[inline(always)]
-    pub fn words(self) -> usize
-        ensures is { result ≡ 1 + length (words_after self) }
+    pub fn words(&self) -> usize
+        ensures is { result ≡ 1 + length (words_after self.now) }
         ensures most { result ≤ 3 }
     {
         match self {
@@ -176,15 +203,15 @@ impl Instr {
     }
 
     /// Tells whether the instruction is RETI.
-    pub fn is_reti(self) -> bool
-        ensures { IsTrue result ↔ IsReti self }
+    pub fn is_reti(&self) -> bool
+        ensures { IsTrue result ↔ IsReti self.now }
     {
         matches!(self, Instr::Reti)
     }
 
     /// Tells whether the instruction is JMP.
-    pub fn is_jmp(self) -> bool
-        ensures { IsTrue result ↔ IsJmp self }
+    pub fn is_jmp(&self) -> bool
+        ensures { IsTrue result ↔ IsJmp self.now }
     {
         match self {
             Instr::Jump { cond, .. } => cond.is_always(),
@@ -193,8 +220,8 @@ impl Instr {
     }
 
     /// Tells whether the operation's destination, or the operand that it changes, is this register.
-    pub fn writes_reg(self, register: u8) -> bool
-        ensures { IsTrue result ↔ WritesReg self register }
+    pub fn writes_reg(&self, register: u8) -> bool
+        ensures { IsTrue result ↔ WritesReg self.now register }
     {
         match self {
             Instr::Two { op, dst, .. } => op.writes() && dst.is_reg(register),

@@ -10,6 +10,7 @@ ghost use Rattle.msp_encode.specs.Spelling.{
   InstrFits,
   Legal,
 };
+ghost use Rattle.msp_encode.specs.Legality.{is_base, src_fits, dst_fits, takes_width, takes};
 
 use crate::instr::{Dst, Instr, Op1, Src, Width};
 use crate::laws::legal_by_cases;
@@ -17,14 +18,16 @@ use crate::registers::{CHECKED, CONSTANTS, SP};
 
 /// Whether an address can be made of a register: SP or 4 to 15.
 fn is_base(register: u8) -> bool
-    ensures { IsTrue result ↔ ((register < 16) × IsBase register) }
+    ensures is { result ≡ is_base register }
+    ensures says { IsTrue result ↔ ((register < 16) × IsBase register) }
 {
     register == SP || register >= CHECKED && register < 16
 }
 
 /// Whether a source can be spelled in an operation of two operands.
 fn source_fits(src: &Src) -> bool
-    ensures { IsTrue result ↔ SrcFits src.now }
+    ensures is { result ≡ src_fits src.now }
+    ensures says { IsTrue result ↔ SrcFits src.now }
 {
     match *src {
         Src::Reg(register) => register < 16 && register != CONSTANTS,
@@ -36,7 +39,8 @@ fn source_fits(src: &Src) -> bool
 
 /// Whether a destination can be spelled.
 fn destination_fits(dst: &Dst) -> bool
-    ensures { IsTrue result ↔ DstFits dst.now }
+    ensures is { result ≡ dst_fits dst.now }
+    ensures says { IsTrue result ↔ DstFits dst.now }
 {
     match *dst {
         Dst::Reg(register) => register < 16,
@@ -47,7 +51,8 @@ fn destination_fits(dst: &Dst) -> bool
 
 /// Whether an operation of one operand has a form of this width.
 pub fn takes_width(op: Op1, width: Width) -> bool
-    ensures { IsTrue result ↔ TakesWidth op width }
+    ensures is { result ≡ takes_width op width }
+    ensures says { IsTrue result ↔ TakesWidth op width }
 {
     match (op, width) {
         (Op1::Swpb | Op1::Sxt | Op1::Call, Width::Byte) => false,
@@ -57,11 +62,12 @@ pub fn takes_width(op: Op1, width: Width) -> bool
 
 /// Whether an operation of one operand takes a source of this mode.
 pub fn takes(op: Op1, src: &Src) -> bool
-    ensures { IsTrue result ↔ Takes op src.now }
+    ensures is { result ≡ takes op src.now }
+    ensures says { IsTrue result ↔ Takes op src.now }
 {
     match src {
-        Src::Const(_) => matches!(op, Op1::Push),
-        Src::Immediate(_) => matches!(op, Op1::Push | Op1::Call),
+        Src::Const(_) => op.takes_constant(),
+        Src::Immediate(_) => op.takes_immediate(),
         _ => true,
     }
 }

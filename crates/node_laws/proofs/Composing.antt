@@ -11,9 +11,10 @@ use Rattle.kernel_model.specs.Kernel.{Kernel}
 use Rattle.kernel_model.specs.Words.{running}
 use Rattle.kernel_model.specs.Running.{ThreadRuns, NoneRuns, idle_context}
 use Rattle.trace_model.specs.declared.scripts.Script.{Script}
+use Rattle.machine_model.specs.Accepting.{allows_interrupts}
 use Rattle.node_model.specs.Systems.{System, seen}
 use Rattle.node_model.specs.Entries.{Call, calls, entry_address}
-use Rattle.node_model.specs.Steps.{Case, Accepts, IsIdle, Enters, Serves, OverBudget, Runs, case_of, case_by_line, case_at, highest_line, lines_down, pending, entry_at, routine_at, allows_interrupts, by_case, step_of, instruction, fetched, with_raised, step}
+use Rattle.node_model.specs.Steps.{Case, Accepts, IsIdle, Enters, Serves, OverBudget, Runs, case_of, case_by_line, case_at, highest_line, lines_down, pending, entry_at, routine_at, by_case, step_of, instruction, fetched, with_raised, step}
 use Rattle.trace_model.specs.Draws.{raised_at, pick_at}
 use Rattle.node_model.specs.Runs.{next}
 use Rattle.node_model.specs.Sound.{IsSound, IsRunning, IsServing, IsGoodFor, AThread, Nothing, Interrupted, IdleInterrupted, AModule}

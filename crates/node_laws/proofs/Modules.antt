@@ -20,10 +20,11 @@ use Rattle.trace_model.specs.declared.records.Who.{Who}
 use Rattle.trace_model.specs.declared.records.FaultKind.TheVariants.{Store, Stack, Jump, Return}
 use Rattle.trace_model.specs.declared.records.FaultKind.TheVariants as fault
 use Rattle.trace_model.specs.declared.records.Record.TheVariants.{Entry}
+use Rattle.machine_model.specs.Accepting.{allows_interrupts}
 use Rattle.node_model.specs.Placed.{bits, control_bits}
 use Rattle.node_model.specs.Systems.{System, seen, is_mark}
 use Rattle.node_model.specs.Entries.{Call, StoreFault, StackFault, Goes, Calls, Ticks, Leave, calls, entry_address, is_for_module, has_row, module_runs, turn_at, nothing_happens, work, Work, who_runs, returning, row, goes_straight, called, faults, with_ticks}
-use Rattle.node_model.specs.Steps.{Case, Runs, OverBudget, IsIdle, case_of, case_by_line, case_at, highest_line, allows_interrupts, by_case, by_turn, step_of, is_over_budget, most_instructions, routine_at, lines_down}
+use Rattle.node_model.specs.Steps.{Case, Runs, OverBudget, IsIdle, case_of, case_by_line, case_at, highest_line, by_case, by_turn, step_of, is_over_budget, most_instructions, routine_at, lines_down}
 use Rattle.node_model.specs.Sound.{AModule}
 use Rattle.node_model.specs.Confined.{IsAtEntry}
 use Rattle.node_model.specs.Kept.{StepKeeps}

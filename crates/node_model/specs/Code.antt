@@ -1,6 +1,7 @@
 -- What the code of a node's step stands on: the memory that it holds, behind each part of a step. Each law is proved in
 -- `node_laws`.
 use Rattle.std.specs.Prelude.{◌≡◌, ℕ, ◌+◌, ◌<◌, ◌↔◌, List, true, Option, Some}
+use Rattle.msp_encode.specs.declared.registers.TheConstants.{PC}
 use Rattle.msp_encode.specs.declared.instr.Instr.{Instr}
 use Rattle.machine_model.specs.Memory.{word_at, IsMemory, put_all}
 use Rattle.machine_model.specs.Context.{reg}
@@ -97,12 +98,12 @@ pub record IsDone (s : System) (i : Instr) (words : ℕ) (before after context :
   pub shows : Shows before s
   pub memory : IsMemory after
   pub runs : case_of s.kernel s.context ≡ Runs
-  pub found : fetched before (reg s.context 0) ≡ Some (i, words)
+  pub found : fetched before (reg s.context PC) ≡ Some (i, words)
   pub middle : List ℕ
   pub written : middle ≡ memory_after before (does before s.context i words)
   pub left : Leaves middle after (counted (kernel_of middle))
   pub regs : context ≡ (does before s.context i words).context
-  pub shown : told ≡ InstrRecord (s.steps + 1) (who_runs s.kernel) (reg s.context 0) (word_at before (reg s.context 0))
+  pub shown : told ≡ InstrRecord (s.steps + 1) (who_runs s.kernel) (reg s.context PC) (word_at before (reg s.context PC))
       (does before s.context i words).written
 
 abbrev pub InstructionStandsLaw : Type 0
@@ -121,7 +122,7 @@ pub record IsAccepting (s : System) (line : ℕ) (before after context : List �
   pub written : middle ≡ memory_after before (accepted line before s.context)
   pub left : Leaves middle after (without_line (kernel_of middle) line)
   pub regs : context ≡ (accepted line before s.context).context
-  pub shown : told ≡ AcceptRecord (s.steps + 1) (who_runs s.kernel) line (reg s.context 0) (accepted line before s.context).written
+  pub shown : told ≡ AcceptRecord (s.steps + 1) (who_runs s.kernel) line (reg s.context PC) (accepted line before s.context).written
 
 abbrev pub AcceptanceStandsLaw : Type 0
 AcceptanceStandsLaw = (s : System) (pick : Option ℕ) (line : ℕ) (before after context : List ℕ) (told : Record)
@@ -135,7 +136,7 @@ pub record IsWritten (s : System) (ws : List (ℕ × ℕ)) (middle : List ℕ) :
 
 abbrev pub DoneWritesLaw : Type 0
 DoneWritesLaw = (s : System) (i : Instr) (words : ℕ) (before : List ℕ) → IsSound s → s.steps < most_steps → Shows before s
-    → case_of s.kernel s.context ≡ Runs → fetched before (reg s.context 0) ≡ Some (i, words)
+    → case_of s.kernel s.context ≡ Runs → fetched before (reg s.context PC) ≡ Some (i, words)
     → IsWritten s (does before s.context i words).written (memory_after before (does before s.context i words))
 
 abbrev pub AcceptedWritesLaw : Type 0

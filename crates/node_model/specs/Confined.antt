@@ -13,6 +13,7 @@ use Rattle.kernel_model.specs.Kernel.{Kernel, word_of}
 use Rattle.kernel_model.specs.declared.rows.SysWord.TheVariants.{Budget as BudgetWord}
 use Rattle.kernel_model.specs.Words.{none, running, running_module}
 use Rattle.kernel_model.specs.Running.{ThreadRuns, NoneRuns, running_domain}
+use Rattle.msp_encode.specs.declared.registers.TheConstants.{PC, SP, SR, CHECKED}
 use Rattle.load_model.specs.Domains.{Domain}
 use Rattle.load_model.specs.Images.{code_image}
 use Rattle.load_model.specs.Standing.{HasBytes}
@@ -53,7 +54,7 @@ stack_top_in k = if module_runs k then KERNEL_TOP else top_in k.apps (running k)
 pub record IsOwnInstr (s : System) (w : Who) (pc word : ℕ) (writes : List (ℕ × ℕ)) : Type 0 where
   pub domain : Domain
   pub runs : IsRunningDomain s w domain
-  pub at_pc : pc ≡ reg s.context 0
+  pub at_pc : pc ≡ reg s.context PC
   pub first : word ≡ word_at (seen s) pc
   pub place : StepsAt domain (seen s) s.context
   pub image : HasBytes (seen s) domain.code_lo (code_image domain)
@@ -66,7 +67,7 @@ pub record IsOwnInstr (s : System) (w : Who) (pc word : ℕ) (writes : List (ℕ
 pub record IsAtEntry (s : System) (w : Who) (entry : ℕ) : Type 0 where
   pub domain : Domain
   pub runs : IsRunningDomain s w domain
-  pub at : entry ≡ reg s.context 0
+  pub at : entry ≡ reg s.context PC
   pub allowed : IsJumpEntry domain.object.kind entry ⊎ IsCallEntry domain.object.kind entry
 
 -- it isn't a mark of the running domain
@@ -76,25 +77,25 @@ IsNoMark s at = is_mark s.placed (running_domain s.kernel) at ≡ false
 -- a jump or a call of the address in R4, which is no mark
 pub record IsJumpFault (s : System) (w : Who) (value : ℕ) : Type 0 where
   pub entry : IsAtEntry s w GOES ⊎ IsAtEntry s w CALLS
-  pub value_is : value ≡ reg s.context 4
+  pub value_is : value ≡ reg s.context CHECKED
   pub no_mark : IsNoMark s value
 
 -- a call of an entry that pops its return address, which is no mark
 pub record IsReturnFault (s : System) (w : Who) (value : ℕ) : Type 0 where
   pub entry : (e : ℕ) × (SPAWN ≤ e) × IsAtEntry s w e
-  pub value_is : value ≡ word_at (seen s) (reg s.context 1)
+  pub value_is : value ≡ word_at (seen s) (reg s.context SP)
   pub no_mark : IsNoMark s value
 
 -- a module has run as many instructions in this call as it may
 pub record IsBudgetFault (s : System) (w : Who) (value : ℕ) : Type 0 where
   pub module_runs : running_module s.kernel ≢ none
   pub who : w ≡ who_runs s.kernel
-  pub value_is : value ≡ reg s.context 0
+  pub value_is : value ≡ reg s.context PC
   pub spent : most_instructions ≤ word_of s.kernel BudgetWord
 
 abbrev pub IsConfinedFault : System → Who → FaultKind → (value : ℕ) → Type 0
-IsConfinedFault s w Store v = IsAtEntry s w STORE_FAULT × (v ≡ reg s.context 4)
-IsConfinedFault s w Stack v = IsAtEntry s w STACK_FAULT × (v ≡ reg s.context 1)
+IsConfinedFault s w Store v = IsAtEntry s w STORE_FAULT × (v ≡ reg s.context CHECKED)
+IsConfinedFault s w Stack v = IsAtEntry s w STACK_FAULT × (v ≡ reg s.context SP)
 IsConfinedFault s w Jump v = IsJumpFault s w v
 IsConfinedFault s w Return v = IsReturnFault s w v
 IsConfinedFault s w Budget v = IsBudgetFault s w v
@@ -110,13 +111,13 @@ IsInOwnStack s ws =
 pub record IsConfinedAccept (s : System) (w : Who) (line pc : ℕ) (writes : List (ℕ × ℕ)) : Type 0 where
   pub who : w ≡ who_runs s.kernel
   pub number : line < 14
-  pub at_pc : pc ≡ reg s.context 0
+  pub at_pc : pc ≡ reg s.context PC
   pub four : length writes ≡ 4
   pub inside : IsInOwnStack s writes
 
 -- the machine idles: PC is at the idle entry, and nothing runs
 pub record IsIdling (s : System) : Type 0 where
-  pub at : reg s.context 0 ≡ IDLE
+  pub at : reg s.context PC ≡ IDLE
   pub none : NoneRuns s.kernel
 
 -- the context of the running thread was pushed, or that of the machine that idled
@@ -128,8 +129,8 @@ IsPushed s =
 -- an interrupt of this line was just accepted: its routine is next, and what it interrupted was pushed
 pub record IsJustAccepted (s : System) (line : ℕ) : Type 0 where
   pub number : line < 14
-  pub at : reg s.context 0 ≡ FIRST_ROUTINE + 2 * line
-  pub cleared : reg s.context 2 ≡ 0
+  pub at : reg s.context PC ≡ FIRST_ROUTINE + 2 * line
+  pub cleared : reg s.context SR ≡ 0
   pub pushed : IsPushed s
 
 -- so no record is confined of a step at which no instruction is spelled, or at

@@ -16,6 +16,7 @@ use Rattle.kernel_model.specs.Ending.{ended, exited, is_last}
 use Rattle.kernel_model.specs.Waking.{slept, ticked, line_code, waiting_line, woken_line}
 use Rattle.kernel_model.specs.Sync.{lock_code, locked, unlock_code, unlocked, all_handed_over, wait_code, waiting_condition, signal_code, signalled, broadcasted, is_free_mutex, own_app}
 use Rattle.kernel_model.specs.Modules.{enter_code, entered, entered_context, left, module_ended}
+use Rattle.msp_encode.specs.declared.registers.TheConstants.{PC, SP, SR, CHECKED}
 use Rattle.trace_model.specs.declared.records.Who.{Who}
 use Rattle.trace_model.specs.declared.records.Who.TheVariants as who
 use Rattle.trace_model.specs.declared.records.FaultKind.{FaultKind}
@@ -230,7 +231,7 @@ row _ w = nothing_happens w
 
 -- the word at SP was popped into PC
 abbrev pub returning : Work → Work
-returning w = record w { context = set_reg (raised w.context) 0 w.stacked }
+returning w = record w { context = set_reg (raised w.context) PC w.stacked }
 
 -- the return address has to be a mark
 abbrev pub by_call : Call → Work → Turn
@@ -239,8 +240,8 @@ by_call c w = if w.is_own w.stacked then row c (returning w) else faults w Retur
 -- PC becomes R4, which has to be a mark
 abbrev pub by_jump : Call → Work → Turn
 by_jump e w =
-    let to = reg w.context 4 in
-    if w.is_own to then goes_straight w.kernel (set_reg w.context 0 to) (called w (entry_address e)) else faults w Jump to
+    let to = reg w.context CHECKED in
+    if w.is_own to then goes_straight w.kernel (set_reg w.context PC to) (called w (entry_address e)) else faults w Jump to
 
 abbrev pub exits : Work → Turn
 exits w =
@@ -249,8 +250,8 @@ exits w =
 
 -- each entry's turn
 abbrev pub turn_at : Call → Work → Turn
-turn_at StoreFault w = faults w Store (reg w.context 4)
-turn_at StackFault w = faults w Stack (reg w.context 1)
+turn_at StoreFault w = faults w Store (reg w.context CHECKED)
+turn_at StackFault w = faults w Stack (reg w.context SP)
 turn_at Goes w = by_jump Goes w
 turn_at Calls w = by_jump Calls w
 turn_at Exits w = exits w
@@ -265,7 +266,7 @@ work s pick = record {
   kernel = s.kernel;
   context = s.context;
   is_own = is_mark s.placed (running_domain s.kernel);
-  stacked = word_at (seen s) (reg s.context 1);
+  stacked = word_at (seen s) (reg s.context SP);
   step = s.steps + 1;
   pick = pick;
 }
@@ -278,8 +279,8 @@ entry_turn c w = if has_row w.kernel c then turn_at c w else nothing_happens w
 -- SR and PC are popped
 abbrev pub interrupted : (memory context : List ℕ) → List ℕ
 interrupted m c =
-    let r1 = raised (set_reg c 2 (word_at m (reg c 1))) in
-    raised (set_reg r1 0 (word_at m (reg r1 1)))
+    let r1 = raised (set_reg c SR (word_at m (reg c SP))) in
+    raised (set_reg r1 PC (word_at m (reg r1 SP)))
 
 -- the interrupted thread is saved, unless nothing was interrupted. On line 0 time goes on; on another all that wait for it wake
 abbrev pub served : (n : ℕ) → Kernel → (context : List ℕ) → Kernel

@@ -1,5 +1,6 @@
 -- Contexts that are safe for a domain.
 use Rattle.std.specs.Prelude.{◌≡◌, ℕ, ◌+◌, ◌-◌, ◌≤◌, List, true}
+use Rattle.msp_encode.specs.declared.registers.TheConstants.{PC, SP, CHECKED, KEPT_STATUS}
 use Rattle.msp_encode.specs.declared.instr.Src.TheVariants as src
 use Rattle.msp_encode.specs.declared.instr.Dst.TheVariants as dst
 use Rattle.msp_encode.specs.declared.instr.Instr.{Instr}
@@ -97,17 +98,17 @@ pub record IsAtPlace (d : Domain) (b : Bounds) (c : List ℕ) (p : GuardPlace) :
   pub kind : GuardKind
   pub of : IsOf kind (guard_of p)
   pub by : Guarded d.object guarded kind
-  pub pc : reg c 0 ≡ address d (place_at p by.first guarded)
-  pub saved : keeps_status p ≡ true → IsStatus (bits d) (reg c 5)
+  pub pc : reg c PC ≡ address d (place_at p by.first guarded)
+  pub saved : keeps_status p ≡ true → IsStatus (bits d) (reg c KEPT_STATUS)
   pub known : place_fact p (kept_bounds kind b) c
-  pub same : (r : ℕ) → kind ≡ guard.Load → HasAddress p → Steps by.instr r → reg c 4 ≡ reg c r
+  pub same : (r : ℕ) → kind ≡ guard.Load → HasAddress p → Steps by.instr r → reg c CHECKED ≡ reg c r
 
 -- a unit start, an interior place, an entry that a branch may name, or one that a call may name, with a word pushed
 pub data IsSomewhere (d : Domain) (b : Bounds) (c : List ℕ) : Type 0 where
-  AtUnit : (at : ℕ) → UnitStart d.object at → reg c 0 ≡ address d at → IsSomewhere d b c
+  AtUnit : (at : ℕ) → UnitStart d.object at → reg c PC ≡ address d at → IsSomewhere d b c
   Within : (p : GuardPlace) → IsAtPlace d b c p → IsSomewhere d b c
-  Jumped : IsJumpEntry d.object.kind (reg c 0) → IsSomewhere d b c
-  Called : IsCallEntry d.object.kind (reg c 0) → reg c 1 + 2 ≤ b.top → IsSomewhere d b c
+  Jumped : IsJumpEntry d.object.kind (reg c PC) → IsSomewhere d b c
+  Called : IsCallEntry d.object.kind (reg c PC) → reg c SP + 2 ≤ b.top → IsSomewhere d b c
 
 -- the bounds of a domain with the stack [low, top)
 abbrev pub bounds : Domain → (low top : ℕ) → Bounds

@@ -1,6 +1,7 @@
 -- A step of accepted code.
 use Rattle.std.specs.Prelude.{◌≡◌, ℕ, ◌+◌, ◌<◌, ◌≤◌, ◌⊎◌, List}
 use Rattle.std.specs.List.{AllByRecursion}
+use Rattle.msp_encode.specs.declared.registers.TheConstants.{PC, SP}
 use Rattle.msp_encode.specs.declared.instr.Instr.{Instr}
 use Rattle.machine_model.specs.Context.{reg}
 use Rattle.machine_model.specs.Does.{does, Effect}
@@ -28,31 +29,31 @@ pub record Leads (d : Domain) (low top : ℕ) (e : Effect) : Type 0 where
 -- the step at a place of this guard, and for the store guard of each that keeps an address in the region
 abbrev pub GuardLaw : GuardKind → Type 0
 GuardLaw g = (d : Domain) (low top : ℕ) (m c : List ℕ) (p : GuardPlace) (i : Instr) (n : ℕ) → guard_of p ≡ g → StandsIn d m → Limits m low top
-    → IsSteady (bits d) low top c → IsAtPlace d (bounds d low top) c p → IsFetched m (reg c 0) i n → Leads d low top (does m c i n)
+    → IsSteady (bits d) low top c → IsAtPlace d (bounds d low top) c p → IsFetched m (reg c PC) i n → Leads d low top (does m c i n)
 
 -- the step at a unit start
 abbrev pub UnitLaw : Type 0
 UnitLaw = (d : Domain) (low top : ℕ) (m c : List ℕ) (at : ℕ) (i : Instr) (n : ℕ) → StandsIn d m
-    → IsSteady (bits d) low top c → UnitStart d.object at → reg c 0 ≡ address d at → IsFetched m (reg c 0) i n → Leads d low top (does m c i n)
+    → IsSteady (bits d) low top c → UnitStart d.object at → reg c PC ≡ address d at → IsFetched m (reg c PC) i n → Leads d low top (does m c i n)
 
 -- a step of accepted code, from a safe context that isn't at an entry
 abbrev pub InstructionLaw : Type 0
 InstructionLaw = (d : Domain) (low top : ℕ) (m c : List ℕ) (i : Instr) (n : ℕ) → StandsIn d m → Limits m low top
-    → IsGood d low top c → reg c 0 < FIRST_ENTRY → IsFetched m (reg c 0) i n → Leads d low top (does m c i n)
+    → IsGood d low top c → reg c PC < FIRST_ENTRY → IsFetched m (reg c PC) i n → Leads d low top (does m c i n)
 
 -- what an instruction pushes lies in the stack, and what it pops lay there
 pub record StaysInStack (low top : ℕ) (c : List ℕ) (i : Instr) (e : Effect) : Type 0 where
   pub pushed : IsPushOrCall i → AllByRecursion (λ w. (low ≤ w.0) × (w.0 < top)) e.written
-  pub popped : ReadsStack i → (low ≤ reg c 1) × (reg c 1 + 2 ≤ top)
+  pub popped : ReadsStack i → (low ≤ reg c SP) × (reg c SP + 2 ≤ top)
 
 abbrev pub StackLaw : Type 0
 StackLaw = (d : Domain) (low top : ℕ) (m c : List ℕ) (i : Instr) (n : ℕ) → StandsIn d m → Limits m low top
-    → IsGood d low top c → reg c 0 < FIRST_ENTRY → IsFetched m (reg c 0) i n → StaysInStack low top c i (does m c i n)
+    → IsGood d low top c → reg c PC < FIRST_ENTRY → IsFetched m (reg c PC) i n → StaysInStack low top c i (does m c i n)
 
 -- a safe context at or above F000 stands at an entry, and where a call may name it a word is on the stack
 abbrev pub AtEntryLaw : Type 0
-AtEntryLaw = (d : Domain) (low top : ℕ) (m c : List ℕ) → StandsIn d m → IsGood d low top c → FIRST_ENTRY ≤ reg c 0
-    → IsJumpEntry d.object.kind (reg c 0) ⊎ (IsCallEntry d.object.kind (reg c 0) × (reg c 1 + 2 ≤ top))
+AtEntryLaw = (d : Domain) (low top : ℕ) (m c : List ℕ) → StandsIn d m → IsGood d low top c → FIRST_ENTRY ≤ reg c PC
+    → IsJumpEntry d.object.kind (reg c PC) ⊎ (IsCallEntry d.object.kind (reg c PC) × (reg c SP + 2 ≤ top))
 
 -- where the stack is a part of the region, all writes lie in the region
 abbrev pub RegionLaw : Type 0
@@ -63,13 +64,13 @@ RegionLaw = (d : Domain) (low top : ℕ) (ws : List (ℕ × ℕ)) → d.lo ≤ l
 pub record StepsAt (d : Domain) (m c : List ℕ) : Type 0 where
   pub at : ℕ
   pub start : Start d.object.code at
-  pub pc : reg c 0 ≡ address d at
+  pub pc : reg c PC ≡ address d at
   pub source : Instr
   pub words : ℕ
   pub stands : Stands d.object.code at source words
   pub instr : Instr
-  pub fetched : IsFetched m (reg c 0) instr words
+  pub fetched : IsFetched m (reg c PC) instr words
 
 -- a safe context that isn't at an entry stands at a start
 abbrev pub FetchLaw : Type 0
-FetchLaw = (d : Domain) (low top : ℕ) (m c : List ℕ) → StandsIn d m → IsGood d low top c → reg c 0 < FIRST_ENTRY → StepsAt d m c
+FetchLaw = (d : Domain) (low top : ℕ) (m c : List ℕ) → StandsIn d m → IsGood d low top c → reg c PC < FIRST_ENTRY → StepsAt d m c

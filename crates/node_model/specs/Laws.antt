@@ -5,6 +5,7 @@ use Rattle.std.specs.List.{AllByRecursion}
 use Rattle.machine_model.specs.Memory.{IsMemory, put_all, word_at}
 use Rattle.machine_model.specs.Context.{reg}
 use Rattle.machine_model.specs.Fetching.{IsFetched}
+use Rattle.msp_encode.specs.declared.registers.TheConstants.{PC}
 use Rattle.msp_encode.specs.declared.instr.Instr.{Instr}
 use Rattle.kernel_model.specs.declared.map.TheConstants.{BITMAP_END, DATA_POOL, DATA_POOL_END, KERNEL_STACK, KERNEL_TOP, STACK_LIMIT, STACK_TOP}
 use Rattle.kernel_model.specs.Kernel.{Kernel, word_of, thread_at, app_at}
@@ -60,7 +61,7 @@ FetchedLaw = (m : List ℕ) (pc : ℕ) (i : Instr) (n : ℕ) → IsMemory m → 
 
 -- a step at which no instruction is spelled has no confined record
 abbrev pub UnspelledLaw : Type 0
-UnspelledLaw = (s : System) (pick : Option ℕ) → case_of s.kernel s.context ≡ Runs → fetched (seen s) (reg s.context 0) ≡ None
+UnspelledLaw = (s : System) (pick : Option ℕ) → case_of s.kernel s.context ≡ Runs → fetched (seen s) (reg s.context PC) ≡ None
     → IsConfined s (step_of s pick).shown → ⊥
 
 -- nor has one at an entry without a row for who runs
@@ -129,7 +130,7 @@ pub record IsLoading (s : System) : Type 0 where
   pub none_runs : NoneRuns s.kernel
   pub unborn : (t : ℕ) → t < 32 → (thread_at s.kernel t).state ≡ free
   pub entries : (a : ℕ) (d : Domain) → a < 8 → domain_in s.placed a ≡ Some d
-      → is_mark s.placed a (reg (thread_at s.kernel (identity a 0)).regs 0) ≡ true
+      → is_mark s.placed a (reg (thread_at s.kernel (identity a 0)).regs PC) ≡ true
   pub all_live : (a : ℕ) → a < 8 → (app_at s.kernel a).state ≢ free → (app_at s.kernel a).state ≡ live
   pub fresh : (tick_number s.kernel ≡ 0) × (word_of s.kernel Budget ≡ 0) × (pending s.kernel ≡ 0)
   pub made : s.steps ≡ 0

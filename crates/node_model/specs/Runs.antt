@@ -5,6 +5,7 @@ use Rattle.machine_model.specs.Context.{reg}
 use Rattle.kernel_model.specs.declared.map.TheConstants.{FIRST_ROUTINE, LAST_ROUTINE}
 use Rattle.kernel_model.specs.declared.rows.AppRow.{AppRow}
 use Rattle.kernel_model.specs.Words.{none, live, running}
+use Rattle.msp_encode.specs.declared.registers.TheConstants.{PC}
 use Rattle.trace_model.specs.declared.records.Record.{Record}
 use Rattle.trace_model.specs.declared.scripts.At.{At}
 use Rattle.trace_model.specs.declared.scripts.Script.{Script}
@@ -27,7 +28,7 @@ unfoldable pub is_quiet : Script → System → Bool
 is_quiet t s =
     (running s.kernel == none)
     && (length s.kernel.ready == 0)
-    && not (is_serving (reg s.context 0))
+    && not (is_serving (reg s.context PC))
     && (pending s.kernel == 0)
     && not (list_any (λ (a : At). nat_lt s.steps a.step) t.ats)
     && ((length t.everys.items == 0) || not (list_any is_live_app s.kernel.apps))

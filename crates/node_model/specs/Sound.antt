@@ -17,6 +17,7 @@ use Rattle.kernel_model.specs.declared.rows.FnRow.{FnRow}
 use Rattle.kernel_model.specs.declared.rows.ThreadRow.{ThreadRow}
 use Rattle.place_model.specs.Settled.{IsSettledKernel}
 use Rattle.kernel_model.specs.Running.{ThreadRuns, NoneRuns, idle_context}
+use Rattle.msp_encode.specs.declared.registers.TheConstants.{PC, SP, SR}
 use Rattle.load_model.specs.Domains.{Domain, code_length, region_length}
 use Rattle.load_model.specs.Images.{code_image}
 use Rattle.load_model.specs.Standing.{HasBytes}
@@ -104,19 +105,19 @@ pub record IsServing (c : List ℕ) : Type 0 where
   pub context : IsContext c
   pub line : ℕ
   pub number : line < 14
-  pub at : reg c 0 ≡ FIRST_ROUTINE + 2 * line
-  pub cleared : reg c 2 ≡ 0
+  pub at : reg c PC ≡ FIRST_ROUTINE + 2 * line
+  pub cleared : reg c SR ≡ 0
 
 pub record IsInterrupted (m c : List ℕ) (apps : List AppRow) (ds : List (Option Domain)) (t : ℕ) : Type 0 where
   pub good : IsGoodFor apps ds t (interrupted m c)
-  pub even_pc : word_at m (reg c 1 + 2) % 2 ≡ 0
-  pub from_low : low_in apps t ≤ reg c 1
-  pub to_top : reg c 1 + 4 ≤ top_in apps t
+  pub even_pc : word_at m (reg c SP + 2) % 2 ≡ 0
+  pub from_low : low_in apps t ≤ reg c SP
+  pub to_top : reg c SP + 4 ≤ top_in apps t
 
 -- what it pushed is the context of the machine that idles
 pub record IsIdleInterrupted (m c : List ℕ) : Type 0 where
   pub idle : interrupted m c ≡ idle_context
-  pub even_pc : word_at m (reg c 1 + 2) % 2 ≡ 0
+  pub even_pc : word_at m (reg c SP + 2) % 2 ≡ 0
 
 -- exactly one of these: each says who runs, or at PC that an interrupt was accepted
 pub data IsRunning (m c : List ℕ) (k : Kernel) (ds : List (Option Domain)) : Type 0 where
@@ -131,7 +132,7 @@ pub data IsRunning (m c : List ℕ) (k : Kernel) (ds : List (Option Domain)) : T
 pub record IsSavedWell (apps : List AppRow) (ds : List (Option Domain)) (t : ℕ) (row : ThreadRow) : Type 0 where
   pub good : IsGoodFor apps ds t row.regs
   -- but for a ready one it goes on at a mark
-  pub mark : row.state ≢ ready → is_mark ds (app_of t) (reg row.regs 0) ≡ true
+  pub mark : row.state ≢ ready → is_mark ds (app_of t) (reg row.regs PC) ≡ true
 
 -- thread t's row, where it is live and doesn't run
 abbrev pub IsSaved : List AppRow → List (Option Domain) → (t : ℕ) → ThreadRow → Type 0

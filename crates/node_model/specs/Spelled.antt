@@ -1,5 +1,6 @@
 -- What a step of an instruction has to do with the words that are seen at PC.
 use Rattle.std.specs.Prelude.{◌≡◌, ℕ}
+use Rattle.msp_encode.specs.declared.registers.TheConstants.{PC}
 use Rattle.msp_encode.specs.declared.instr.Instr.{Instr}
 use Rattle.machine_model.specs.Memory.{put_all}
 use Rattle.machine_model.specs.Context.{reg}
@@ -14,7 +15,7 @@ use Rattle.node_model.specs.Systems.{System, seen}
 pub record DoesSpelled (before after : System) : Type 0 where
   pub instr : Instr
   pub words : ℕ
-  pub fetched : IsFetched (seen before) (reg before.context 0) instr words
+  pub fetched : IsFetched (seen before) (reg before.context PC) instr words
   pub context : after.context ≡ (does (seen before) before.context instr words).context
   pub memory : after.memory ≡ put_all before.memory (does (seen before) before.context instr words).written
 

@@ -2,6 +2,7 @@
 use Rattle.std.specs.Prelude.{ℕ, ◌+◌, ◌-◌, ◌*◌, ◌/◌, ◌%◌, ◌^◌, Bool, ◌==◌, nat_le, if◌then◌else◌, ◌&&◌, List, [], ◌∷◌, bit_or, Option, None, Some}
 use Rattle.std.specs.List.{find}
 use Rattle.std.specs.Int.{bit_at}
+use Rattle.msp_encode.specs.declared.registers.TheConstants.{PC, SR}
 use Rattle.msp_encode.specs.declared.instr.Instr.{Instr}
 use Rattle.msp_decode.specs.Function.{reading}
 use Rattle.machine_model.specs.Memory.{word_at, put_all}
@@ -14,7 +15,7 @@ use Rattle.kernel_model.specs.declared.rows.SysWord.TheVariants.{Pending, Budget
 use Rattle.trace_model.specs.declared.records.FaultKind.TheVariants as fault
 use Rattle.trace_model.specs.declared.records.Record.{Record}
 use Rattle.trace_model.specs.declared.records.Record.TheVariants as record_of
-use Rattle.machine_model.specs.Accepting.{accepted}
+use Rattle.machine_model.specs.Accepting.{accepted, allows_interrupts}
 use Rattle.node_model.specs.Systems.{System, seen}
 use Rattle.node_model.specs.Entries.{Turn, Call, calls, entry_address, entry_turn, vector_turn, faults, Work, work, nothing_happens, who_runs, module_runs}
 
@@ -57,9 +58,6 @@ pub data Case : Type 0 where
 abbrev pub most_instructions : ℕ
 most_instructions = MODULE_BUDGET
 
-abbrev pub allows_interrupts : (sr : ℕ) → Bool
-allows_interrupts sr = sr / 8 % 2 == 1
-
 -- the entry at an address, and the line whose routine is at one
 abbrev pub entry_at : ℕ → Option Call
 entry_at pc = find (λ c. entry_address c == pc) calls
@@ -86,7 +84,7 @@ case_by_line k pc None = if pc == IDLE then IsIdle else case_at k (entry_at pc) 
 -- or a routine is at PC, the module's budget is spent,
 -- or the instruction at PC runs
 unfoldable pub case_of : Kernel → (context : List ℕ) → Case
-case_of k c = case_by_line k (reg c 0) (if allows_interrupts (reg c 2) then highest_line k else None)
+case_of k c = case_by_line k (reg c PC) (if allows_interrupts (reg c SR) then highest_line k else None)
 
 -- ---- what each case does
 
@@ -105,7 +103,7 @@ by_effect s k e r = record {
 abbrev pub acceptance : System → (line : ℕ) → Next
 acceptance s n =
     let e = accepted n (seen s) s.context in
-    by_effect s (without_line s.kernel n) e (record_of.Accept (s.steps + 1) (who_runs s.kernel) n (reg s.context 0) e.written)
+    by_effect s (without_line s.kernel n) e (record_of.Accept (s.steps + 1) (who_runs s.kernel) n (reg s.context PC) e.written)
 
 -- a module's instructions are counted
 abbrev pub counted : Kernel → Kernel
@@ -119,11 +117,11 @@ abbrev pub instruction : System → Option (Instr × ℕ) → Next
 instruction s None = by_turn s (nothing_happens (work s None))
 instruction s (Some x) =
     let e = does (seen s) s.context x.0 x.1 in
-    let pc = reg s.context 0 in
+    let pc = reg s.context PC in
     by_effect s (counted s.kernel) e (record_of.Instr (s.steps + 1) (who_runs s.kernel) pc (word_at (seen s) pc) e.written)
 
 abbrev pub over_budget : Work → Turn
-over_budget w = faults w fault.Budget (reg w.context 0)
+over_budget w = faults w fault.Budget (reg w.context PC)
 
 abbrev pub by_case : System → Option ℕ → Case → Next
 by_case s pick (Accepts n) = acceptance s n
@@ -131,7 +129,7 @@ by_case s pick IsIdle = by_turn s (nothing_happens (work s pick))
 by_case s pick (Enters c) = by_turn s (entry_turn c (work s pick))
 by_case s pick (Serves n) = by_turn s (vector_turn n (seen s) (work s pick))
 by_case s pick OverBudget = by_turn s (over_budget (work s pick))
-by_case s pick Runs = instruction s (fetched (seen s) (reg s.context 0))
+by_case s pick Runs = instruction s (fetched (seen s) (reg s.context PC))
 
 abbrev pub step_of : System → Option ℕ → Next
 step_of s pick = by_case s pick (case_of s.kernel s.context)

@@ -17,9 +17,9 @@ use Rattle.load_model.specs.Domains.{Domain}
 use Rattle.insert_model.specs.declared.aim.Aim.TheVariants.{ToPc, ToSp, ToMemory, Elsewhere}
 use Rattle.insert_model.specs.declared.line.Line.{Line}
 use Rattle.msp_encode.specs.Spelled.{count}
-use Rattle.msp_encode.specs.Forms.{IsMov, IsWide, DstIs, Pops, writes}
+use Rattle.msp_encode.specs.Forms.{IsMov, IsWide, DstIs, Pops, writes, is_immediate}
 use Rattle.insert_model.specs.Source.{own_piece, own}
-use Rattle.insert_model.specs.Units.{is_static, aim, is_popped, is_immediate, is_pc, popping, writing, two_unit}
+use Rattle.insert_model.specs.Units.{is_static, aim, is_popped, is_pc, popping, writing, two_unit}
 use Rattle.insert_model.specs.Faults.{IsSourceTarget, TransferMisses, UsesCheck}
 use Rattle.unit_laws.specs.Rows.{ended, branch, Follows}
 use Rattle.placed_unit_laws.specs.Placed.{unit_at, unit_behind, word_in_place, placed_dst, source_does}

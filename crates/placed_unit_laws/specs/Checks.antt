@@ -1,5 +1,6 @@
 -- The check that the unit of a source instruction makes, and where it fails.
 use Rattle.std.specs.Prelude.{◌≡◌, ℕ, ◌+◌, ◌<◌, ◌⊎◌, ◌&&◌, not, if◌then◌else◌, List, Option, None, Some}
+use Rattle.msp_encode.specs.declared.registers.TheConstants.{SP}
 use Rattle.msp_encode.specs.declared.instr.Op2.{Op2}
 use Rattle.msp_encode.specs.declared.instr.Op1.{Op1}
 use Rattle.msp_encode.specs.declared.instr.Op1.TheVariants.{Rrc, Swpb, Rra, Sxt, Push, Call}
@@ -9,7 +10,7 @@ use Rattle.msp_encode.specs.declared.instr.Src.{Src}
 use Rattle.msp_encode.specs.declared.instr.Dst.{Dst}
 use Rattle.msp_encode.specs.declared.instr.Instr.{Instr}
 use Rattle.msp_encode.specs.declared.instr.Instr.TheVariants as instr
-use Rattle.msp_encode.specs.Forms.{writes}
+use Rattle.msp_encode.specs.Forms.{writes, is_immediate}
 use Rattle.machine_model.specs.Context.{reg}
 use Rattle.machine_model.specs.Operands.{sum_of, after_source}
 use Rattle.code_model.specs.declared.object.Object.{Object}
@@ -21,7 +22,7 @@ use Rattle.insert_model.specs.declared.aim.Aim.TheVariants.{ToPc, ToSp, ToMemory
 use Rattle.insert_model.specs.declared.line.Line.{Line}
 use Rattle.insert_model.specs.declared.piece.Piece.{Piece}
 use Rattle.insert_model.specs.Source.{own}
-use Rattle.insert_model.specs.Units.{static_bytes, aim, aim_one, is_popped, is_immediate, is_pc}
+use Rattle.insert_model.specs.Units.{static_bytes, aim, aim_one, is_popped, is_pc}
 use Rattle.unit_laws.specs.Rows.{IsOut, new_sp}
 use Rattle.placed_unit_laws.specs.Placed.{word_in_place, placed_src}
 use Rattle.kernel_model.specs.declared.entries.TheConstants.{CALLS, GOES, STACK_FAULT, STORE_FAULT}
@@ -73,8 +74,8 @@ check_of o l = check_of_instr (static_bytes (fields o)) (own l) l.instr
 abbrev pub Fails : Object → Domain → (low top : ℕ) → (m r : List ℕ) → Check → Type 0
 Fails o d low top m r Unchecked = ⊥
 Fails o d low top m r (OfStore n x k) = IsOut d.lo d.hi (sum_of (word_in_place o d x k) (reg r n))
-Fails o d low top m r OfGrowth = reg r 1 < low + 6
-Fails o d low top m r OfPop = reg r 1 ≡ top
+Fails o d low top m r OfGrowth = reg r SP < low + 6
+Fails o d low top m r OfPop = reg r SP ≡ top
 Fails o d low top m r (OfSp op w s k) = (new_sp m r op w (placed_src o d k s) < low + 6) ⊎ (top < new_sp m r op w (placed_src o d k s))
 
 -- the entry that it fails to

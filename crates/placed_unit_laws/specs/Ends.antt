@@ -1,6 +1,7 @@
 -- Where running the unit of a source instruction ends.
 use Rattle.std.specs.Prelude.{◌≡◌, ◌≢◌, ℕ, ◌+◌, ◌*◌, ◌%◌, ◌≤◌, ◌⊎◌, List, [], map, length, Option, None, Some}
 use Rattle.std.specs.List.{All, Any, Contains}
+use Rattle.msp_encode.specs.declared.registers.TheConstants.{PC, SP}
 use Rattle.msp_encode.specs.declared.instr.Op1.TheVariants.{Call}
 use Rattle.msp_encode.specs.declared.instr.Width.{Width}
 use Rattle.msp_encode.specs.declared.instr.Width.TheVariants.{Wide}
@@ -47,7 +48,7 @@ pub record IsAtUnit (o : Object) (d : Domain) (low top : ℕ) (m r : List ℕ) (
   pub limit : word_at m STACK_LIMIT ≡ low + 6
   pub last : word_at m STACK_TOP ≡ top
   pub context : IsContext r
-  pub pc : reg r 0 ≡ unit_at o d g.head
+  pub pc : reg r PC ≡ unit_at o d g.head
 
 -- ---- where a unit leads
 
@@ -85,7 +86,7 @@ Lands o d l a = (a ≡ unit_behind o d l) ⊎ (IsTargetUnit o d l a ⊎ IsNamedE
 -- The run does what the source instruction does, but for R4 and R5, and leads to a unit or an entry that is named
 pub record EndsWell (o : Object) (d : Domain) (m r : List ℕ) (l : Line) : Type 0 where
   pub follows : Follows m r (unit_at o d l) (unit_behind o d l) (source_does o d m r l)
-  pub lands : Lands o d l (reg (source_does o d m r l).context 0)
+  pub lands : Lands o d l (reg (source_does o d m r l).context PC)
 
 -- by the entry that takes over, if one does: R4 has the target's value, and all but R4, R5 and PC is as the source instruction leaves it
 abbrev pub EndsBy : Object → Domain → (m r : List ℕ) → Line → Option (ℕ × Src) → Type 0
@@ -110,7 +111,7 @@ pub record Works (o : Object) (d : Domain) (m r : List ℕ) (g : Group) : Type 0
   pub x : ℕ
   pub y : ℕ
   pub runs : WorksUnit m r (unit_at o d g.head) (group_behind o d g) (source_after o d m r (members g)).0 (spread (source_after o d m r (members g)).1 x y)
-  pub lands : reg (source_after o d m r (members g)).1 0 ≡ group_behind o d g
+  pub lands : reg (source_after o d m r (members g)).1 PC ≡ group_behind o d g
 
 -- Where an address that its guard tests is outside of the region, the unit of a group of stores ends at the store fault with nothing written; else it does them all
 pub data GroupEnds (o : Object) (d : Domain) (low top : ℕ) (m r : List ℕ) (g : Group) : Type 0 where
@@ -131,7 +132,7 @@ pub record UnitStands (o : Object) (d : Domain) (m : List ℕ) (g : Group) : Typ
 
 -- an instruction that leads to the next one, and pushes no address
 abbrev pub StaysInLine : Instr → Type 0
-StaysInLine (instr.Two op w s t) = DstIs t 0 → ⊥
+StaysInLine (instr.Two op w s t) = DstIs t PC → ⊥
 StaysInLine (instr.One op w s) = IsCall op → ⊥
 StaysInLine instr.Reti = ⊥
 StaysInLine (instr.Jump c k) = ⊥
@@ -149,7 +150,7 @@ GroupsEnd o q = (d : Domain) (low top : ℕ) (m r : List ℕ) (g : Group) → d.
 -- what a call pushes is the address of the next unit
 abbrev pub CallsPush : (o q : Object) → Type 0
 CallsPush o q = (d : Domain) (low top : ℕ) (m r : List ℕ) (l : Line) (w : Width) (s : Src) → d.object ≡ q → IsAtUnit o d low top m r (alone l)
-    → l.instr ≡ instr.One Call w s → (source_does o d m r l).written ≡ stored Wide (reg (source_does o d m r l).context 1) (unit_behind o d l)
+    → l.instr ≡ instr.One Call w s → (source_does o d m r l).written ≡ stored Wide (reg (source_does o d m r l).context SP) (unit_behind o d l)
 
 -- its words stand where the place map says
 abbrev pub UnitsStand : (o q : Object) → Type 0
@@ -158,7 +159,7 @@ UnitsStand o q = (d : Domain) (low top : ℕ) (m r : List ℕ) (g : Group) → d
 -- and a source instruction, if it leads to the next one and pushes no address, does the same wherever it stands, but for PC
 abbrev pub SourcesHide : (o q : Object) → Type 0
 SourcesHide o q = (d : Domain) (m r : List ℕ) (l : Line) (p : ℕ) → d.object ≡ q → IsWellPlaced d → Contains (lines (fields o)) l → IsContext r → StaysInLine l.instr
-    → SameButPc (source_does o d m r l) (does m (set_reg r 0 p) (placed o d (own l)) (count l.instr))
+    → SameButPc (source_does o d m r l) (does m (set_reg r PC p) (placed o d (own l)) (count l.instr))
 
 -- ---- the laws: all of it holds of the object that o has with guards
 

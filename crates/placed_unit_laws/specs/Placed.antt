@@ -1,5 +1,6 @@
 -- Units where an object with guards was placed, and what a source instruction does there.
 use Rattle.std.specs.Prelude.{ℕ, ◌+◌, ◌*◌, ◌%◌, if◌then◌else◌, List, [], ◌∷◌, Option, None, Some}
+use Rattle.msp_encode.specs.declared.registers.TheConstants.{PC, SR}
 use Rattle.msp_encode.specs.declared.instr.Src.{Src}
 use Rattle.msp_encode.specs.declared.instr.Src.TheVariants as src
 use Rattle.msp_encode.specs.declared.instr.Dst.{Dst}
@@ -79,7 +80,7 @@ abbrev pub instr_does : Object → Domain → (m r : List ℕ) → Line → Inst
 instr_does o d m r l (instr.Two op w s t) = ended (unit_behind o d l) m r (placed o d (own l)) (count l.instr)
 instr_does o d m r l (instr.One op w s) = ended (unit_behind o d l) m r (placed o d (own l)) (count l.instr)
 instr_does o d m r l instr.Reti = ended (unit_behind o d l) m r (placed o d (own l)) (count l.instr)
-instr_does o d m r l (instr.Jump c k) = silent (set_reg r 0 (if holds c (reg r 2) then unit_address o d (target (2 * l.at) k) else unit_behind o d l))
+instr_does o d m r l (instr.Jump c k) = silent (set_reg r PC (if holds c (reg r SR) then unit_address o d (target (2 * l.at) k) else unit_behind o d l))
 
 unfoldable pub source_does : Object → Domain → (m r : List ℕ) → Line → Effect
 source_does o d m r l = instr_does o d m r l l.instr

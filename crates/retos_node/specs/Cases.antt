@@ -2,11 +2,13 @@
 use Rattle.std.specs.Prelude.{◌≡◌, ℕ, ◌+◌, ◌<◌, if◌then◌else◌, List, Option, None, Some}
 use Rattle.machine_model.specs.Context.{reg}
 use Rattle.kernel_model.specs.Kernel.{Kernel}
+use Rattle.msp_encode.specs.declared.registers.TheConstants.{PC, SR}
 use Rattle.trace_model.specs.declared.records.Record.{Record}
 use Rattle.node_model.specs.Systems.{System}
 use Rattle.retos_node.specs.declared.turns.Moment.{Moment}
 use Rattle.node_model.specs.Entries.{Call}
-use Rattle.node_model.specs.Steps.{Enters, allows_interrupts, case_of, entry_at, highest_line, step_of, with_raised}
+use Rattle.machine_model.specs.Accepting.{allows_interrupts}
+use Rattle.node_model.specs.Steps.{Enters, case_of, entry_at, highest_line, step_of, with_raised}
 use Rattle.node_model.specs.Sound.{IsSound}
 use Rattle.node_model.specs.Code.{Shows, GivesNext}
 use Rattle.node_model.specs.Nodes.{most_steps}
@@ -34,10 +36,10 @@ GivesRaised before after r c raised moment told =
 
 -- the line whose interrupt is accepted
 abbrev pub line_to_accept : Kernel → (registers : List ℕ) → Option ℕ
-line_to_accept k r = if allows_interrupts (reg r 2) then highest_line k else None
+line_to_accept k r = if allows_interrupts (reg r SR) then highest_line k else None
 
 -- PC is at an entry, whose turn is the next step
 pub record IsAtEntry (k : Kernel) (registers : List ℕ) : Type 0 where
   pub call : Call
-  pub at : entry_at (reg registers 0) ≡ Some call
+  pub at : entry_at (reg registers PC) ≡ Some call
   pub enters : case_of k registers ≡ Enters call

@@ -10,6 +10,7 @@ use Rattle.kernel_model.specs.Dispatching.{dispatched, dispatched_context}
 use Rattle.place_model.specs.Settled.{IsSettled}
 use Rattle.place_model.specs.Marking.{IsOwnMark}
 use Rattle.kernel_model.specs.Modules.{HasKnownModules}
+use Rattle.msp_encode.specs.declared.registers.TheConstants.{SP}
 use Rattle.trace_model.specs.declared.records.Record.{Record}
 use Rattle.retos_node.specs.declared.turns.Moment.{Moment}
 use Rattle.node_model.specs.Entries.{Work, Turn, Call, has_row, turn_at}
@@ -26,7 +27,7 @@ pub record IsWork (m registers : List ℕ) (step : ℕ) (pick : Option ℕ) (w :
   pub kernel : kernel_of m ≡ w.kernel
   pub context : registers ≡ w.context
   pub marks : AreOwnMarks m w.is_own
-  pub stacked : word_at m (reg registers 1) ≡ w.stacked
+  pub stacked : word_at m (reg registers SP) ≡ w.stacked
   pub step_is : step ≡ w.step
   pub pick_is : pick ≡ w.pick
 
@@ -85,4 +86,4 @@ Does m m' r r' moment told turn =
 -- a turn whose word at SP is that of memory
 abbrev pub DoesCall : (m m' r r' : List ℕ) → Moment → Record → Call → Type 0
 DoesCall m m' r r' moment told c =
-    (own : ℕ → Bool) → AreOwnMarks m own → Turned m m' r' told (turn_at c (work_of m r moment own (word_at m (reg r 1))))
+    (own : ℕ → Bool) → AreOwnMarks m own → Turned m m' r' told (turn_at c (work_of m r moment own (word_at m (reg r SP))))

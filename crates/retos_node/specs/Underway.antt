@@ -4,6 +4,7 @@ use Rattle.std.specs.List.{filter, list_any}
 use Rattle.machine_model.specs.Context.{reg}
 use Rattle.kernel_model.specs.Kernel.{Kernel}
 use Rattle.kernel_model.specs.Words.{none, running}
+use Rattle.msp_encode.specs.declared.registers.TheConstants.{PC}
 use Rattle.trace_model.specs.declared.records.Record.{Record}
 use Rattle.trace_model.specs.declared.scripts.At.{At}
 use Rattle.trace_model.specs.declared.scripts.Script.{Script}
@@ -19,13 +20,13 @@ use Rattle.retos_node.specs.declared.running.Counts.{Counts}
 -- nothing is ready, pending or served, and nothing more comes
 abbrev pub rests_in : Script → (steps : ℕ) → Kernel → (context : List ℕ) → Bool
 rests_in t n k c =
-    (length k.ready == 0) && not (is_serving (reg c 0)) && (pending k == 0) && not (list_any (λ (a : At). nat_lt n a.step) t.ats)
+    (length k.ready == 0) && not (is_serving (reg c PC)) && (pending k == 0) && not (list_any (λ (a : At). nat_lt n a.step) t.ats)
     && ((length t.everys.items == 0) || not (list_any is_live_app k.apps))
 
 -- the quiet test, over what it reads
 abbrev pub quiet_in : Script → (steps : ℕ) → Kernel → (context : List ℕ) → Bool
 quiet_in t n k c =
-    (running k == none) && (length k.ready == 0) && not (is_serving (reg c 0)) && (pending k == 0)
+    (running k == none) && (length k.ready == 0) && not (is_serving (reg c PC)) && (pending k == 0)
     && not (list_any (λ (a : At). nat_lt n a.step) t.ats) && ((length t.everys.items == 0) || not (list_any is_live_app k.apps))
 
 abbrev pub one_if : Bool → ℕ

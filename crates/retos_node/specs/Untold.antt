@@ -1,5 +1,6 @@
 -- A step of which no line tells: an instruction of an application, or a turn of the idle machine.
 use Rattle.std.specs.Prelude.{◌≡◌, ℕ, ◌+◌, length, false, List, Some}
+use Rattle.msp_encode.specs.declared.registers.TheConstants.{PC}
 use Rattle.msp_encode.specs.declared.instr.Instr.{Instr}
 use Rattle.msp_encode.specs.Spelling.{Legal, words_after}
 use Rattle.machine_model.specs.Context.{reg}
@@ -17,13 +18,13 @@ pub record IsPlain (m registers : List ℕ) (i : Instr) (words : ℕ) : Type 0 w
   pub memory : IsMemory m
   pub case : case_of (kernel_of m) registers ≡ Runs
   pub no_module : module_runs (kernel_of m) ≡ false
-  pub found : fetched m (reg registers 0) ≡ Some (i, words)
+  pub found : fetched m (reg registers PC) ≡ Some (i, words)
   pub legal : Legal i
   pub size : words ≡ 1 + length (words_after i)
 
 -- the record of that step, by its number
 abbrev pub plain_record : (m registers : List ℕ) → Instr → (words step : ℕ) → Record
-plain_record m r i words step = told.Instr step (who_runs (kernel_of m)) (reg r 0) (word_at m (reg r 0)) (does m r i words).written
+plain_record m r i words step = told.Instr step (who_runs (kernel_of m)) (reg r PC) (word_at m (reg r PC)) (does m r i words).written
 
 -- no line is raised, and nothing is printed of the instruction
 pub record IsUntold (n : Node) (raised : ℕ) (i : Instr) (words : ℕ) : Type 0 where

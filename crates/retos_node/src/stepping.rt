@@ -40,7 +40,7 @@ use crate::turns::{Moment, budget_fault, who_runs};
 use flat_mem::FlatMem;
 use interrupts::laws::highest_found;
 use interrupts::lines::LINES;
-use interrupts::{Lines, accept};
+use interrupts::{Lines, accept, are_allowed};
 pub(crate) use kernel_model::entries::FIRST_ENTRY;
 use kernel_model::entries::LAST_ENTRY;
 use kernel_model::map::MODULE_BUDGET;
@@ -61,9 +61,6 @@ use trace_model::records::{Record, Who};
 
 /// How many values the bits of a mask of lines have.
 const MASKS: u16 = 0x4000;
-
-/// The value of GIE, the bit of SR that lets interrupts be accepted.
-const GIE: u16 = 8;
 
 /// One step, with this number: the lines of a mask are raised before it, and a dispatch in it takes this pick.
 #[inline(always)]
@@ -108,7 +105,7 @@ pub(crate) fn line_to_accept(m: &FlatMem, r: &Regs) -> Option<u8>
     ensures pending { IfSome result (λ n. 2 ^ n ≤ pending (kernel_of m.now)) }
 {
     let pending = get(m, SysWord::Pending);
-    if pending == 0 || r.get(SR) / GIE % 2 == 0 {
+    if pending == 0 || !are_allowed(r.get(SR)) {
         return None;
     }
     let highest = Lines::from_word(pending).highest();

@@ -1,5 +1,6 @@
 -- The units of the code: an instruction that no guard guards, or a guard with what it guards.
 use Rattle.std.specs.Prelude.{◌≡◌, ◌⊎◌, ℕ, ◌+◌, ◌<◌, ◌≤◌, ◌↔◌, Option, None, Some, length}
+use Rattle.msp_encode.specs.declared.registers.TheConstants.{SP}
 use Rattle.msp_encode.specs.declared.instr.Dst.TheVariants as dst
 use Rattle.msp_encode.specs.declared.instr.Instr.{Instr}
 use Rattle.msp_encode.specs.declared.instr.Instr.TheVariants as instr
@@ -99,7 +100,7 @@ pub record IsNextServed (o : Object) (first served at : ℕ) (p : CodeUnit) : Ty
 
 -- an instruction that writes none but the registers from R4 on, and doesn't read the stack, or a jump
 abbrev pub IsPlain : Instr → Type 0
-IsPlain (instr.Two op w s (dst.Reg n)) = (4 ≤ n) × (Pops s 1 → ⊥)
+IsPlain (instr.Two op w s (dst.Reg n)) = (4 ≤ n) × (Pops s SP → ⊥)
 IsPlain (instr.Jump c k) = Unit {0}
 IsPlain _ = ⊥
 

@@ -1,7 +1,7 @@
 //! The rules on registers and the stack: PC, SP, SR, pops and pushes.
 
 ghost use Rattle.std.specs.Prelude.{◌≡◌, ◌<◌, ◌≤◌, ◌↔◌, IsTrue};
-ghost use Rattle.msp_encode.specs.Forms.{WritesReg, IsImmediate};
+ghost use Rattle.msp_encode.specs.Forms.{WritesReg};
 ghost use Rattle.code_model.specs.declared.object.TheConstants.{CODE_WORDS_MAX};
 ghost use Rattle.code_model.specs.declared.guards.GuardKind.TheVariants as kind;
 ghost use Rattle.static_checker.specs.Cursors.{IsCursor};
@@ -72,16 +72,9 @@ pub fn is_branch(i: Instr) -> bool
             width,
             src,
             dst,
-        } => op.is_mov() && width.is_wide() && is_immediate(src) && dst.is_reg(PC),
+        } => op.is_mov() && width.is_wide() && src.is_immediate() && dst.is_reg(PC),
         _ => false,
     }
-}
-
-/// Tells whether a source is an immediate.
-fn is_immediate(src: Src) -> bool
-    ensures { IsTrue result ↔ IsImmediate src }
-{
-    matches!(src, Src::Immediate(_))
 }
 
 /// Tells whether an instruction at a place changes flags alone, by a named mask.

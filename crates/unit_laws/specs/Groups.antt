@@ -4,6 +4,7 @@ use Rattle.machine_model.specs.Context.{reg}
 use Rattle.machine_model.specs.Operands.{sum_of}
 use Rattle.machine_model.specs.Does.{does, memory_after}
 use Rattle.machine_model.specs.Fetching.{IsFetched}
+use Rattle.msp_encode.specs.declared.registers.TheConstants.{PC, CHECKED}
 use Rattle.msp_encode.specs.declared.instr.Op2.{Op2}
 use Rattle.msp_encode.specs.declared.instr.Width.{Width}
 use Rattle.msp_encode.specs.declared.instr.Src.{Src}
@@ -21,7 +22,7 @@ use Rattle.kernel_model.specs.declared.entries.TheConstants.{STORE_FAULT}
 -- Steps lead from a memory and a context to others. Each is of the instruction that is fetched, and leads inside the unit.
 pub data Works (first past : ℕ) : (m c n d : List ℕ) → Type 0 where
   Rests : (m c : List ℕ) → Works first past m c m c
-  Does : (m c n d : List ℕ) (i : Instr) (k : ℕ) → IsFetched m (reg c 0) i k → IsInside first past (reg (does m c i k).context 0)
+  Does : (m c n d : List ℕ) (i : Instr) (k : ℕ) → IsFetched m (reg c PC) i k → IsInside first past (reg (does m c i k).context PC)
       → Works first past (memory_after m (does m c i k)) (does m c i k).context n d → Works first past m c n d
 
 -- Running a unit from a memory and a context ends with others: steps inside it, and one that leads out
@@ -31,17 +32,17 @@ pub record WorksUnit (m c : List ℕ) (first past : ℕ) (n d : List ℕ) : Type
   pub works : Works first past m c memory context
   pub instr : Instr
   pub words : ℕ
-  pub fetched : IsFetched memory (reg context 0) instr words
+  pub fetched : IsFetched memory (reg context PC) instr words
   pub written : memory_after memory (does memory context instr words) ≡ n
   pub leads : (does memory context instr words).context ≡ d
-  pub leaves : IsInside first past (reg d 0) → ⊥
+  pub leaves : IsInside first past (reg d PC) → ⊥
 
 -- all but R4 and R5 is as in a memory and a context, and PC is behind the unit
 pub record Reaches (m r : List ℕ) (first past : ℕ) (n d : List ℕ) : Type 0 where
   pub x : ℕ
   pub y : ℕ
   pub runs : WorksUnit m r first past n (spread d x y)
-  pub there : reg d 0 ≡ past
+  pub there : reg d PC ≡ past
 
 -- ---- the stores of a group
 
@@ -61,7 +62,7 @@ at_base n s = instr.Two s.op s.width s.source (dst.Indexed n s.index)
 
 -- `op src,x(R4)`
 abbrev pub at_r4 : Store → Instr
-at_r4 s = instr.Two s.op s.width s.source (dst.Indexed 4 s.ahead)
+at_r4 s = instr.Two s.op s.width s.source (dst.Indexed CHECKED s.ahead)
 
 -- memory and context after the source's stores, one after another
 unfoldable pub stores_after : (n : ℕ) → (m r : List ℕ) → List Store → List ℕ × List ℕ

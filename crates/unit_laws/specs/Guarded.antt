@@ -4,6 +4,7 @@ use Rattle.machine_model.specs.Context.{reg, set_reg, IsContext}
 use Rattle.machine_model.specs.Operands.{sum_of}
 use Rattle.machine_model.specs.Does.{does}
 use Rattle.machine_model.specs.Fetching.{IsFetched}
+use Rattle.msp_encode.specs.declared.registers.TheConstants.{PC, SR, CHECKED}
 use Rattle.msp_encode.specs.declared.instr.Width.{Width}
 use Rattle.msp_encode.specs.declared.instr.Op1.{Op1}
 use Rattle.msp_encode.specs.declared.instr.Op2.{Op2}
@@ -21,7 +22,7 @@ use Rattle.unit_laws.specs.Guards.{Passes}
 -- where a guard passes, an instruction behind it that leads out of the unit ends it, with all but R4 and R5 as it would be without the guard
 abbrev pub GuardedLaw : Type 0
 GuardedLaw = (m r : List ℕ) (first past steps next x : ℕ) (i : Instr) (n : ℕ) → IsContext r → next % 2 ≡ 0 → Passes m r first past steps next x → InstrAvoids i → IsFetched m next i n
-    → (IsInside first past (reg (does m (set_reg r 0 next) i n).context 0) → ⊥) → RunsUnit m first past r (spread_effect (does m (set_reg r 0 next) i n) x (reg r 2))
+    → (IsInside first past (reg (does m (set_reg r PC next) i n).context PC) → ⊥) → RunsUnit m first past r (spread_effect (does m (set_reg r PC next) i n) x (reg r SR))
 
 -- a destination at x behind a register, or at the address x, with n 3
 abbrev pub IsCell : Dst → (n x : ℕ) → Type 0
@@ -44,7 +45,7 @@ Steps (src.Const k) n = ⊥
 -- `op src,z(R4)` does what `op src,x(Rn)` does, where both name one address, but for R4 and R5
 abbrev pub ThroughLaw : Type 0
 ThroughLaw = (m r : List ℕ) (op : Op2) (w : Width) (s : Src) (d : Dst) (k n x z v y : ℕ) → IsContext r → SrcAvoids s → IsCell d n x → n ≢ 0 → x < 65536 → (Steps s n → ⊥)
-    → sum_of z v ≡ sum_of x (reg r n) → does m (spread r v y) (instr.Two op w s (dst.Indexed 4 z)) k ≡ spread_effect (does m r (instr.Two op w s d) k) v y
+    → sum_of z v ≡ sum_of x (reg r n) → does m (spread r v y) (instr.Two op w s (dst.Indexed CHECKED z)) k ≡ spread_effect (does m r (instr.Two op w s d) k) v y
 
 -- an operand of one-operand operations at x behind a register, or at the address x, with n 3
 abbrev pub IsCellOperand : Src → (n x : ℕ) → Type 0
@@ -60,4 +61,4 @@ IsCellOperand (src.Const k) n x = ⊥
 -- RRC, RRA, SWPB or SXT on @R4 does what it does on the cell whose address R4 has, but for R4 and R5, where both end at the same place
 abbrev pub AtR4Law : Type 0
 AtR4Law = (m r : List ℕ) (op : Op1) (w : Width) (s : Src) (pc k n x y : ℕ) → IsContext r → changes op ≡ true → IsCellOperand s n x → n ≢ 0 → x < 65536 → pc % 2 ≡ 0 → 1 ≤ k → pc + 2 * k < 65536
-    → does m (spread (set_reg r 0 (pc + (2 * k - 2))) (sum_of x (reg r n)) y) (instr.One op w (src.Indirect 4)) 1 ≡ spread_effect (does m (set_reg r 0 pc) (instr.One op w s) k) (sum_of x (reg r n)) y
+    → does m (spread (set_reg r PC (pc + (2 * k - 2))) (sum_of x (reg r n)) y) (instr.One op w (src.Indirect CHECKED)) 1 ≡ spread_effect (does m (set_reg r PC pc) (instr.One op w s) k) (sum_of x (reg r n)) y

@@ -8,6 +8,7 @@ use Rattle.unit_laws.specs.Running.{held, silent, Runs, RunsUnit}
 use Rattle.unit_laws.specs.Lines.{IsIndexed}
 use Rattle.kernel_model.specs.declared.map.TheConstants.{STACK_LIMIT, STACK_TOP}
 use Rattle.kernel_model.specs.declared.entries.TheConstants.{FIRST_ENTRY, STACK_FAULT, STORE_FAULT}
+use Rattle.msp_encode.specs.declared.registers.TheConstants.{PC, SP, SR, CHECKED}
 
 -- ---- the guards' words
 
@@ -36,7 +37,7 @@ WordsAt m at k (w ∷ ws) = (word_at m (at + k) ≡ w) × WordsAt m at (k + 2) w
 pub record IsAtGuard (m r : List ℕ) (first past at : ℕ) (ws : List ℕ) : Type 0 where
   pub memory : IsMemory m
   pub context : IsContext r
-  pub pc : reg r 0 ≡ at
+  pub pc : reg r PC ≡ at
   pub words : WordsAt m at 0 ws
   pub begins : first ≤ at
   pub within : at + 2 * length ws < past
@@ -46,12 +47,12 @@ pub record IsAtGuard (m r : List ℕ) (first past at : ℕ) (ws : List ℕ) : Ty
 
 -- The run goes on at the guarded instruction: SR is as before, and R5 has it too
 abbrev pub Passes : (m r : List ℕ) → (first past steps next x : ℕ) → Type 0
-Passes m r first past steps next x = Runs m first past steps r (held r next (reg r 2) x (reg r 2))
+Passes m r first past steps next x = Runs m first past steps r (held r next (reg r SR) x (reg r SR))
 
 -- The run ends at an entry, and nothing was written. R4 has x and R5 the status as it was; of SR the four flags are free
 pub record Stops (m r : List ℕ) (first past entry x : ℕ) : Type 0 where
   pub flags : Flags
-  pub ends : RunsUnit m first past r (silent (held r entry (with_flags (reg r 2) flags.c flags.z flags.n flags.v) x (reg r 2)))
+  pub ends : RunsUnit m first past r (silent (held r entry (with_flags (reg r SR) flags.c flags.z flags.n flags.v) x (reg r SR)))
 
 -- the address a was tested
 pub record StoreEnds (m r : List ℕ) (first past at lo hi a : ℕ) : Type 0 where
@@ -63,23 +64,23 @@ StoreGuardLaw = (m r : List ℕ) (first past at n x lo hi : ℕ) → IsAtGuard m
     → StoreEnds m r first past at lo hi (sum_of x (reg r n))
 
 pub record GrowthEnds (m r : List ℕ) (first past at : ℕ) : Type 0 where
-  pub passes : word_at m STACK_LIMIT ≤ reg r 1 → Passes m r first past 4 (at + 14) (reg r 4)
-  pub stops : reg r 1 < word_at m STACK_LIMIT → Stops m r first past STACK_FAULT (reg r 4)
+  pub passes : word_at m STACK_LIMIT ≤ reg r SP → Passes m r first past 4 (at + 14) (reg r CHECKED)
+  pub stops : reg r SP < word_at m STACK_LIMIT → Stops m r first past STACK_FAULT (reg r CHECKED)
 
 abbrev pub GrowthGuardLaw : Type 0
 GrowthGuardLaw = (m r : List ℕ) (first past at : ℕ) → IsAtGuard m r first past at growth_words → GrowthEnds m r first past at
 
 pub record PopEnds (m r : List ℕ) (first past at : ℕ) : Type 0 where
-  pub passes : reg r 1 ≢ word_at m STACK_TOP → Passes m r first past 4 (at + 14) (reg r 4)
-  pub stops : reg r 1 ≡ word_at m STACK_TOP → Stops m r first past STACK_FAULT (reg r 4)
+  pub passes : reg r SP ≢ word_at m STACK_TOP → Passes m r first past 4 (at + 14) (reg r CHECKED)
+  pub stops : reg r SP ≡ word_at m STACK_TOP → Stops m r first past STACK_FAULT (reg r CHECKED)
 
 abbrev pub PopGuardLaw : Type 0
 PopGuardLaw = (m r : List ℕ) (first past at : ℕ) → IsAtGuard m r first past at pop_words → PopEnds m r first past at
 
 -- the new SP is in R4
 pub record SpEnds (m r : List ℕ) (first past at : ℕ) : Type 0 where
-  pub passes : word_at m STACK_LIMIT ≤ reg r 4 → reg r 4 ≤ word_at m STACK_TOP → Passes m r first past 6 (at + 20) (reg r 4)
-  pub stops : (reg r 4 < word_at m STACK_LIMIT) ⊎ (word_at m STACK_TOP < reg r 4) → Stops m r first past STACK_FAULT (reg r 4)
+  pub passes : word_at m STACK_LIMIT ≤ reg r CHECKED → reg r CHECKED ≤ word_at m STACK_TOP → Passes m r first past 6 (at + 20) (reg r CHECKED)
+  pub stops : (reg r CHECKED < word_at m STACK_LIMIT) ⊎ (word_at m STACK_TOP < reg r CHECKED) → Stops m r first past STACK_FAULT (reg r CHECKED)
 
 abbrev pub SpGuardLaw : Type 0
 SpGuardLaw = (m r : List ℕ) (first past at : ℕ) → IsAtGuard m r first past at sp_words → SpEnds m r first past at

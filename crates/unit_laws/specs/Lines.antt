@@ -6,6 +6,7 @@ use Rattle.machine_model.specs.Status.{carry, is_zero}
 use Rattle.machine_model.specs.Operands.{sum_of}
 use Rattle.machine_model.specs.Alu.{alu}
 use Rattle.machine_model.specs.Does.{does, holds}
+use Rattle.msp_encode.specs.declared.registers.TheConstants.{PC, SP, SR, CHECKED, KEPT_STATUS}
 use Rattle.msp_encode.specs.declared.instr.Width.TheVariants.{Wide}
 use Rattle.msp_encode.specs.declared.instr.Cg.TheVariants.{Zero}
 use Rattle.msp_encode.specs.declared.instr.Op2.TheVariants.{Mov, Add, Cmp}
@@ -47,17 +48,17 @@ abbrev pub load : ℕ → Src
 load n = if n == 3 then src.Const Zero else src.Reg n
 
 abbrev pub instr_of : Line → Instr
-instr_of Saves = instr.Two Mov Wide (src.Reg 2) (dst.Reg 5)
-instr_of (Loads n) = instr.Two Mov Wide (load n) (dst.Reg 4)
-instr_of (Adds x) = instr.Two Add Wide (src.Immediate x) (dst.Reg 4)
-instr_of (Compares v) = instr.Two Cmp Wide (src.Immediate v) (dst.Reg 4)
-instr_of ComparesSp = instr.Two Cmp Wide (src.Absolute STACK_LIMIT) (dst.Reg 1)
-instr_of ComparesTop = instr.Two Cmp Wide (src.Reg 1) (dst.Absolute STACK_TOP)
-instr_of ComparesNew = instr.Two Cmp Wide (src.Absolute STACK_LIMIT) (dst.Reg 4)
-instr_of ComparesNewTop = instr.Two Cmp Wide (src.Reg 4) (dst.Absolute STACK_TOP)
+instr_of Saves = instr.Two Mov Wide (src.Reg SR) (dst.Reg KEPT_STATUS)
+instr_of (Loads n) = instr.Two Mov Wide (load n) (dst.Reg CHECKED)
+instr_of (Adds x) = instr.Two Add Wide (src.Immediate x) (dst.Reg CHECKED)
+instr_of (Compares v) = instr.Two Cmp Wide (src.Immediate v) (dst.Reg CHECKED)
+instr_of ComparesSp = instr.Two Cmp Wide (src.Absolute STACK_LIMIT) (dst.Reg SP)
+instr_of ComparesTop = instr.Two Cmp Wide (src.Reg SP) (dst.Absolute STACK_TOP)
+instr_of ComparesNew = instr.Two Cmp Wide (src.Absolute STACK_LIMIT) (dst.Reg CHECKED)
+instr_of ComparesNewTop = instr.Two Cmp Wide (src.Reg CHECKED) (dst.Absolute STACK_TOP)
 instr_of (Jumps c k) = instr.Jump c (pos k)
-instr_of (Branches v) = instr.Two Mov Wide (src.Immediate v) (dst.Reg 0)
-instr_of Restores = instr.Two Mov Wide (src.Reg 5) (dst.Reg 2)
+instr_of (Branches v) = instr.Two Mov Wide (src.Immediate v) (dst.Reg PC)
+instr_of Restores = instr.Two Mov Wide (src.Reg KEPT_STATUS) (dst.Reg SR)
 
 abbrev pub words_of : Line → ℕ
 words_of Saves = 1
@@ -113,8 +114,8 @@ sr_after Saves m r sr x y = sr
 sr_after (Loads n) m r sr x y = sr
 sr_after (Adds v) m r sr x y = (alu Add Wide v x sr).status
 sr_after (Compares v) m r sr x y = compared v x sr
-sr_after ComparesSp m r sr x y = compared (word_at m STACK_LIMIT) (reg r 1) sr
-sr_after ComparesTop m r sr x y = compared (reg r 1) (word_at m STACK_TOP) sr
+sr_after ComparesSp m r sr x y = compared (word_at m STACK_LIMIT) (reg r SP) sr
+sr_after ComparesTop m r sr x y = compared (reg r SP) (word_at m STACK_TOP) sr
 sr_after ComparesNew m r sr x y = compared (word_at m STACK_LIMIT) x sr
 sr_after ComparesNewTop m r sr x y = compared x (word_at m STACK_TOP) sr
 sr_after (Jumps c k) m r sr x y = sr

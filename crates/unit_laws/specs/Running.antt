@@ -3,6 +3,7 @@ use Rattle.std.specs.Prelude.{◌≡◌, ℕ, zero, suc, ◌+◌, ◌<◌, List,
 use Rattle.machine_model.specs.Context.{reg}
 use Rattle.machine_model.specs.Does.{does, Effect}
 use Rattle.machine_model.specs.Fetching.{IsFetched}
+use Rattle.msp_encode.specs.declared.registers.TheConstants.{PC}
 use Rattle.msp_encode.specs.declared.instr.Instr.{Instr}
 
 -- the sixteen registers: PC, SR, R4 and R5 are given, and the others are those of a context
@@ -20,7 +21,7 @@ IsInside first past a = (first < a) × (a < past)
 -- So many steps lead from a context to another. Each is of the instruction that is fetched, writes nothing, and leads inside the unit.
 pub data Runs (m : List ℕ) (first past : ℕ) : ℕ → List ℕ → List ℕ → Type 0 where
   Stays : (c : List ℕ) → Runs m first past zero c c
-  Goes : (k : ℕ) (c q d : List ℕ) (i : Instr) (n : ℕ) → IsFetched m (reg c 0) i n → does m c i n ≡ silent q → IsInside first past (reg q 0) → Runs m first past k q d → Runs m first past (suc k) c d
+  Goes : (k : ℕ) (c q d : List ℕ) (i : Instr) (n : ℕ) → IsFetched m (reg c PC) i n → does m c i n ≡ silent q → IsInside first past (reg q PC) → Runs m first past k q d → Runs m first past (suc k) c d
 
 -- Running a unit from a context ends with an effect: steps inside it, and one that leads out
 pub record RunsUnit (m : List ℕ) (first past : ℕ) (c : List ℕ) (e : Effect) : Type 0 where
@@ -29,9 +30,9 @@ pub record RunsUnit (m : List ℕ) (first past : ℕ) (c : List ℕ) (e : Effect
   pub runs : Runs m first past steps c before
   pub instr : Instr
   pub words : ℕ
-  pub fetched : IsFetched m (reg before 0) instr words
+  pub fetched : IsFetched m (reg before PC) instr words
   pub last : does m before instr words ≡ e
-  pub leaves : IsInside first past (reg e.context 0) → ⊥
+  pub leaves : IsInside first past (reg e.context PC) → ⊥
 
 -- ---- laws of runs
 
