@@ -39,22 +39,5 @@ pub fn take(r: &mut Regs, words: &[u16; 16])
 pub fn new_context(pc: u16, sp: u16, r12: u16) -> [u16; 16]
     ensures { result ≡ new_context pc sp r12 }
 {
-    [
-        pc,
-        sp,
-        GIE,
-        0,
-        0,
-        0,
-        0,
-        0,
-        0,
-        0,
-        0,
-        0,
-        r12,
-        0,
-        0,
-        0,
-    ]
+    [pc, sp, GIE, 0, 0, 0, 0, 0, 0, 0, 0, 0, r12, 0, 0, 0]
 }
