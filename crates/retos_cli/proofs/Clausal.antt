@@ -37,7 +37,7 @@ abbrev OneAnswer : Type 0
 OneAnswer = (c : Option Command) (m : Files) → HasOneAnswer c m
 
 pub one_answer_clause : (call : Call) → OneAnswer → OneAnswerClause call
-one_answer_clause call one = told_all call.f0.files (HasOneAnswer call.command) (λ m s. one call.command m)
+one_answer_clause call one = told_all call.folder_before.files (HasOneAnswer call.command) (λ m s. one call.command m)
 
 -- a count that rose isn't still
 moved : (a b : ℕ) → Rose a b → Still a b → ⊥
@@ -45,7 +45,15 @@ moved a b r s = omega (arith, r, s)
 
 module _ (f0 f1 : FolderState) (o0 o1 e0 e1 : SinkState) where
   abbrev call-with : Option Command → Call
-  call-with c = record { command = c; f0 = f0; f1 = f1; o0 = o0; o1 = o1; e0 = e0; e1 = e1 }
+  call-with c = record {
+    command = c;
+    folder_before = f0;
+    folder_after = f1;
+    out_before = o0;
+    out_after = o1;
+    err_before = e0;
+    err_after = e1;
+  }
 
   abbrev Came : Option Command → Outcome → Type 0
   Came c o = EndedBy c f0 f1 o0 o1 o

@@ -23,15 +23,24 @@ use Rattle.node_model.specs.Nodes.{IsSoundRun}
 -- a call of the top: the command that its words are, and the folder, out and err before and after
 pub record Call : Type 0 where
   pub command : Option Command
-  pub f0 : FolderState
-  pub f1 : FolderState
-  pub o0 : SinkState
-  pub o1 : SinkState
-  pub e0 : SinkState
-  pub e1 : SinkState
+  pub folder_before : FolderState
+  pub folder_after : FolderState
+  pub out_before : SinkState
+  pub out_after : SinkState
+  pub err_before : SinkState
+  pub err_after : SinkState
 
 abbrev pub call_of : {F O E : Type 0} → (F → FolderState) → (O → SinkState) → (E → SinkState) → List (List ℕ) → F → F → O → O → E → E → Call
-call_of folder out err words f0 f1 o0 o1 e0 e1 = record { command = command_of words; f0 = folder f0; f1 = folder f1; o0 = out o0; o1 = out o1; e0 = err e0; e1 = err e1 }
+call_of folder out err words f0 f1 o0 o1 e0 e1 =
+    record {
+      command = command_of words;
+      folder_before = folder f0;
+      folder_after = folder f1;
+      out_before = out o0;
+      out_after = out o1;
+      err_before = err e0;
+      err_after = err e1;
+    }
 
 -- ---- statuses 0 and 6: there is no refusal, and all is the output's
 
@@ -39,14 +48,14 @@ pub record IsOutputOf (call : Call) (given : Status) (m : Files) : Type 0 where
   pub unrefused : (s : Status) (line : List ℕ) → IsRefusal call.command m s line → ⊥
   pub x : Output
   pub done : IsDone call.command m x
-  pub out : call.o1.bytes ≡ appended call.o0.bytes x.out
-  pub err : call.e1.bytes ≡ call.e0.bytes
-  pub files : call.f1.files ≡ Some (written m x.file)
+  pub out : call.out_after.bytes ≡ appended call.out_before.bytes x.out
+  pub err : call.err_after.bytes ≡ call.err_before.bytes
+  pub files : call.folder_after.files ≡ Some (written m x.file)
   pub status : given ≡ status_by x.faulted
 
 abbrev pub OutputClause : Call → Status → Type 0
-OutputClause call Done = Told call.f0.files (IsOutputOf call Done)
-OutputClause call Faulted = Told call.f0.files (IsOutputOf call Faulted)
+OutputClause call Done = Told call.folder_before.files (IsOutputOf call Done)
+OutputClause call Faulted = Told call.folder_before.files (IsOutputOf call Faulted)
 OutputClause call _ = Unit {0}
 
 -- ---- the lines of statuses 1, 2, 3 and 5
@@ -58,35 +67,35 @@ ReachedBy (Some command) m name = IsReached m (inputs command) name
 
 -- the read of an input of the words failed in this call, and this is its line
 pub record IsReadLine (call : Call) (line : List ℕ) : Type 0 where
-  pub rose : Rose call.f0.read_faults call.f1.read_faults
+  pub rose : Rose call.folder_before.read_faults call.folder_after.read_faults
   pub name : List ℕ
-  pub last : call.f1.last_failed ≡ Some name
+  pub last : call.folder_after.last_failed ≡ Some name
   pub line_is : line ≡ read_line name
-  pub is_held : Told call.f0.files (λ m. IsHeld m name)
-  pub reached : Told call.f0.files (λ m. ReachedBy call.command m name)
+  pub is_held : Told call.folder_before.files (λ m. IsHeld m name)
+  pub reached : Told call.folder_before.files (λ m. ReachedBy call.command m name)
 
 abbrev pub LineFor : Call → Status → List ℕ → Type 0
 LineFor call Done line = ⊥
 LineFor call Faulted line = ⊥
 LineFor call WriteFault line = ⊥
-LineFor call Refused line = Told call.f0.files (λ m. IsRefusal call.command m Refused line)
+LineFor call Refused line = Told call.folder_before.files (λ m. IsRefusal call.command m Refused line)
 LineFor call BadWords line = (call.command ≡ None) × (line ≡ words_line)
 LineFor call ReadFault line = IsReadLine call line
 LineFor call NoMemory line = line ≡ memory_line
 
 -- out and the folder's files, created name and count of write faults are unchanged
 pub record IsLeft (call : Call) : Type 0 where
-  pub out : call.o1 ≡ call.o0
-  pub files : call.f1.files ≡ call.f0.files
-  pub created : call.f1.created ≡ call.f0.created
-  pub writes : call.f1.write_faults ≡ call.f0.write_faults
+  pub out : call.out_after ≡ call.out_before
+  pub files : call.folder_after.files ≡ call.folder_before.files
+  pub created : call.folder_after.created ≡ call.folder_before.created
+  pub writes : call.folder_after.write_faults ≡ call.folder_before.write_faults
 
 -- the same, and err got the status's line
 pub record IsUnwritten (call : Call) (given : Status) : Type 0 where
   pub left : IsLeft call
   pub line : List ℕ
   pub line_for : LineFor call given line
-  pub err : call.e1.bytes ≡ appended call.e0.bytes line
+  pub err : call.err_after.bytes ≡ appended call.err_before.bytes line
 
 abbrev pub RefusedClause : Call → Status → Type 0
 RefusedClause call Refused = IsUnwritten call Refused
@@ -105,20 +114,20 @@ NoMemoryClause call _ = Unit {0}
 
 -- The line on err, and why it may be this one. Behind the line of another status out and the folder are as they were
 pub data IsCutLine (call : Call) (line : List ℕ) : Type 0 where
-  OfWrites : line ≡ write_line → Rose call.o0.faults call.o1.faults ⊎ Rose call.f0.write_faults call.f1.write_faults → IsCutLine call line
-  OfStatus : (given : Status) → LineFor call given line → Rose call.e0.faults call.e1.faults → IsLeft call → IsCutLine call line
+  OfWrites : line ≡ write_line → Rose call.out_before.faults call.out_after.faults ⊎ Rose call.folder_before.write_faults call.folder_after.write_faults → IsCutLine call line
+  OfStatus : (given : Status) → LineFor call given line → Rose call.err_before.faults call.err_after.faults → IsLeft call → IsCutLine call line
 
 -- the files are as before and nothing is on out, or the output was cut short
 pub data IsCut (call : Call) (m : Files) : Type 0 where
-  Nothing : call.f1.files ≡ Some m → call.o1.bytes ≡ call.o0.bytes → IsCut call m
-  OfOutput : (x : Output) → IsDone call.command m x → CutAt x.file x.out m call.f1.files call.o0.bytes call.o1.bytes → IsCut call m
+  Nothing : call.folder_after.files ≡ Some m → call.out_after.bytes ≡ call.out_before.bytes → IsCut call m
+  OfOutput : (x : Output) → IsDone call.command m x → CutAt x.file x.out m call.folder_after.files call.out_before.bytes call.out_after.bytes → IsCut call m
 
 pub record IsWriteFault (call : Call) : Type 0 where
-  pub cause : Rose call.o0.faults call.o1.faults ⊎ (Rose call.e0.faults call.e1.faults ⊎ Rose call.f0.write_faults call.f1.write_faults)
-  pub told : Told call.f0.files (IsCut call)
+  pub cause : Rose call.out_before.faults call.out_after.faults ⊎ (Rose call.err_before.faults call.err_after.faults ⊎ Rose call.folder_before.write_faults call.folder_after.write_faults)
+  pub told : Told call.folder_before.files (IsCut call)
   pub line : List ℕ
   pub which : IsCutLine call line
-  pub err : (call.e1.bytes ≡ appended call.e0.bytes line) ⊎ (Rose call.e0.faults call.e1.faults × GotPrefix call.e0.bytes call.e1.bytes line)
+  pub err : (call.err_after.bytes ≡ appended call.err_before.bytes line) ⊎ (Rose call.err_before.faults call.err_after.faults × GotPrefix call.err_before.bytes call.err_after.bytes line)
 
 abbrev pub WriteFaultClause : Call → Status → Type 0
 WriteFaultClause call WriteFault = IsWriteFault call
@@ -128,10 +137,10 @@ WriteFaultClause call _ = Unit {0}
 
 -- no count rose in this call or stands at its last value
 pub record IsCalm (call : Call) : Type 0 where
-  pub reads : Still call.f0.read_faults call.f1.read_faults
-  pub writes : Still call.f0.write_faults call.f1.write_faults
-  pub out : Still call.o0.faults call.o1.faults
-  pub err : Still call.e0.faults call.e1.faults
+  pub reads : Still call.folder_before.read_faults call.folder_after.read_faults
+  pub writes : Still call.folder_before.write_faults call.folder_after.write_faults
+  pub out : Still call.out_before.faults call.out_after.faults
+  pub err : Still call.err_before.faults call.err_after.faults
 
 -- the status is that of the answer
 pub record HasStatus (call : Call) (given : Status) (m : Files) : Type 0 where
@@ -141,17 +150,17 @@ pub record HasStatus (call : Call) (given : Status) (m : Files) : Type 0 where
 
 -- where nothing failed, the status is the answer's, or there was no memory
 abbrev pub CompleteClause : Call → Status → Type 0
-CompleteClause call given = IsCalm call → Told call.f0.files (λ m. HasStatus call given m ⊎ (given ≡ NoMemory))
+CompleteClause call given = IsCalm call → Told call.folder_before.files (λ m. HasStatus call given m ⊎ (given ≡ NoMemory))
 
 -- words that are no command, whatever the folder tells
 abbrev pub NoCommandClause : Call → Status → Type 0
-NoCommandClause call given = call.command ≡ None → (given ≡ BadWords) ⊎ ((given ≡ NoMemory) ⊎ ((given ≡ WriteFault) × Rose call.e0.faults call.e1.faults))
+NoCommandClause call given = call.command ≡ None → (given ≡ BadWords) ⊎ ((given ≡ NoMemory) ⊎ ((given ≡ WriteFault) × Rose call.err_before.faults call.err_after.faults))
 
 -- ---- one answer
 
 -- the words and the files decide all that is answered
 abbrev pub OneAnswerClause : Call → Type 0
-OneAnswerClause call = Told call.f0.files (HasOneAnswer call.command)
+OneAnswerClause call = Told call.folder_before.files (HasOneAnswer call.command)
 
 -- ---- confinement
 
@@ -174,4 +183,4 @@ RunsConfined (Some (Insert from to)) m = Unit {0}
 RunsConfined (Some (Gen seed to)) m = IsConfinedGenerated seed
 
 abbrev pub ConfinedClause : Call → Type 0
-ConfinedClause call = Told call.f0.files (RunsConfined call.command)
+ConfinedClause call = Told call.folder_before.files (RunsConfined call.command)
