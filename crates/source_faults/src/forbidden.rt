@@ -6,11 +6,11 @@ ghost use Rattle.msp_encode.specs.Forms.{WritesReg};
 ghost use Rattle.insert_model.specs.Faults.{IsCheck, SrcUsesCheck, DstUsesCheck, UsesCheck, NamesFlags, ChangesFlags, SetsPc, ReadsPc, HasSymbolic, IsSpecial, HasBadOperand, IsNoPopTarget, HasForbiddenPop, StepsBase, HasForbiddenStore, IsWrongWord, IsWrongWithin, HasWrongWord, HasForbiddenWrite, HasForbiddenRead, IsForbidden};
 
 use crate::forms::{is_auto_inc, is_memory, is_symbolic_dst, is_symbolic_src, sets_pc};
+use code_model::forms::is_flags;
 use code_model::parts::RelKind;
 use insert_model::line::Line;
 use msp_encode::instr::{Dst, Instr, Src};
 use msp_encode::registers::{CHECKED, KEPT_STATUS, PC, SP, SR};
-use static_checker::forms::is_flags;
 use static_checker::operand_words::carries;
 
 /// Tells whether an operand names R4 or R5.

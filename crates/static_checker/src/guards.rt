@@ -10,9 +10,9 @@ ghost use Rattle.static_checker.specs.Loads.{TestsRegister};
 ghost use Rattle.static_checker.specs.CodeUnits.{wording, OnlyKind, IsServing, IsServedSpot};
 
 use crate::cursor::{Cursor, unrelocated};
-use crate::forms::{is_at_r4, is_high, steps_no_pointer};
 use crate::spot::{Spot, spot_at, word_at};
 use crate::stores::in_static;
+use code_model::forms::{is_at_r4, is_high, steps_no_pointer};
 use code_model::guards::{GuardKind, Reach};
 use code_model::object::Object;
 use msp_encode::instr::{Dst, Instr, Src};

@@ -12,14 +12,12 @@
 //! taken, a word is looked at a bounded number of times, and relocations are read along the pass (`cursor`), which goes on
 //! at a guard that breaks off with its second instruction.
 //!
-//! Public beside `check` are questions that other crates ask of instructions too: what their operations and operands do
-//! (`forms`), which of their words may have a relocation (`operand_words`), what stands at a place (`spot`), and marks by
-//! places (`marking`).
+//! Public beside `check` are questions that other crates ask of instructions too: which of their words may have a relocation
+//! (`operand_words`), what stands at a place (`spot`), and marks by places (`marking`).
 #![tactic(auto)]
 
 mod code_units;
 mod cursor;
-pub mod forms;
 mod guards;
 mod landing;
 mod local;

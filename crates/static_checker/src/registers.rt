@@ -8,7 +8,7 @@ ghost use Rattle.static_checker.specs.Cursors.{IsCursor};
 ghost use Rattle.code_model.specs.Rules.{IsBranch, NamesFlags, ChangesFlags, ReadsStack, IsPushOrCall};
 
 use crate::cursor::{Cursor, unrelocated};
-use crate::forms::is_flags;
+use code_model::forms::is_flags;
 use code_model::guards::GuardKind;
 use code_model::object::Object;
 use msp_encode::instr::{Instr, Src};
