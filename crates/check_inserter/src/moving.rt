@@ -16,8 +16,8 @@ use crate::laying::Laid;
 use code_model::lists::{CodeWords, Exports, Relocs};
 use code_model::object::Object;
 use code_model::parts::{Export, RelKind, Reloc};
-use edge_io::lists::Bytes;
 use insert_model::piece::Word;
+use item_lists::lists::Bytes;
 use source_faults::source::word_in;
 use std::alloc::{AllocError, Global};
 

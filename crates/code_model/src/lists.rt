@@ -1,7 +1,7 @@
 //! The lists of an object.
 
 use super::parts::{Export, Reloc};
-use edge_io::lists::Items;
+use item_lists::lists::Items;
 
 /// A list of code words, each of 16 bits.
 pub type CodeWords = Items<u16>;

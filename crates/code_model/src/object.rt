@@ -5,7 +5,7 @@ ghost use Rattle.code_model.specs.Form.{MeetsForm};
 
 use super::lists::{CodeWords, Exports, Relocs};
 use super::parts::Kind;
-use edge_io::lists::Bytes;
+use item_lists::lists::Bytes;
 
 /// The largest number of code words.
 pub const CODE_WORDS_MAX: usize = 8192;

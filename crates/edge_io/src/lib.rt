@@ -5,14 +5,13 @@
 //! failed name and the created name. `read_all`, `write_all` and `write_file` take and give whole contents; what they
 //! answer, and when a fault may be answered (`specs/Causes.antt`), is what the layers above build on. `MemFolder` and
 //! `MemSink` are exact forms in memory, with calls that can be made to fail (`specs/Memory.antt`). `StdFolder` and
-//! `StdSink` stand over files and standard streams, and tell no contents. `lists` has the list that grows, also for the crates
-//! above. The crate stands on `std` alone.
+//! `StdSink` stand over files and standard streams, and tell no contents. The crate stands on `item_lists` for bytes that grow.
 #![tactic(auto)]
 
+pub mod calls;
+mod copying;
 mod counts;
 pub mod folder;
-pub mod items;
-pub mod lists;
 pub mod mem_folder;
 pub mod mem_sink;
 pub mod name;

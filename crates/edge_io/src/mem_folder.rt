@@ -7,11 +7,13 @@ ghost use Rattle.edge_io.specs.Causes.{read_failed};
 ghost use Rattle.edge_io.specs.Memory.{FollowsCall, HasGiven, WriteAnswer, after_append, after_create, after_read, empty_folder, held_files, files_of, folder_state, found, names_created, one_up, read_answer, with_file};
 ghost use Rattle.edge_io.specs.Numbered.{has_call};
 
+use crate::calls::{Calls, has_call};
+use crate::copying::copy_over;
 use crate::counts::one_up;
 use crate::folder::{Folder, ReadErr, WriteErr};
-use crate::lists::{Bytes, Calls, copy_over};
 use crate::mem_sink::{append_within, count_taken};
 use crate::name::Name;
+use item_lists::lists::Bytes;
 use std::alloc::{AllocError, Global};
 use std::marker::Model;
 
@@ -151,7 +153,7 @@ impl Folder for MemFolder {
         ensures after { self.new ≡ after_read self.old name.now (read_failed result) }
     {
         let call = self.reads;
-        let fails = self.fail_reads.contains(call);
+        let fails = has_call(&self.fail_reads, call);
         let answer = match self.held(name) {
             None => Err(ReadErr::Absent),
             Some(bytes) => {
@@ -178,7 +180,7 @@ impl Folder for MemFolder {
     {
         let call = self.writes;
         self.writes = one_up(call);
-        if self.fail_writes.contains(call) {
+        if has_call(&self.fail_writes, call) {
             self.write_faults = one_up(self.write_faults);
             return Err(WriteErr::Failed);
         }
@@ -196,11 +198,11 @@ impl Folder for MemFolder {
         let call = self.writes;
         let left = self.room - self.written.len();
         self.writes = one_up(call);
-        if self.fail_writes.contains(call) {
+        if has_call(&self.fail_writes, call) {
             self.write_faults = one_up(self.write_faults);
             return Err(WriteErr::Failed);
         }
-        let taken = count_taken(self.none.contains(call), left, piece);
+        let taken = count_taken(has_call(&self.none, call), left, piece);
         if taken == 0 && !piece.is_empty() {
             self.write_faults = one_up(self.write_faults);
         }

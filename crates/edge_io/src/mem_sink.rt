@@ -4,8 +4,8 @@ ghost use Rattle.std.specs.Prelude.{◌≡◌, ◌+◌, ◌++◌, ◌-◌, ◌�
 ghost use Rattle.edge_io.specs.Memory.{WriteAnswer, after_write, count_taken, one_up, sink_state};
 ghost use Rattle.edge_io.specs.Numbered.{has_call};
 
+use crate::calls::{Calls, has_call};
 use crate::counts::one_up;
-use crate::lists::Calls;
 use crate::sink::{Failed, Sink};
 use std::alloc::{AllocError, Global};
 use std::marker::Model;
@@ -69,11 +69,11 @@ impl Sink for MemSink {
         let call = self.calls;
         let left = self.room - self.bytes.len();
         self.calls = one_up(call);
-        if self.fail.contains(call) {
+        if has_call(&self.fail, call) {
             self.faults = one_up(self.faults);
             return Err(Failed);
         }
-        let taken = count_taken(self.none.contains(call), left, piece);
+        let taken = count_taken(has_call(&self.none, call), left, piece);
         if taken == 0 && !piece.is_empty() {
             self.faults = one_up(self.faults);
         }

@@ -3,7 +3,7 @@
 ghost use Rattle.std.specs.Prelude.{◌≡◌, ◌≤◌, ℕ, List, take, MatchOption};
 ghost use Rattle.edge_io.specs.Naming.{IsName, NoName};
 
-use crate::lists::copy_over;
+use crate::copying::copy_over;
 use std::marker::Model;
 
 /// The most bytes that a name has.

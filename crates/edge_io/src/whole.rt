@@ -7,9 +7,9 @@ ghost use Rattle.edge_io.specs.Steps.{BeginsOf, TurnsOf, TurnCalls};
 ghost use Rattle.edge_io.specs.Turns.{FileTurns, ReadTurns, WriteTurns};
 
 use crate::folder::{Folder, ReadErr, WriteErr};
-use crate::lists::Bytes;
 use crate::name::Name;
 use crate::sink::{Failed, Sink};
+use item_lists::lists::Bytes;
 use std::alloc::Global;
 
 /// The most bytes that a whole read gives.

@@ -3,7 +3,7 @@
 ghost use Rattle.std.specs.Prelude.{◌≡◌, ℕ, List, [], ◌∷◌, ◌++◌, length, slice_get, OnOk, OnErr};
 ghost use Rattle.std.specs.Option.{option_copied};
 
-use crate::lists::Bytes;
+use item_lists::lists::Bytes;
 use std::alloc::{AllocError, Global};
 use std::marker::Model;
 

@@ -3,8 +3,8 @@
 ghost use Rattle.std.specs.Prelude.{◌≡◌, None, Some, IfOk};
 
 use crate::test_support::{calls, name_of, text};
+use edge_io::calls::Calls;
 use edge_io::folder::{Folder, ReadErr, WriteErr};
-use edge_io::lists::Calls;
 use edge_io::mem_folder::MemFolder;
 use edge_io::name::Name;
 use edge_io::whole::{InputFault, SinkFault, WHOLE_BYTES, read_all, write_file};

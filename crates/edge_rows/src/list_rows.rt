@@ -1,9 +1,10 @@
 //! Rows on names, words and lists.
 
 use crate::test_support::{calls, text};
-use edge_io::lists::{Bytes, Calls};
+use edge_io::calls::{Calls, has_call};
 use edge_io::name::Name;
 use edge_io::words::Words;
+use item_lists::lists::Bytes;
 use std::alloc::{AllocError, Global};
 use std::process::Abort;
 use std::test::Fail;
@@ -64,7 +65,7 @@ fn five_bytes(alloc: Global) -> Result<Bytes, AllocError> {
 /// Tells where a list of numbers isn't 3 and 7.
 fn compare_calls(rt: &impl Abort, numbers: &Calls) {
     assert_eq!(rt; (numbers.len(), numbers.get(1)), (2, Some(7)));
-    assert!(rt; numbers.contains(3) && !numbers.contains(4));
+    assert!(rt; has_call(numbers, 3) && !has_call(numbers, 4));
 }
 
 #[test]

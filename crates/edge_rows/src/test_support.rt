@@ -1,7 +1,8 @@
 //! Lists and texts for the tests.
 
-use edge_io::lists::{Bytes, Calls};
+use edge_io::calls::Calls;
 use edge_io::name::Name;
+use item_lists::lists::Bytes;
 use std::alloc::{AllocError, Global};
 use std::test::Fail;
 

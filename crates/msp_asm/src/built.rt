@@ -5,7 +5,7 @@ ghost use Rattle.asm_model.specs.SecondPass.{empty_output};
 ghost use Rattle.msp_asm.specs.Given.{output_of};
 
 use code_model::lists::{CodeWords, Exports, Relocs};
-use edge_io::lists::Bytes;
+use item_lists::lists::Bytes;
 use std::alloc::Global;
 
 /// The parts of an object so far.

@@ -9,7 +9,7 @@ use asm_model::name::Value;
 use asm_model::piece::{Piece, Placed};
 use asm_model::progress::{Progress, Section, Version};
 use code_model::object::{CODE_WORDS_MAX, STATIC_BYTES_MAX};
-use edge_io::lists::Items;
+use item_lists::lists::Items;
 use std::alloc::AllocError;
 
 /// Why the assembler stops at a line.

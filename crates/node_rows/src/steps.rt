@@ -6,7 +6,7 @@ ghost use Rattle.retos_node.specs.Parts.{parts};
 ghost use Rattle.trace_print.specs.Named.{has_name};
 
 use crate::test_support::add_source;
-use edge_io::lists::Bytes;
+use item_lists::lists::Bytes;
 use retos_node::{Node, ObjectList, Show};
 use std::alloc::Global;
 use std::test::Fail;

@@ -14,7 +14,7 @@ use super::lists::{Sizes, read_exports, read_relocs};
 use super::sections::read_sections;
 use code_model::lists::{CodeWords, Exports, Relocs};
 use code_model::object::Object;
-use edge_io::lists::Bytes;
+use item_lists::lists::Bytes;
 use std::alloc::Global;
 
 /// What stands in a text: its head and its parts.

@@ -10,7 +10,7 @@ use super::fault::{FormFault, FormKind};
 use super::head::{word_in, wrong};
 use super::layout::{HEAD_BYTES, WORD_BYTES};
 use code_model::lists::CodeWords;
-use edge_io::lists::Bytes;
+use item_lists::lists::Bytes;
 use std::alloc::{AllocError, Global};
 
 /// So many code words behind the head.

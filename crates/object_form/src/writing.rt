@@ -12,7 +12,7 @@ use super::layout::{
 };
 use code_model::object::Object;
 use code_model::parts::{Export, Kind, RelKind, Reloc};
-use edge_io::lists::Bytes;
+use item_lists::lists::Bytes;
 use std::alloc::{AllocError, Global};
 
 /// The number of a kind in the text.

@@ -11,9 +11,9 @@ use crate::source::Source;
 use code_model::lists::Exports;
 use code_model::object::Object;
 use code_model::parts::Kind;
-use edge_io::lists::Bytes;
 use gen_model::block::Block;
 use gen_model::laws::generated_meets_the_form;
+use item_lists::lists::Bytes;
 use std::alloc::{AllocError, Global};
 
 /// How many registers are set at first.

@@ -1,7 +1,7 @@
 //! The commands that words are.
 
-use edge_io::lists::Items;
 use edge_io::name::Name;
+use item_lists::lists::Items;
 use retos_node::Show;
 
 /// A list of names.

@@ -2,7 +2,7 @@
 
 ghost use Rattle.std.specs.Prelude.{◌≡◌, None, IfOk};
 
-use edge_io::lists::Calls;
+use edge_io::calls::Calls;
 use edge_io::mem_folder::MemFolder;
 use edge_io::mem_sink::MemSink;
 use edge_io::name::Name;

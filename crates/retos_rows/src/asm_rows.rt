@@ -3,7 +3,7 @@
 use crate::test_support::{
     Case, Failing, SELF_JUMP, compare_held, no_command, try_case, try_stored, with_files, writable,
 };
-use edge_io::lists::Bytes;
+use item_lists::lists::Bytes;
 use std::alloc::Global;
 use std::process::Abort;
 use std::test::Fail;

@@ -1,7 +1,7 @@
 //! Worked rows of `check`, of the object's form, and of writes that fail.
 
 use crate::test_support::{Case, GUARDED_STORE, SELF_JUMP, application, try_failing, try_stored};
-use edge_io::lists::Bytes;
+use item_lists::lists::Bytes;
 use std::alloc::Global;
 use std::process::Abort;
 use std::test::Fail;

@@ -2,7 +2,7 @@ use crate::test_support::{
     Case, Stored, compare_err, compare_status, leave_among, sink, try_cases, try_failing,
     try_stored, unwritten,
 };
-use edge_io::lists::Bytes;
+use item_lists::lists::Bytes;
 use std::test::Fail;
 
 /// Runs of applications alone.

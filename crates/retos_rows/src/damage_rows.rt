@@ -5,8 +5,8 @@ use crate::test_nodes::node;
 use crate::test_support::{
     Case, GUARDED_STORE, calls, compare, leave_cases, try_case, try_stored, unwritten,
 };
-use edge_io::lists::Bytes;
 use edge_io::mem_sink::MemSink;
+use item_lists::lists::Bytes;
 use std::alloc::{AllocError, Global};
 use std::process::Abort;
 use std::str;

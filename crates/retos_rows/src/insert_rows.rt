@@ -4,7 +4,7 @@ use crate::test_support::{
     Case, CodeReloc, Failing, SELF_JUMP, Stored, UNGUARDED, application, application_of,
     compare_held, no_command, try_case, try_stored, try_stored_pieces, with_files, writable,
 };
-use edge_io::lists::Bytes;
+use item_lists::lists::Bytes;
 use std::alloc::Global;
 use std::process::Abort;
 use std::test::Fail;

@@ -6,8 +6,8 @@ use crate::test_support::{
     Case, CodeReloc, MODULE, Stored, all_files, application, no_command, try_case, try_failing,
     try_stored, with_files,
 };
-use edge_io::lists::Bytes;
 use edge_io::mem_folder::MemFolder;
+use item_lists::lists::Bytes;
 use std::alloc::Global;
 use std::process::Abort;
 use std::test::Fail;

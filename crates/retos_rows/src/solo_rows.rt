@@ -3,7 +3,7 @@
 use crate::test_support::{
     Case, CodeReloc, Stored, all_files, application, try_pieces, try_stored, try_stored_pieces,
 };
-use edge_io::lists::Bytes;
+use item_lists::lists::Bytes;
 use std::alloc::Global;
 use std::process::Abort;
 use std::test::Fail;

@@ -2,11 +2,12 @@
 
 ghost use Rattle.std.specs.Prelude.{◌≡◌, None, IfOk};
 
-use edge_io::lists::{Bytes, Calls};
+use edge_io::calls::Calls;
 use edge_io::mem_folder::MemFolder;
 use edge_io::mem_sink::MemSink;
 use edge_io::name::Name;
 use edge_io::words::Words;
+use item_lists::lists::Bytes;
 use retos_cli::outcome::Status;
 use retos_cli::top::retos;
 use std::alloc::{AllocError, Global};

@@ -1,7 +1,7 @@
 //! Worked rows of object version 2: several stores under one guard, and loads under theirs.
 
 use crate::test_support::{Case, CodeReloc, Stored, application_of, try_stored, try_stored_pieces};
-use edge_io::lists::Bytes;
+use item_lists::lists::Bytes;
 use std::alloc::Global;
 use std::test::Fail;
 

@@ -8,7 +8,7 @@ use crate::assembler_faults::{SOURCE_MAX, has_fault};
 use asm_model::fault::AsmKind::{JumpRange, TooLarge};
 use code_model::object::Object;
 use code_model::parts::{Export, Kind, RelKind, Reloc};
-use edge_io::lists::Bytes;
+use item_lists::lists::Bytes;
 use msp_asm::assemble;
 use object_form::writing::write_object;
 use std::alloc::{AllocError, Global};

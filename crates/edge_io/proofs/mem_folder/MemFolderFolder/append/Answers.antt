@@ -4,12 +4,12 @@ use Rattle.edge_io.specs.declared.folder.WriteErr.TheVariants.{Failed}
 use Rattle.edge_io.proofs.Entries.{files-appended}
 use Rattle.edge_io.proofs.mem_folder.MemFolderFolder.append.Goals as goal
 
-pub returns-then-contains-clause-after : goal.returns-then-contains-clause-after
-returns-then-contains-clause-after c = search rules
+pub returns-then-has_call-clause-after : goal.returns-then-has_call-clause-after
+returns-then-has_call-clause-after c = search rules
 
-pub returns-then-contains-clause-files : goal.returns-then-contains-clause-files
-returns-then-contains-clause-files c =
-    files-appended {E = WriteErr} c.args.self.now c.args.name.now c.args.piece.now (Err Failed) _ c.requires (returns-then-contains-clause-after c)
+pub returns-then-has_call-clause-files : goal.returns-then-has_call-clause-files
+returns-then-has_call-clause-files c =
+    files-appended {E = WriteErr} c.args.self.now c.args.name.now c.args.piece.now (Err Failed) _ c.requires (returns-then-has_call-clause-after c)
 
 pub returns-clause-after : goal.returns-clause-after
 returns-clause-after c = search rules

@@ -1,7 +1,6 @@
 //! Lists of values of one type.
 
 ghost use Rattle.std.specs.Prelude.{◌≡◌, ◌<◌, ℕ, List, [], ◌∷◌, ◌++◌, length, slice_get, Some, IfOk, OnOk, OnErr};
-ghost use Rattle.edge_io.specs.Numbered.{has_call};
 
 use std::alloc::{AllocError, Global};
 use std::marker::Model;
@@ -92,14 +91,5 @@ impl<T: Copy + Drop> Items<T> {
         ensures { result ≡ slice_get self.now at }
     {
         self.items.get(at).copied()
-    }
-}
-
-impl Items<u32> {
-    /// Whether a list of numbers of calls has this number.
-    pub fn contains(&self, call: u64) -> bool
-        ensures { result ≡ has_call self.now call }
-    {
-        self.items.iter().any(|item| u64::from(*item) == call)
     }
 }
