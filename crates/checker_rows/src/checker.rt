@@ -2,8 +2,8 @@
 //! `units` the words of guards and of what they guard, `whole` those rows where guards stand whole or with another relocation,
 //! `broken` those where guards break off, and `wide` and `loads` those of the guards that version 2 has beside version 1's.
 
-use crate::object_parts::{Parts, object_of};
 use code_model::marks::Marks;
+use object_parts::parts::{Parts, object_of};
 use static_checker::{Verdict, check};
 use std::alloc::Global;
 

@@ -1,9 +1,9 @@
 //! What becomes of a source object, beside what was expected.
 
 use check_inserter::{InsertFault, InsertKind, insert};
-use checker_rows::object_parts::{CODE, DATA, HI, LO, Parts, object_of};
 use code_model::object::Object;
 use code_model::parts::RelKind;
+use object_parts::parts::{CODE, DATA, HI, LO, Parts, object_of};
 use std::alloc::Global;
 
 /// What became of a source object: it was none, it was given its guards as expected or otherwise, or it has a fault.

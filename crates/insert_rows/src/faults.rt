@@ -3,7 +3,7 @@
 use crate::answers::{Answer, inserted};
 use crate::faulty::{BAD_TARGETS, CHECK_REGISTERS, FIRST_FAULTS, FORBIDDEN, UNDECODED};
 use check_inserter::InsertKind;
-use checker_rows::object_parts::{CODE, Parts, code};
+use object_parts::parts::{CODE, Parts, code};
 use std::alloc::{AllocError, Global};
 use std::test::*;
 

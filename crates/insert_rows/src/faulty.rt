@@ -2,7 +2,7 @@
 
 use crate::faults::Faulty;
 use check_inserter::InsertKind;
-use checker_rows::object_parts::{CODE, DATA, HI, LO};
+use object_parts::parts::{CODE, DATA, HI, LO};
 
 pub(crate) const UNDECODED: [Faulty; 3] = [
     (&[0x4303, 0x0000], &[], InsertKind::NotDecoded, 2),

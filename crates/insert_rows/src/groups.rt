@@ -2,7 +2,7 @@
 
 use crate::answers::Answer;
 use crate::table::{Row, first_other};
-use checker_rows::object_parts::{DATA, HI, LO};
+use object_parts::parts::{DATA, HI, LO};
 use std::test::*;
 
 /// Sources with a group, and a jump of one word behind it.

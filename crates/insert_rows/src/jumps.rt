@@ -2,7 +2,7 @@
 
 use crate::answers::{Answer, inserted_in};
 use check_inserter::InsertKind;
-use checker_rows::object_parts::{CODE, HI, LO, code};
+use object_parts::parts::{CODE, HI, LO, code};
 use std::alloc::{AllocError, Global};
 use std::test::*;
 

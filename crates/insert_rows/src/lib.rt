@@ -1,7 +1,7 @@
 //! Rows on the inserter: units and faults of small objects, each worked out by hand from the table of units.
 //!
-//! Nothing but tests stands here. `rows` has the objects that `table` looks at, and `faulty` those of `faults`; `groups` and `jumps`
-//! are of version 2.
+//! Nothing but tests stands here. `rows` has the objects that `table` looks at, and `faulty` those of `faults`; `groups` and
+//! `jumps` are of version 2. `object_parts` puts the objects together.
 #![tactic(auto)]
 
 #[cfg(test)]

@@ -1,7 +1,7 @@
 //! Source instructions and their units.
 
 use crate::table::Row;
-use checker_rows::object_parts::{CODE, DATA, HI, LO};
+use object_parts::parts::{CODE, DATA, HI, LO};
 
 pub(crate) const STORE: [u16; 3] = [0x4786, 0x0000, 0x3FFD];
 

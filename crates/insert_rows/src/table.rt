@@ -3,7 +3,7 @@
 use crate::answers::{Answer, inserted, inserted_in};
 use crate::rows::{GUARDED_STORE, GUARDED_STORE_RELOCS, STACKS, STORE, STORES, TARGETS};
 use check_inserter::InsertKind;
-use checker_rows::object_parts::{CODE, DATA, HI, LO, Parts, code};
+use object_parts::parts::{CODE, DATA, HI, LO, Parts, code};
 use std::alloc::Global;
 use std::test::*;
 

@@ -11,16 +11,16 @@ ghost use Rattle.kernel_model.specs.Words.{identity, tick_number};
 ghost use Rattle.place_model.specs.Settled.{IsSettled};
 
 use flat_mem::FlatMem;
+use kernel_fixture::lists::are_identities;
+use kernel_fixture::memories::{ready_list, runner, tick_words};
 use kernel_model::states::ENDED;
 use kernel_modules::{end_module, enter, leave};
 use kernel_sync::{broadcast, hand_over_all, lock, signal, unlock, wait};
 use kernel_tables::{SysWord, app, get, line, module, mutex, thread};
 use kernel_threads::*;
-use load_rows::fixture::{ready_list, runner, tick_words};
 use msp_machine::Regs;
 use std::fmt::Debug;
 use std::process::Abort;
-use table_rows::lists::are_identities;
 
 // ---- what the calls require
 

@@ -2,7 +2,7 @@
 //!
 //! Nothing but tests stands here. They make public calls of the crates of the kernel, so none of those is proved a second time for
 //! them. What is expected is worked out by hand from the rules. `calls` makes a call where it may be made; the memories that the
-//! rows begin with, and the texts of modules, are those of `load_rows`.
+//! rows begin with are those of `kernel_fixture`, and the texts of modules are written by `object_parts`.
 #![tactic(auto)]
 
 #[cfg(test)]

@@ -3,9 +3,9 @@
 
 use crate::calls::{Answer, Call, Step, try_steps};
 use crate::threads::BAD;
+use kernel_fixture::memories::{NO_MEMBER, eight_apps};
 use kernel_tables::{cond, mutex, thread};
 use kernel_threads::{Code, NONE};
-use load_rows::fixture::{NO_MEMBER, eight_apps};
 use msp_machine::Regs;
 use std::test::Fail;
 

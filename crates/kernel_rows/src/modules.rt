@@ -10,13 +10,13 @@ use code_model::marks::Marks;
 use code_model::object::Object;
 use code_model::parts::Kind;
 use flat_mem::FlatMem;
+use kernel_fixture::memories::{copy, same, two_apps, words_of};
 use kernel_modules::{NoRoom, load_module};
 use kernel_tables::{FnRow, ModuleRow, SysWord, function, get, module, thread};
 use kernel_threads::{Code, NONE};
-use load_rows::fixture::{copy, same, two_apps, words_of};
-use load_rows::object_texts::{Head, MODULE};
 use msp_machine::Regs;
 use object_form::reading::read_object;
+use object_parts::texts::{Head, Lists, MODULE};
 use region_table::is_marked;
 use static_checker::{Verdict, check};
 use std::alloc::{AllocError, Global};
@@ -28,16 +28,23 @@ fn text(
     alloc: Global,
     zeroed: u16,
     code: &[u16],
-    exports: &[(u16, u16)],
+    exports: &[(u8, u16)],
 ) -> Result<Vec<u8>, AllocError> {
     let head = Head {
+        version: 1,
         kind: MODULE,
         zeroed,
         stack: 0,
         threads: 0,
         entry: 0,
     };
-    load_rows::object_texts::text(alloc, &head, code, &[], &[], exports)
+    let lists = Lists {
+        code,
+        init: &[],
+        relocs: &[],
+        exports,
+    };
+    object_parts::texts::text(alloc, &head, &lists)
 }
 
 /// Adds one to its argument, and returns.

@@ -4,9 +4,9 @@ ghost use Rattle.std.specs.Prelude.{◌<◌};
 
 use crate::calls::{Answer, Call, Step, compare, make, try_steps};
 use flat_mem::FlatMem;
+use kernel_fixture::memories::{NO_MEMBER, two_apps};
 use kernel_tables::thread;
 use kernel_threads::*;
-use load_rows::fixture::{NO_MEMBER, two_apps};
 use msp_machine::Regs;
 use std::alloc::Global;
 use std::process::Abort;

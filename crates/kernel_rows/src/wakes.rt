@@ -6,9 +6,11 @@ use crate::calls::{Answer, Call, Step, compare, four_sleep, try_make, try_steps,
 use crate::threads::{BAD, START_BOTH};
 use arrayvec::ArrayVec;
 use flat_mem::FlatMem;
+use kernel_fixture::memories::{
+    NO_MEMBER, eight_apps, queue_lists, ready_list, tick_words, two_apps,
+};
 use kernel_tables::thread;
 use kernel_threads::NONE;
-use load_rows::fixture::{NO_MEMBER, eight_apps, queue_lists, ready_list, tick_words, two_apps};
 use msp_machine::Regs;
 use std::process::Abort;
 use std::test::Fail;

@@ -1,2 +1,0 @@
-mod TwoApps
-mod EightApps

@@ -3,13 +3,14 @@
 ghost use Rattle.std.specs.Prelude.{IfOk};
 ghost use Rattle.place_model.specs.Settled.{IsSettled};
 
-use crate::fixture::{copy, marks_at, same};
-use crate::object_texts::{APP, Head, MODULE};
 use code_model::marks::Marks;
 use code_model::object::Object;
 use flat_mem::FlatMem;
+use kernel_fixture::memories::{copy, marks_at, same};
 use kernel_tables::{AppRow, ModuleRow, app, clear, function, module};
 use object_form::reading::read_object;
+use object_parts::parts::{CODE, DATA, HI, LO};
+use object_parts::texts::{APP, Head, Lists, MODULE};
 use reloc_loader::laws::cleared_is_settled;
 use reloc_loader::{NoRoom, Regions, loaded};
 use std::alloc::{AllocError, Global};
@@ -17,15 +18,6 @@ use std::test::Fail;
 
 /// What stands in memory where nothing is written.
 const OLD: u8 = 0xAA;
-
-/// The kinds of relocations, as an object's text has them.
-const CODE: u8 = 1;
-
-const DATA: u8 = 2;
-
-const LO: u8 = 3;
-
-const HI: u8 = 4;
 
 /// The sections of relocations.
 const IN_CODE: u8 = 0;
@@ -42,6 +34,7 @@ const EMITS: [u16; 21] = [
 ];
 
 const SMALL: Head = Head {
+    version: 1,
     kind: APP,
     zeroed: 0,
     stack: 16,
@@ -57,8 +50,14 @@ fn text(
     init: &[u8],
     relocs: &[(u8, u8, u16)],
 ) -> Result<Vec<u8>, AllocError> {
-    let exports: &[(u16, u16)] = if head.kind == MODULE { &[(5, 0)] } else { &[] };
-    crate::object_texts::text(alloc, head, code, init, relocs, exports)
+    let exports: &[(u8, u16)] = if head.kind == MODULE { &[(5, 0)] } else { &[] };
+    let lists = Lists {
+        code,
+        init,
+        relocs,
+        exports,
+    };
+    object_parts::texts::text(alloc, head, &lists)
 }
 
 /// Memory with the empty kernel over old bytes.
@@ -147,6 +146,7 @@ const WORDS: [(u16, u16); 8] = [
 
 /// Ten bytes of static data and two stacks of 16: the region is 2000 to 2029.
 const TWO_THREADS: Head = Head {
+    version: 1,
     kind: APP,
     zeroed: 4,
     stack: 16,
@@ -217,6 +217,7 @@ fn relocations_of_both_sections_stand_together(rt: HostRuntime) -> Result<(), Fa
 fn the_rest_of_the_region_is_zero(rt: HostRuntime) -> Result<(), Fail> {
     let alloc = rt.alloc();
     let head = Head {
+        version: 1,
         kind: APP,
         zeroed: 2,
         stack: 18,
@@ -301,6 +302,7 @@ fn the_marks_are_those_of_the_unit_starts(rt: HostRuntime) -> Result<(), Fail> {
 
 /// A module without static data.
 const BARE: Head = Head {
+    version: 1,
     kind: MODULE,
     zeroed: 0,
     stack: 0,
@@ -399,6 +401,7 @@ fn refusals_leave_memory_as_it_was(rt: HostRuntime) -> Result<(), Fail> {
     };
     assert_eq!(rt; refused(alloc, &long)?, (2, Answer::Refused(no_code), true));
     let head = Head {
+        version: 1,
         kind: APP,
         zeroed: 16384,
         stack: 1024,

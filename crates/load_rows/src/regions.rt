@@ -1,8 +1,8 @@
 //! Places and marks worked out by hand, from the pools' addresses.
 
-use crate::fixture::marks_at;
 use code_model::parts::Kind;
 use flat_mem::FlatMem;
+use kernel_fixture::memories::marks_at;
 use kernel_tables::{AppRow, ModuleRow, app, clear, module, set_app, set_module};
 use region_table::{NoRoom, Regions, is_marked, place, set_marks};
 use std::test::Fail;

@@ -1,10 +1,8 @@
 //! Rows on the kernel's tables: each row, list and queue at its address, and each setter beside each getter.
 //!
-//! Nothing but tests stands here, and `lists`, whose test of a list of threads the rows on calls make too. The rows make public
-//! calls of `kernel_tables`, so that it isn't proved a second time for them. What is expected is worked out by hand from the
-//! tables' addresses.
+//! Nothing but tests stands here. The rows make public calls of `kernel_tables`, so that it isn't proved a second time for them.
+//! What is expected is worked out by hand from the tables' addresses.
 #![tactic(auto)]
 
-pub mod lists;
 #[cfg(test)]
 mod tables;

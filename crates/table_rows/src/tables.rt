@@ -9,9 +9,9 @@ mod filled;
 mod linked;
 mod setters;
 
-use crate::lists::are_identities;
 use arrayvec::ArrayVec;
 use flat_mem::FlatMem;
+use kernel_fixture::lists::are_identities;
 use kernel_tables::*;
 use std::process::Abort;
 use std::test::Fail;

@@ -5,7 +5,7 @@
 
 use super::Answer;
 use super::units::{STAYS, Source, said_of};
-use crate::object_parts::{CODE, DATA};
+use object_parts::parts::{CODE, DATA};
 use std::alloc::{AllocError, Global};
 use std::process::Abort;
 use std::test::*;

@@ -1,8 +1,8 @@
 //! The words of guards and of what they guard, and code made of them.
 
 use super::{Answer, said_with};
-use crate::object_parts::{HI, LO};
 use code_model::guards::{GuardKind, Reach};
+use object_parts::parts::{HI, LO};
 use std::alloc::{AllocError, Global};
 
 /// The guards of version 1.

@@ -2,8 +2,8 @@
 
 use super::Answer;
 use super::units::{STAYS, Source, VERSIONS, kinds, offset, restores, said_of, words};
-use crate::object_parts::{CODE, DATA, HI, LO};
 use code_model::guards::GuardKind;
+use object_parts::parts::{CODE, DATA, HI, LO};
 use std::alloc::{AllocError, Global};
 use std::test::*;
 

@@ -5,7 +5,7 @@
 
 use super::units::{STAYS, Source, said_of};
 use super::{Answer, said_with};
-use crate::object_parts::{DATA, HI, LO};
+use object_parts::parts::{DATA, HI, LO};
 use std::alloc::{AllocError, Global};
 use std::process::Abort;
 use std::test::*;

@@ -1,9 +1,9 @@
 //! A kernel of which each table is filled, and what the getters of each table give.
 
 use super::{Place, members, put_in, put_line, put_mutex, put_row};
-use crate::lists::are_identities;
 use arrayvec::ArrayVec;
 use flat_mem::FlatMem;
+use kernel_fixture::lists::are_identities;
 use kernel_tables::*;
 
 /// What stands for no member of a list.

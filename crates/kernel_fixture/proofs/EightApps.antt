@@ -19,7 +19,7 @@ use Rattle.place_model.specs.declared.places.DomainRow.{DomainRow}
 use Rattle.place_model.specs.declared.places.Pool.{Pool}
 use Rattle.place_model.specs.declared.places.Pool.TheVariants.{Code, Data}
 use Rattle.place_model.specs.Placing.{app_domain, module_domain, domain_at, pool_range, range_in}
-use Rattle.load_rows.proofs.TwoApps.{empty_state}
+use Rattle.kernel_fixture.proofs.TwoApps.{empty_state}
 use Rattle.place_model.specs.Settled.{IsInPool, AreApart, IsAppPlace, IsInUse, IsSettledKernel, IsSettled}
 
 -- application a's row: 16 bytes of code and four stacks of 32 bytes

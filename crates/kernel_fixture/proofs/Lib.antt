@@ -1,0 +1,2 @@
+mod TwoApps
+mod EightApps
