@@ -1,5 +1,8 @@
 //! What a step is recorded as.
 
+ghost use Rattle.std.specs.Prelude.{◌≡◌};
+ghost use Rattle.trace_model.specs.Texts.{is_always_shown, is_fault};
+
 use machine_model::writes::Writes;
 
 /// Whose step it was: a thread of an application, a module, or nobody's.
@@ -81,4 +84,25 @@ pub enum Record {
     IdleTurn {
         step: u32,
     },
+}
+
+impl Record {
+    /// Whether it is a fault's.
+    #[inline(always)]
+    pub fn is_fault(&self) -> bool
+        ensures { result ≡ is_fault self.now }
+    {
+        matches!(self, Record::Fault { .. })
+    }
+
+    /// Whether it has a line without `--all` too.
+    #[inline(always)]
+    pub fn is_always_shown(&self) -> bool
+        ensures { result ≡ is_always_shown self.now }
+    {
+        matches!(
+            self,
+            Record::Emit { .. } | Record::Exit { .. } | Record::Fault { .. }
+        )
+    }
 }

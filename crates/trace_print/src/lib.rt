@@ -5,14 +5,17 @@
 //! `machine_model` for the list of written bytes, and on `line_text` for digits.
 //!
 //! From the bottom up: `line` (the type), `parts` (whose step it was, names, written bytes), `record_lines` (a line for each
-//! kind of record) and `tail` (the last eight instructions, which are shown before a fault).
+//! kind of record), `tail` (the last eight instructions, which are shown before a fault, each behind a bar) and `show` (what a run
+//! prints, and what its tail keeps for that).
 #![tactic(auto)]
 
 pub mod line;
 mod parts;
 pub mod record_lines;
+pub mod show;
 pub mod tail;
 
 pub use record_lines::text;
-pub use tail::Tail;
+pub use show::Show;
+pub use tail::{Tail, barred};
 pub use trace_model::records::{FaultKind, Record, Who};

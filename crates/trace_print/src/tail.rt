@@ -1,6 +1,6 @@
 //! The last instructions of a run.
 
-ghost use Rattle.std.specs.Prelude.{◌≡◌, ◌∷◌, ◌++◌, [], List, IsTrue, IsFalse, slice_get, length, ◌<◌, IfOk, IfSome};
+ghost use Rattle.std.specs.Prelude.{◌≡◌, ◌∷◌, ◌++◌, [], List, IsTrue, IsFalse, slice_get, length, codes, ◌<◌, ◌≤◌, IfOk, IfSome};
 ghost use Rattle.std.specs.Option.{option_map};
 ghost use Rattle.trace_model.specs.declared.records.Record.{Record};
 ghost use Rattle.trace_model.specs.declared.records.Record.TheVariants as told;
@@ -10,6 +10,7 @@ ghost use Rattle.circular_buffer.specs.Buffer.{keep_last};
 use super::line::Line;
 use super::record_lines::text;
 use circular_buffer::HeapCircularBuffer;
+use line_text::line::Line as Text;
 use machine_model::writes::Writes;
 use std::alloc::{AllocError, Global};
 use std::marker::Model;
@@ -91,6 +92,18 @@ impl Tail {
             Some(rec) => Some(text(rec)),
         }
     }
+}
+
+/// A record's line, with a bar and a blank before it.
+#[inline(always)]
+pub fn barred(line: &[u8]) -> Text
+    requires { length line.now ≤ 96 }
+    ensures { result ≡ codes "| " ++ line.now }
+{
+    let mut text = Text::new();
+    text.push_text(b"| ");
+    text.push_text(line);
+    text
 }
 
 /// The same written bytes.
