@@ -6,7 +6,7 @@ use Rattle.std.specs.Option.{option_map, option_and_then}
 use Rattle.std.specs.declared.option.Option.{Option}
 use Rattle.std.specs.Str.Parse.{digits_value}
 use Rattle.trace_model.specs.Grammar.{is_decimal, number_in}
-use Rattle.retos_node.specs.declared.node.Show.{Show}
+use Rattle.trace_print.specs.declared.show.Show.{Show}
 use Rattle.retos_cli.specs.declared.command.Command.{Command}
 use Rattle.retos_cli.specs.declared.command.Command.TheVariants.{Check, Asm, Insert, Gen}
 use Rattle.retos_cli.specs.Words.{word}

@@ -14,7 +14,7 @@ use Rattle.node_model.specs.Runs.{Run as Made, run, faults}
 use Rattle.node_model.specs.Booting.{Refusal, booted, begun_if, empty_system, loaded, loaded_all, by_places}
 use Rattle.node_model.specs.Nodes.{Parts, Represents, Boots, IsBootRefusal, trace_text}
 use Rattle.retos_node.specs.declared.node.Node.{Node}
-use Rattle.retos_node.specs.declared.node.Show.{Show}
+use Rattle.trace_print.specs.declared.show.Show.{Show}
 use Rattle.retos_node.specs.declared.node.End.{End}
 use Rattle.retos_node.specs.declared.node.End.TheVariants.{Limit, Quiet}
 use Rattle.retos_node.specs.declared.node.BootFault.{BootFault}

@@ -20,9 +20,9 @@ use Rattle.trace_print.specs.Named.{HasLine}
 use Rattle.retos_node.proofs.Naming.{step_has_line}
 use Rattle.node_model.specs.Nodes.{Parts, Represents, Steps, Stepped, IsEnd, placement_line, placement_text, end_line, in_order, trace_text}
 use Rattle.retos_node.specs.declared.running.Counts.{Counts}
-use Rattle.retos_node.specs.declared.node.Show.{Show}
+use Rattle.trace_print.specs.declared.show.Show.{Show}
 use Rattle.retos_node.specs.Printing.{placement_lines, shown_line, tail_lines, told_lines, lines_after, shown_lines, trace_lines}
-use Rattle.retos_node.specs.Tails.{kept_of, kept_with, last_kept}
+use Rattle.trace_print.specs.Shown.{kept_of, kept_with, last_kept}
 use Rattle.retos_node.specs.Underway.{one_if, AreCounted, AreWithin, IsNext, behind, quiet_in, IsUnderWay, HasReached, HasEnded}
 
 -- ---- the run, a step further

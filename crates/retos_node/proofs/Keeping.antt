@@ -4,9 +4,10 @@ use Rattle.edge_io.specs.Known.{SinkState}
 use Rattle.edge_io.specs.declared.whole.SinkFault.{SinkFault}
 use Rattle.trace_model.specs.declared.records.Record.{Record}
 use Rattle.trace_model.specs.Texts.{last_instrs}
-use Rattle.retos_node.specs.declared.node.Show.{Show}
+use Rattle.trace_print.specs.declared.show.Show.{Show}
 use Rattle.retos_node.specs.Printing.{Printed, PrintedUpTo, shown_lines, told_lines}
-use Rattle.retos_node.specs.Tails.{AreTold, kept_of}
+use Rattle.trace_print.specs.Shown.{kept_of}
+use Rattle.retos_node.specs.Tails.{AreTold}
 use Rattle.retos_node.proofs.Writing.{printed_then, cut_after, cut_within}
 use Rattle.retos_node.proofs.Course.{lines_more, told_as}
 

@@ -12,7 +12,7 @@ use Rattle.node_model.specs.Systems.{System}
 use Rattle.node_model.specs.Runs.{Run, is_quiet, emits}
 use Rattle.node_model.specs.Sound.{IsSound}
 use Rattle.node_model.specs.Nodes.{Parts, Represents, IsEnd, end_line, reason_text, trace_text, most_steps, IsSoundRun, RunLaw, Ran, RanUpTo}
-use Rattle.retos_node.specs.declared.node.Show.{Show}
+use Rattle.trace_print.specs.declared.show.Show.{Show}
 use Rattle.retos_node.specs.declared.running.Counts.{Counts}
 use Rattle.retos_node.specs.Printing.{Printed, PrintedUpTo, placement_lines, shown_lines, trace_lines}
 use Rattle.retos_node.specs.Underway.{HasReached, HasEnded}

@@ -18,7 +18,7 @@ use Rattle.trace_model.specs.declared.records.Record.{Record}
 use Rattle.trace_model.specs.declared.records.Record.TheVariants as record_of
 use Rattle.trace_model.specs.Texts.{is_always_shown, is_fault, record_text, tail_line}
 use Rattle.node_model.specs.Nodes.{in_order, nobody, placement_line}
-use Rattle.retos_node.specs.declared.node.Show.{Show}
+use Rattle.trace_print.specs.declared.show.Show.{Show}
 use Rattle.retos_node.specs.Printing.{Writes, no_line, next_line, Printed, PrintedUpTo, numbers_below, numbers_of, placement_lines, shown_line, tail_lines, told_lines}
 
 -- ---- what was appended

@@ -10,7 +10,7 @@ use Rattle.edge_io.specs.Known.{SinkState, appended, GotPrefix}
 use Rattle.std.specs.List.{concat}
 use Rattle.edge_io.specs.declared.whole.SinkFault.{SinkFault}
 use Rattle.retos_node.specs.Printing.{Writes, CutWrites, trace_lines}
-use Rattle.retos_node.specs.Tails.{kept_of}
+use Rattle.trace_print.specs.Shown.{kept_of}
 use Rattle.kernel_model.specs.Locks.{LocksHeld}
 use Rattle.node_model.specs.Systems.{System}
 use Rattle.node_model.specs.Runs.{Run, run}

@@ -12,7 +12,7 @@ use Rattle.trace_model.specs.Texts.{is_always_shown, is_fault, last_instrs, reco
 use Rattle.node_model.specs.Systems.{System}
 use Rattle.node_model.specs.Runs.{Run}
 use Rattle.node_model.specs.Nodes.{end_line, in_order, nobody, placement_line}
-use Rattle.retos_node.specs.declared.node.Show.{Show}
+use Rattle.trace_print.specs.declared.show.Show.{Show}
 
 -- ---- which lines
 

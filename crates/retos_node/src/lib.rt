@@ -4,7 +4,7 @@
 //! nodes that stand for the systems of its definitions. `objects` has the list of accepted objects that a node is given; `entries`,
 //! `turns`, `calls`, `locks`, `modules` and `routines` what each entry and each vector routine does, `stepping` the cases of a
 //! step, `untold` the steps of which no line tells, `booting` placing and starting, `running` a run with its lines, and `tails` the
-//! last instructions before a fault. What a script gives for the next step is `script_schedule`'s.
+//! lines of the last instructions before a fault. What a script gives for the next step is `script_schedule`'s.
 #![tactic(auto)]
 
 mod booting;
@@ -26,6 +26,7 @@ mod tails;
 mod turns;
 mod untold;
 
-pub use node::{BootFault, End, Node, Show};
+pub use node::{BootFault, End, Node};
 pub use objects::ObjectList;
 pub use trace_model::scripts::{At, AtKind, Ats, Every, Everys, Script, ScriptFault};
+pub use trace_print::Show;

@@ -9,7 +9,7 @@ ghost use Rattle.trace_model.specs.declared.scripts.Script.{Script as ScriptOf};
 ghost use Rattle.trace_model.specs.declared.records.Record.{Record as RecordOf};
 ghost use Rattle.trace_model.specs.Scripts.{IsScript};
 ghost use Rattle.retos_node.specs.Parts.{parts, IsBootFault, IsRunEnd, GoesByLines, HoldLocks, HoldsLast, RunsTo, RunsUpTo};
-ghost use Rattle.retos_node.specs.Tails.{kept_of, kept_with};
+ghost use Rattle.trace_print.specs.Shown.{kept_of, kept_with};
 
 use crate::booting::{NOBODY, Unplaced, begin, cleared, place_all};
 use crate::lines::of_end;
@@ -18,7 +18,6 @@ use crate::printing::{print_line, print_placement};
 use crate::running::{locks_law, run_law, run_steps};
 use crate::step_laws::step_law;
 use crate::stepping;
-use crate::tails::keep;
 use crate::turns::Moment;
 use edge_io::sink::Sink;
 use edge_io::whole::SinkFault;
@@ -33,16 +32,7 @@ use std::alloc::{AllocError, Global};
 use thiserror::Error;
 use trace_model::records::Record;
 use trace_model::scripts::Script;
-use trace_print::Tail;
-
-/// What a run prints beside the lines that are always printed.
-#[derive(Clone, Copy, PartialEq, Eq, Debug, Drop)]
-pub struct Show {
-    /// A line for each step.
-    pub all: bool,
-    /// The lines of the last eight instructions before a fault's.
-    pub tail: bool,
-}
+use trace_print::{Show, Tail};
 
 /// Why a node isn't booted.
 #[derive(Clone, Copy, PartialEq, Eq, Debug, Drop, Error)]
@@ -156,7 +146,7 @@ impl Node {
         let moment = Moment { step, pick };
         let record = stepping::step(&mut self.mem, &mut self.regs, raised, moment);
         self.steps = step;
-        keep(self.show, &mut self.tail, &record);
+        self.tail.keep_shown(self.show, &record);
         record
     }
 

@@ -3,14 +3,13 @@
 ghost use Rattle.std.specs.Prelude.{◌≡◌, ◌<◌, ◌+◌, ◌==◌, ℕ, List, [], ◌∷◌, ◌++◌, map, length, slice_index_or, if◌then◌else◌, IfErr, OnOk, true};
 ghost use Rattle.edge_io.specs.Causes.{HasCause};
 ghost use Rattle.kernel_model.specs.Layout.{kernel_of};
-ghost use Rattle.trace_model.specs.Texts.{is_always_shown, is_emit, is_fault, record_text};
+ghost use Rattle.trace_model.specs.Texts.{record_text};
 ghost use Rattle.trace_print.specs.Named.{HasLine};
 ghost use Rattle.node_model.specs.Nodes.{nobody, placement_line};
 ghost use Rattle.retos_node.specs.Printing.{Printed, PrintedUpTo, numbers_of, placement_lines, tail_lines, told_lines};
 ghost use Rattle.retos_node.specs.Underway.{AreCounted};
 
 use crate::lines::of_placement;
-use crate::node::Show;
 use crate::running::Counts;
 use crate::tails::print_before;
 use edge_io::sink::Sink;
@@ -18,7 +17,7 @@ use edge_io::whole::{SinkFault, write_all};
 use flat_mem::FlatMem;
 use kernel_model::map::{APPS, MODULES};
 use trace_model::records::Record;
-use trace_print::{Tail, text};
+use trace_print::{Show, Tail, text};
 
 /// Writes a line whole.
 pub(crate) fn print_line<S: Sink>(line: &[u8], out: &mut S) -> Result<(), SinkFault>
@@ -108,7 +107,7 @@ pub(crate) fn tell<S: Sink>(
     ensures prefix { IfErr result (λ fault. PrintedUpTo S.called S.state out.old out.new (told_lines show tail.now rec.now) fault) }
     ensures cause { HasCause (S.state out.old).faults (S.state out.new).faults result }
 {
-    if is_always_shown(rec) {
+    if rec.is_always_shown() {
         counts.count(rec);
         return print_behind_tail(show.tail, tail, rec, out);
     }
@@ -152,16 +151,6 @@ fn print_record<S: Sink>(rec: &Record, out: &mut S) -> Result<(), SinkFault>
     ensures cause { HasCause (S.state out.old).faults (S.state out.new).faults result }
 {
     print_line(text(rec).as_slice(), out)
-}
-
-/// Whether a record has a line without `--all` too.
-fn is_always_shown(rec: &Record) -> bool
-    ensures { result ≡ is_always_shown rec.now }
-{
-    matches!(
-        rec,
-        Record::Emit { .. } | Record::Exit { .. } | Record::Fault { .. }
-    )
 }
 
 impl Counts {

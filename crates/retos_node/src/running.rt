@@ -14,7 +14,7 @@ ghost use Rattle.node_model.specs.Nodes.{most_steps, IsSoundNode, reason_text, I
 ghost use Rattle.retos_node.specs.Parts.{parts, HoldLocks, HoldsLast, IsRunEnd};
 ghost use Rattle.script_schedule.specs.Readiness.{IsReady};
 ghost use Rattle.retos_node.specs.Printing.{Printed, PrintedUpTo, shown_lines, told_lines};
-ghost use Rattle.retos_node.specs.Tails.{kept_of};
+ghost use Rattle.trace_print.specs.Shown.{kept_of};
 ghost use Rattle.retos_node.specs.Underway.{AreWithin, IsNext, HasReached, HasEnded};
 
 use crate::lines::of_end;

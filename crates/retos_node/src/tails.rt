@@ -1,52 +1,15 @@
-//! The last instructions of a run, and their lines before a fault's.
+//! The lines of the last instructions of a run, before a fault's.
 
-ghost use Rattle.std.specs.Prelude.{◌≡◌, ◌≤◌, ◌∷◌, [], ◌++◌, List, ℕ, codes, length, map, IfErr, OnOk};
+ghost use Rattle.std.specs.Prelude.{◌≡◌, ◌≤◌, ◌∷◌, [], ◌++◌, codes, length, map, IfErr, OnOk};
 ghost use Rattle.edge_io.specs.Causes.{HasCause};
-ghost use Rattle.trace_model.specs.declared.records.Record.{Record as RecordOf};
-ghost use Rattle.trace_model.specs.declared.records.Record.TheVariants as told;
-ghost use Rattle.trace_model.specs.Texts.{is_fault, tail_line};
+ghost use Rattle.trace_model.specs.Texts.{tail_line};
 ghost use Rattle.retos_node.specs.Printing.{Printed, PrintedUpTo, tail_lines};
-ghost use Rattle.retos_node.specs.Tails.{kept_of, kept_with};
 
-use crate::node::Show;
 use crate::printing::print_line;
 use edge_io::sink::Sink;
 use edge_io::whole::SinkFault;
-use line_text::line::Line;
-use machine_model::writes::Writes;
-use trace_model::records::{Record, Who};
-use trace_print::Tail;
-
-/// Keeps a record, where the last instructions are shown and it is an instruction's.
-#[inline(always)]
-pub(crate) fn keep(show: Show, tail: &mut Tail, rec: &Record)
-    ensures kept { tail.new ≡ kept_with show tail.old rec.now }
-    ensures holds { (made : List RecordOf) → tail.old ≡ kept_of show made → tail.new ≡ kept_of show (made ++ rec.now ∷ []) }
-{
-    if show.tail {
-        tail.push(rec);
-    }
-}
-
-/// Keeps an instruction's record, of these parts, where the last instructions are shown. Only there it is made.
-#[inline(always)]
-pub(crate) fn keep_instr(
-    show: Show,
-    tail: &mut Tail,
-    step: u32,
-    who: Who,
-    pc: u16,
-    word: u16,
-    writes: Writes,
-)
-    ensures kept { tail.new ≡ kept_with show tail.old (told.Instr step who pc word writes) }
-    ensures holds { (made : List RecordOf) → tail.old ≡ kept_of show made → tail.new ≡ kept_of show (made ++ told.Instr step who pc word writes ∷ []) }
-{
-    if !show.tail {
-        return;
-    }
-    tail.keep(step, who, pc, word, writes);
-}
+use trace_model::records::Record;
+use trace_print::{Tail, barred};
 
 /// Prints the lines of the last instructions, if they are shown and a fault's line is next.
 pub(crate) fn print_before<S: Sink>(
@@ -62,17 +25,10 @@ pub(crate) fn print_before<S: Sink>(
     if !shown {
         return Ok(());
     }
-    if is_fault(rec) {
+    if rec.is_fault() {
         return print_tail(tail, out);
     }
     Ok(())
-}
-
-/// Whether a record is a fault's.
-fn is_fault(rec: &Record) -> bool
-    ensures { result ≡ is_fault rec.now }
-{
-    matches!(rec, Record::Fault { .. })
 }
 
 /// Prints the lines of the last instructions, the oldest first.
@@ -99,8 +55,5 @@ fn print_barred<S: Sink>(line: &[u8], out: &mut S) -> Result<(), SinkFault>
     ensures prefix { IfErr result (λ fault. PrintedUpTo S.called S.state out.old out.new ((codes "| " ++ line.now) ∷ []) fault) }
     ensures cause { HasCause (S.state out.old).faults (S.state out.new).faults result }
 {
-    let mut barred = Line::new();
-    barred.push_text(b"| ");
-    barred.push_text(line);
-    print_line(barred.as_slice(), out)
+    print_line(barred(line).as_slice(), out)
 }

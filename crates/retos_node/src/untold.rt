@@ -10,14 +10,13 @@ ghost use Rattle.trace_model.specs.declared.records.Record.{Record as RecordOf};
 ghost use Rattle.trace_model.specs.declared.records.Record.TheVariants as told;
 ghost use Rattle.retos_node.specs.Cases.{Gives};
 ghost use Rattle.retos_node.specs.Parts.{parts};
-ghost use Rattle.retos_node.specs.Tails.{kept_of};
+ghost use Rattle.trace_print.specs.Shown.{kept_of};
 ghost use Rattle.retos_node.specs.Untold.{IdlesUntold, IsPlain, IsUntold, plain_record};
 
-use crate::node::{Node, Show};
+use crate::node::Node;
 use crate::objects::ObjectList;
 use crate::step_laws::{instruction_law, step_law};
 use crate::stepping::{FIRST_ENTRY, IDLE, line_to_accept, word};
-use crate::tails::{keep, keep_instr};
 use crate::turns::{Moment, module_runs, who_runs};
 use flat_mem::FlatMem;
 use msp_encode::instr::Instr;
@@ -29,7 +28,7 @@ use node_laws::code::{memory_is_shown, raised_is_shown, turn_stands};
 use node_laws::holding::nodes_are_sound;
 use node_model::laws::fetched_where_spelled;
 use trace_model::records::Record;
-use trace_print::Tail;
+use trace_print::{Show, Tail};
 
 /// The instruction that the next step runs, with its words, where it is an application's: no interrupt is accepted, PC is at no
 /// address of the kernel, and no module runs.
@@ -69,7 +68,7 @@ fn run_plain(
     let pc = r.get(PC);
     let word = word(m, pc);
     let writes = exec(m, r, instr, words);
-    keep_instr(show, tail, moment.step, who, pc, word, writes);
+    tail.keep_shown_instr(show, moment.step, who, pc, word, writes);
 }
 
 /// What the idle machine's turn gives.
@@ -172,6 +171,6 @@ impl Node {
         let step = self.steps + 1;
         idle_stands(&self.mem, &self.regs, Moment { step, pick });
         self.steps = step;
-        keep(self.show, &mut self.tail, &Record::IdleTurn { step });
+        self.tail.keep_shown(self.show, &Record::IdleTurn { step });
     }
 }

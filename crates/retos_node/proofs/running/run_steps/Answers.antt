@@ -4,7 +4,8 @@ use Rattle.retos_node.specs.declared.running.Counts.{Counts}
 use Rattle.retos_node.specs.Parts.{parts}
 use Rattle.script_schedule.specs.Readiness.{IsReady}
 use Rattle.retos_node.specs.Printing.{Printed, shown_lines}
-use Rattle.retos_node.specs.Tails.{AreTold, kept_of}
+use Rattle.trace_print.specs.Shown.{kept_of}
+use Rattle.retos_node.specs.Tails.{AreTold}
 use Rattle.retos_node.proofs.Writing.{printed_none}
 use Rattle.retos_node.proofs.Keeping.{told_more, told_cut, holds_more}
 use Rattle.retos_node.proofs.Course.{course_start, course_more, reached, over_quiet, over_limit, ended, told_all, kept_so_far, lines_within, none_kept, no_lines}

@@ -4,7 +4,7 @@ use Rattle.node_model.specs.Nodes.{system_of}
 use Rattle.node_model.specs.Runs.{next}
 use Rattle.retos_node.specs.Parts.{parts}
 use Rattle.retos_node.specs.Printing.{Printed, PrintedUpTo, told_lines}
-use Rattle.retos_node.specs.Tails.{kept_of}
+use Rattle.trace_print.specs.Shown.{kept_of}
 use Rattle.retos_node.proofs.Course.{stepped_next, told_has_line, told_behind, next_counted, uncounted, idle_uncounted, within_more}
 use Rattle.retos_node.proofs.Writing.{printed_none, unshown}
 use Rattle.retos_node.proofs.running.turn.Goals as goal

@@ -11,7 +11,7 @@ use Rattle.retos_node.proofs.node.Node.idle_untold.Goals as goal
 pub returns-clause-step : goal.returns-clause-step
 returns-clause-step c s r h =
     untold_stepped c.step_law.ensures c.memory_is_shown.ensures.shown c.raised_is_shown.ensures.none (parts c.args.self.now)
-    (parts (record c.args.self.now { steps = c.args.self.now.steps + 1; tail = c.keep.new.tail })) c.args.objects.now s c.args.raised c.args.pick
+    (parts (record c.args.self.now { steps = c.args.self.now.steps + 1; tail = c.keep_shown.new.self })) c.args.objects.now s c.args.raised c.args.pick
     (told.IdleTurn (c.args.self.now.steps + 1)) r h c.requires.few refl refl c.requires.idles.none c.idle_stands.ensures
 
 pub returns-clause-sound : goal.returns-clause-sound
