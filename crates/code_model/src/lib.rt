@@ -1,5 +1,5 @@
-//! Objects as data, and what the checker decides, as definitions: the starts of an object's code, the four guards, interior places, unit starts,
-//! the fourteen rules, the verdict as a least over all places, and which instructions are dangerous.
+//! Objects as data, and what the checker decides, as definitions: the starts of an object's code, the four guards, interior places,
+//! unit starts, the fourteen rules, the verdict as a least over all places, and which instructions are dangerous.
 //!
 //! An `Object` always meets the form of `specs/Form.antt`; `lists` are its lists, `parts` their members, and `marks` is a set of
 //! its code words; `forms` asks which forms operands have; `laws` says when two objects or two sets are equal. `object_form` has

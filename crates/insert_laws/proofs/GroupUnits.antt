@@ -279,7 +279,8 @@ unit_is o g c = by c.is
 
 -- ---- a fact of pieces
 
--- what holds of the units of lines and of jumps, of wide guards and of the stores behind them, and of lists that are put together, holds of all pieces
+-- what holds of the units of lines and of jumps, of wide guards and of the stores behind them, and of lists that are put together,
+-- holds of all pieces
 module _ (o : Object) (P : List Piece → Type 0) (none : P []) (join : (xs ys : List Piece) → P xs → P ys → P (xs ++ ys)) where
   pub pieces_by : ((g : Group) → IsCleanGroup o g → P (unit_of_group (fields o) g)) → (gs : List Group) → AllGroups o gs → P (pieces_of (fields o) gs)
   unfolding pieces_of

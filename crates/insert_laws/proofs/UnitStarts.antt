@@ -279,7 +279,8 @@ module _ (one : OneInstruction) (decides : FirstWordDecides) (F : Piece → Type
     not_served at p guard.Pop gs is quiet st j less = omega (arith, less, served_alone q at guard.Pop j refl)
     not_served at p guard.Sp gs is quiet st j less = omega (arith, less, served_alone q at guard.Sp j refl)
 
-    -- a guard that begins in front of a place, where shaped pieces end, serves nothing there or behind, if what stands there doesn't write memory
+    -- a guard that begins in front of a place, where shaped pieces end, serves nothing there or behind, if what stands there
+    -- doesn't write memory
     over_found : (a : List Piece) (p : Piece) (b x : List Piece) → pieces (fields o) ≡ a ++ p ∷ b → (WritesMemory p.instr → ⊥) → Found q.version a x → (guarded : ℕ) (g : GuardKind) (h : Guarded q guarded g) → h.first ≡ span x
         → span a ≤ guarded → ⊥
     over_found a p b x e quiet f guarded g h place late =

@@ -1,4 +1,5 @@
--- Laws of the source's lines and groups: each line is clean, and each group's unit has its words in the code of the object with guards.
+-- Laws of the source's lines and groups: each line is clean, and each group's unit has its words in the code of the object with
+-- guards.
 use Rattle.std.specs.Prelude.{◌≡◌, ℕ, ◌+◌, ◌*◌, ◌%◌, ◌≤◌, ◌⊎◌, List, ◌++◌, length, map}
 use Rattle.std.specs.List.{All, Contains}
 use Rattle.code_model.specs.declared.object.Object.{Object}

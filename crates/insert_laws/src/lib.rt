@@ -94,8 +94,8 @@ pub fn end_rule_passes()
     line_stands();
 }
 
-/// The rule on jumps refuses no object with guards: outside guards, jumps stand in the units of jumps alone. One that is its unit goes
-/// to the unit of what the source's jump went to.
+/// The rule on jumps refuses no object with guards: outside guards, jumps stand in the units of jumps alone. One that is its unit
+/// goes to the unit of what the source's jump went to.
 pub fn jump_rule_passes()
     ensures { JumpRulePasses }
 {
@@ -131,8 +131,8 @@ pub fn verdict_accepts()
     nothing_refused();
 }
 
-/// The definition accepts each object with guards: nothing is refused, and whether a unit starts at a place is known, so there are unit
-/// starts with which it is accepted.
+/// The definition accepts each object with guards: nothing is refused, and whether a unit starts at a place is known, so there are
+/// unit starts with which it is accepted.
 pub fn inserted_is_accepted()
     ensures { InsertedIsAccepted }
 {
@@ -194,8 +194,8 @@ pub fn code_is_pieces()
     ensures { CodeIsPieces }
 {}
 
-/// The words of each group's unit lie one behind another in the code: the place map sends the offset of its first line to the first of
-/// them, and the offset behind its last line to what is behind the last. It sends no offset between them.
+/// The words of each group's unit lie one behind another in the code: the place map sends the offset of its first line to the first
+/// of them, and the offset behind its last line to what is behind the last. It sends no offset between them.
 pub fn groups_have_units()
     ensures { GroupsHaveUnits }
 {
@@ -213,8 +213,8 @@ pub fn places_within()
     sizes_alike();
 }
 
-/// Each group of several source instructions stores behind one base register. Its unit is a guard that reaches from the cell of the first
-/// to the farthest, and then the stores.
+/// Each group of several source instructions stores behind one base register. Its unit is a guard that reaches from the cell of the
+/// first to the farthest, and then the stores.
 pub fn groups_store()
     ensures { GroupsStore }
 {

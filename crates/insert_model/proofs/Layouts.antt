@@ -1,4 +1,5 @@
--- Layouts: the units of the final one have the sizes that tell where they stand, and no distance in it is greater than in the longest.
+-- Layouts: the units of the final one have the sizes that tell where they stand, and no distance in it is greater than in the
+-- longest.
 use Rattle.std.proofs.Common.{◌≡◌, ℕ, ◌+◌, ◌-◌, ◌*◌, ◌/◌, ◌≤◌, ◌<◌, nat_le, nat_lt, if◌then◌else◌, Bool, true, false, cond, List, [], ◌∷◌, inl, inr, length, ℤ, pos, negsuc, Option, None, Some, refl, sym, subst, ◌∙◌, arith, length-append}
 use Rattle.std.proofs.lemmas.Bool.{and_parts, cases_lt, ltb-true, leb-true, lt-ltb}
 use Rattle.std.proofs.lemmas.Int.{ints}

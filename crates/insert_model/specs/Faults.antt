@@ -243,7 +243,8 @@ LineHas TooLarge o l = ⊥
 unfoldable pub LinesHave : Object → List Line → InsertKind → ℕ → Type 0
 LinesHave o ls k x = Any (λ (l : Line). (x ≡ 2 * l.at) × LineHas k o l) ls
 
--- a relocation of static data adds the code's address to a word that isn't a start's offset. Its offset is counted on from the code's end
+-- a relocation of static data adds the code's address to a word that isn't a start's offset. Its offset is counted on from the
+-- code's end
 abbrev pub DatumMisses : Object → Reloc → ℕ → Type 0
 DatumMisses o r x = (r.in_code ≡ false) × (r.kind ≡ Code) × (IsStartOffset o.code (word_in o.init r.offset) → ⊥) × (x ≡ 2 * length o.code + r.offset)
 
@@ -278,7 +279,8 @@ pub record IsFirst (o : Object) (k : InsertKind) (x : ℕ) : Type 0 where
 unfoldable pub most_words : ℕ
 most_words = CODE_WORDS_MAX
 
--- the units of the groups before this one fit, and its own passes the most words. The offset is that of the group's first instruction
+-- the units of the groups before this one fit, and its own passes the most words. The offset is that of the group's first
+-- instruction
 pub record Passes (o : Object) (x : ℕ) : Type 0 where
   pub before : List Group
   pub group : Group

@@ -57,8 +57,8 @@ moved_export map e = record { number = e.number; offset = map e.offset }
 
 -- ---- the object
 
--- The fields with guards: each group of instructions has its unit, and each jump target, each word to which the code's address is added,
--- the entry and the exports name the units of what they named
+-- The fields with guards: each group of instructions has its unit, and each jump target, each word to which the code's address is
+-- added, the entry and the exports name the units of what they named
 unfoldable pub with_guards : Fields → Fields
 with_guards f =
     let ws = final_units f in

@@ -1,4 +1,5 @@
--- Where the units stand: the layout in which each jump has its longest unit tells which jumps are one word, and these make the final layout.
+-- Where the units stand: the layout in which each jump has its longest unit tells which jumps are one word, and these make the
+-- final layout.
 use Rattle.std.specs.Prelude.{ℕ, ◌+◌, ◌-◌, ◌*◌, ◌/◌, ◌==◌, ◌&&◌, Bool, false, nat_le, nat_lt, if◌then◌else◌, List, [], ◌∷◌, ◌++◌, length, map, ℤ, pos, negsuc, Option, None, Some}
 use Rattle.std.specs.List.{flat_map, filter}
 use Rattle.msp_encode.specs.declared.registers.TheConstants.{CHECKED}

@@ -28,8 +28,8 @@ pub fn sizes_alike()
     ensures { SizedLaw }
 {}
 
-/// The offset that a short jump has in the final layout can be spelled: no distance is greater there than in the layout that told that the
-/// jump is short.
+/// The offset that a short jump has in the final layout can be spelled: no distance is greater there than in the layout that told
+/// that the jump is short.
 pub fn short_jumps_fit()
     ensures { ShortLaw }
 {}

@@ -27,8 +27,8 @@ pub record IsLeastTaken (k : Kernel) (o : Object) (f : ℕ) : Type 0 where
   pub taken : IsTaken k f
   pub least : (e : Export) → Contains o.exports e → IsTaken k e.number → f ≤ e.number
 
--- the first of the causes that stands: no module's row is free, a function is taken, no gap is as long as the code, or none is as long
--- as the region
+-- the first of the causes that stands: no module's row is free, a function is taken, no gap is as long as the code, or none is as
+-- long as the region
 abbrev pub IsModuleRefusal : Kernel → Object → NoRoom → Type 0
 IsModuleRefusal k o Slots = IsRefusal k Module (code_length o) (region_length o) Slots
 IsModuleRefusal k o (Taken f) = HasNumber k Module × IsLeastTaken k o f

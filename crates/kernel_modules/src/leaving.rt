@@ -25,8 +25,8 @@ const MODULE_ENDED: u16 = 6;
 /// How far the limit is above the stack's lowest address.
 const LIMIT_MARGIN: u16 = 6;
 
-/// The running module leaves: its caller has R12 = 0 and R13 = the module's R12 among its saved registers, and runs again. No module
-/// runs then. Memory is settled before and after.
+/// The running module leaves: its caller has R12 = 0 and R13 = the module's R12 among its saved registers, and runs again. No
+/// module runs then. Memory is settled before and after.
 pub fn leave(m: &mut FlatMem, r: &Regs)
     requires settled { IsSettled m.old }
     requires module_runs { running_module (kernel_of m.old) ≢ none }

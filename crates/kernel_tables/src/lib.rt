@@ -2,8 +2,9 @@
 //!
 //! It stands on `flat_mem` and on the definitions of `kernel_model`. No other crate names an address or a byte of the tables.
 //! Contracts above speak of `kernel_of m`, the kernel that a memory has. A getter gives its part of that kernel on any memory. A
-//! setter ensures `Leaves old new kernel`: the new memory has the old one's kernel with exactly that part replaced, the bytes outside
-//! the tables are as before, and where the tables were laid out, or the two lists in order, they still are. No call takes memory.
+//! setter ensures `Leaves old new kernel`: the new memory has the old one's kernel with exactly that part replaced, the bytes
+//! outside the tables are as before, and where the tables were laid out, or the two lists in order, they still are. No call takes
+//! memory.
 //!
 //! `clear` begins a memory. `ready` and `sleepers` and the calls that change them stand on `queues_hold`, which tells whether a
 //! memory's two lists are laid out and in order; an orderly kernel's are (`laws`). Each priority's ready threads, and the sleepers,

@@ -15,9 +15,9 @@ use crate::threads::{priority, wake_time};
 use arrayvec::ArrayVec;
 use flat_mem::FlatMem;
 
-/// Whether the ready list and the sleepers are laid out and in order: their members are below 32, no thread stands twice in the two,
-/// each ready thread stands in the queue of its priority, which is at most 7, sleepers stand by the tick that they wait for, and the
-/// queues' ends and each thread's links are those of the two lists.
+/// Whether the ready list and the sleepers are laid out and in order: their members are below 32, no thread stands twice in the
+/// two, each ready thread stands in the queue of its priority, which is at most 7, sleepers stand by the tick that they wait for,
+/// and the queues' ends and each thread's links are those of the two lists.
 pub fn queues_hold(m: &FlatMem) -> bool
     ensures { IsTrue result ↔ QueuesHold m.now }
 {

@@ -54,8 +54,8 @@ pub fn ready_front(m: &mut FlatMem, t: u8)
     link(m, q, t, 0, first);
 }
 
-/// Puts thread t, which is in neither list, directly before the first ready thread of a lower priority, or last where there is none.
-/// Its priority is at most 7.
+/// Puts thread t, which is in neither list, directly before the first ready thread of a lower priority, or last where there is
+/// none. Its priority is at most 7.
 pub fn ready_end(m: &mut FlatMem, t: u8)
     requires number { t < 32 }
     requires queues { QueuesHold m.old }

@@ -36,8 +36,8 @@ const EMPTY_ROW: ThreadRow = ThreadRow {
     mutex: 0,
 };
 
-/// Ends the running thread, which owns no mutex, and tells whether it was the last live one of its application, which then ends too,
-/// as done. Nothing runs. Memory is settled before and after.
+/// Ends the running thread, which owns no mutex, and tells whether it was the last live one of its application, which then ends
+/// too, as done. Nothing runs. Memory is settled before and after.
 pub fn exit(m: &mut FlatMem) -> bool
     requires settled { IsSettled m.old }
     requires runs { ThreadRuns (kernel_of m.old) }

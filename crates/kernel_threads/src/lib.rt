@@ -1,9 +1,9 @@
 //! The kernel's calls on threads: they begin, run, wait their turn and end, and applications with them.
 //!
-//! It stands on the rows and lists of `kernel_tables`, on the marks of `region_table`, on the registers of `msp_machine`, and on the
-//! definitions of `kernel_model`, of which each call does one: contracts say `Leaves old new (rule ..)`, so the kernel is the rule's,
-//! and the bytes outside the tables are as before. Each call stands on settled memory and leaves it settled (`thread_laws`). A rule's
-//! steps are the code's, in their order. No call takes memory.
+//! It stands on the rows and lists of `kernel_tables`, on the marks of `region_table`, on the registers of `msp_machine`, and on
+//! the definitions of `kernel_model`, of which each call does one: contracts say `Leaves old new (rule ..)`, so the kernel is the
+//! rule's, and the bytes outside the tables are as before. Each call stands on settled memory and leaves it settled
+//! (`thread_laws`). A rule's steps are the code's, in their order. No call takes memory.
 //!
 //! `specs/Contexts.antt` says what registers take of sixteen words, `specs/Returns.antt` where the running domain may go on, and
 //! `specs/Entries.antt` what the entries answer. By `laws`, a dispatch gives exactly the saved registers where they are a context.

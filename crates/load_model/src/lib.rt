@@ -1,9 +1,9 @@
 //! A placed object, as definitions: the bytes of its relocated code and of its region, its places, and its rows.
 //!
 //! `specs/Domains.antt` has a placed object and what each kind of relocation adds, `specs/Images.antt` the bytes of its code and of
-//! its region, and `specs/Standing.antt` what a memory with these bytes has. `specs/Loading.antt` says where an object is placed, and
-//! which kernel and which memory have it then. The laws are functions that do nothing.
-//! It stands on objects as data (`code_model`), on places (`place_model`), on the kernel (`kernel_model`) and on the bytes of `flat_mem`.
+//! its region, and `specs/Standing.antt` what a memory with these bytes has. `specs/Loading.antt` says where an object is placed,
+//! and which kernel and which memory have it then. The laws are functions that do nothing. It stands on objects as data
+//! (`code_model`), on places (`place_model`), on the kernel (`kernel_model`) and on the bytes of `flat_mem`.
 #![tactic(auto)]
 
 ghost use Rattle.std.specs.Prelude.{◌≡◌, ℕ, ◌-◌, ◌/◌, ◌%◌, ◌<◌, ◌≤◌, length, false, slice_index};

@@ -30,7 +30,8 @@ IsCalm _ = Unit {0}
 abbrev pub IsMask : ℕ → Type 0
 IsMask c = (c / 512 ≡ 0) × (c / 8 % 32 ≡ 0)
 
--- an instruction that isn't dangerous, by what it writes: nothing, a register other than PC, SP and SR, an absolute word in [lo, hi), or flags
+-- an instruction that isn't dangerous, by what it writes: nothing, a register other than PC, SP and SR, an absolute word in [lo,
+-- hi), or flags
 pub data Plain (lo hi : ℕ) : Instr → Type 0 where
   Tests : (op : Op2) (w : Width) (s : Src) (d : Dst) → writes op ≡ false → IsCalm s → Plain lo hi (instr.Two op w s d)
   ToReg : (op : Op2) (w : Width) (s : Src) (n : ℕ) → writes op ≡ true → IsCalm s → 3 ≤ n → n < 16 → Plain lo hi (instr.Two op w s (dst.Reg n))

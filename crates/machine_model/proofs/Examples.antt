@@ -12,8 +12,8 @@ with_three pc sp sr = pc ∷ sp ∷ sr ∷ 0 ∷ 4 ∷ 5 ∷ 6 ∷ 7 ∷ 8 ∷ 9
 pairs : (at value : ℕ) → (at value : ℕ) → (at value : ℕ) → (at value : ℕ) → List (ℕ × ℕ)
 pairs a x b y c z d w = (a, x) ∷ (b, y) ∷ (c, z) ∷ (d, w) ∷ []
 
--- a line is accepted with the first context, and this word at its vector, and leaves the second context and these pairs; all else of
--- memory is free
+-- a line is accepted with the first context, and this word at its vector, and leaves the second context and these pairs; all else
+-- of memory is free
 Leaves : (line vector : ℕ) (before after : List ℕ) → List (ℕ × ℕ) → Type 0
 Leaves n v before after written = (m : List ℕ) → word_at m (vector_address n) ≡ v → accepted n m before ≡ record { context = after; written = written }
 

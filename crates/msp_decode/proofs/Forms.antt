@@ -43,7 +43,8 @@ same-op1 a b code e f =
     let by_b : chosen op1s code ≡ Some b = chosen-op1 b code f in
     cc
 
--- the fields tell the operation, and its operand but for its word: so none begins with a word whose operation doesn't take its operand
+-- the fields tell the operation, and its operand but for its word: so none begins with a word whose operation doesn't take its
+-- operand
 pub no_operand : (a : Op1) (s : Src) (w : ℕ) → w / 128 % 8 ≡ op1_code a → SrcRow s (w % 16) (w / 16 % 4) → (Takes a s → ⊥) → (op : Op1) (width : Width) (src : Src) → OneFields op width src w → ⊥
 no_operand a s w code row none op width src f =
     let same_op = same-op1 op a (w / 128 % 8) f.op_code code in

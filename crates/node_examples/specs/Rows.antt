@@ -29,8 +29,8 @@ StoresOutside = (f0 : storing_form) → printed false true 100 no_script (storin
     ++ line (codes "10 a0.t0 fault store 2010")
     ++ line (codes "end quiet 10 emits 0 faults 1")
 
--- two computed jumps into guards: before the second fault stand the instructions of both applications, since a fault empties no tail,
--- and fewer than eight, since no more were made
+-- two computed jumps into guards: before the second fault stand the instructions of both applications, since a fault empties no
+-- tail, and fewer than eight, since no more were made
 abbrev pub KeepsTheTail : Type 0
 KeepsTheTail = (f0 : jumping_into_guard_form) (f1 : jumping_into_guard_form) → printed false true 100 no_script (jumping_into_guard f0 ∷ jumping_into_guard f1 ∷ []) ≡
     line (codes "a0 6000 601A 2000 2010")
@@ -147,7 +147,8 @@ EntersAndLeaves = (f0 : adding_form) (f1 : calling_form) → steps_printed 7 12 
     ++ line (codes "11 m0 entry leave")
     ++ line (codes "12 a0.t0 6020 4D0C")
 
--- a module that never returns: behind step 4103 it has run 4,095 instructions of its 4,096. It ends, and the caller goes on with its R13
+-- a module that never returns: behind step 4103 it has run 4,095 instructions of its 4,096. It ends, and the caller goes on with
+-- its R13
 abbrev pub SpendsItsBudget : Type 0
 SpendsItsBudget = (f0 : looping_module_form) (f1 : calling_form) → printed_later 9 4103 4095 (looping_module f0 ∷ calling f1 ∷ []) ≡
     line (codes "4105 m0 fault budget 6000")

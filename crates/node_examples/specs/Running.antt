@@ -48,7 +48,8 @@ steps_printed first last t os = steps_of first last t (booted os)
 
 -- ---- a module that has almost spent its budget
 
--- after so many steps the running module has run so many instructions in this call. Its context is the same at each turn of its loop
+-- after so many steps the running module has run so many instructions in this call. Its context is the same at each turn of its
+-- loop
 abbrev pub spent : (steps count : ℕ) → System → System
 spent n count s = record s { kernel = with_word s.kernel Budget count; steps = n }
 

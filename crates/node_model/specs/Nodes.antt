@@ -90,8 +90,8 @@ IsBootRefusal (Err e) i why = (e.object ≡ i) × (e.cause ≡ why)
 
 -- ---- step
 
--- the node stands for the system behind the step, whose record is told. It is confined by the system whose lines were raised, since an
--- instruction may read the mask of pending lines
+-- the node stands for the system behind the step, whose record is told. It is confined by the system whose lines were raised, since
+-- an instruction may read the mask of pending lines
 pub record Stepped (new : Parts) (os : List Loadable) (s : System) (raised : ℕ) (pick : Option ℕ) (told : Record) : Type 0 where
   pub represents : Represents new os (step s raised pick).system
   pub shown : told ≡ (step s raised pick).shown

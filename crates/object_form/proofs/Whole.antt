@@ -1,4 +1,5 @@
--- A text has no fault exactly where its head, its sections, each relocation, each export and its end are right; and then its fields meet the form.
+-- A text has no fault exactly where its head, its sections, each relocation, each export and its end are right; and then its fields
+-- meet the form.
 use Rattle.std.proofs.Common.{◌≡◌, ℕ, zero, suc, ◌+◌, ◌*◌, ◌<◌, ◌≤◌, Bool, true, false, cond, List, ◌++◌, length, get_or, Option, Some, None, refl, ap, sym, subst, ◌∙◌, arith, inl, inr}
 use Rattle.std.specs.Prelude.{nat_le}
 use Rattle.std.proofs.lemmas.Bool.{leb-true, le-leb, cases_lt}

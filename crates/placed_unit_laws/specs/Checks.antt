@@ -69,8 +69,8 @@ check_of_instr size p (instr.Jump c k) = Unchecked
 unfoldable pub check_of : Object → Line → Check
 check_of o l = check_of_instr (static_bytes (fields o)) (own l) l.instr
 
--- Where it fails, beside the stack [low, top): the address is outside of the region, SP is below low + 6 or is top, or the new SP is outside of
--- [low + 6, top]
+-- Where it fails, beside the stack [low, top): the address is outside of the region, SP is below low + 6 or is top, or the new SP
+-- is outside of [low + 6, top]
 abbrev pub Fails : Object → Domain → (low top : ℕ) → (m r : List ℕ) → Check → Type 0
 Fails o d low top m r Unchecked = ⊥
 Fails o d low top m r (OfStore n x k) = IsOut d.lo d.hi (sum_of (word_in_place o d x k) (reg r n))

@@ -38,8 +38,8 @@ use Rattle.placed_unit_laws.specs.Checks.{check_of, Fails, entry_of, before_chec
 use Rattle.kernel_model.specs.declared.entries.TheConstants.{STORE_FAULT}
 use Rattle.kernel_model.specs.declared.map.TheConstants.{CODE_POOL_END, STACK_LIMIT, STACK_TOP}
 
--- A domain's object, made from o, was placed, its code's bytes are in memory with the two limit words of a stack [low, top), and PC is at
--- the unit of a group of source instructions. Each context that is good for the domain is a context.
+-- A domain's object, made from o, was placed, its code's bytes are in memory with the two limit words of a stack [low, top), and PC
+-- is at the unit of a group of source instructions. Each context that is good for the domain is a context.
 pub record IsAtUnit (o : Object) (d : Domain) (low top : ℕ) (m r : List ℕ) (g : Group) : Type 0 where
   pub group : Contains (groups (fields o)) g
   pub placed : IsWellPlaced d
@@ -88,12 +88,14 @@ pub record EndsWell (o : Object) (d : Domain) (m r : List ℕ) (l : Line) : Type
   pub follows : Follows m r (unit_at o d l) (unit_behind o d l) (source_does o d m r l)
   pub lands : Lands o d l (reg (source_does o d m r l).context PC)
 
--- by the entry that takes over, if one does: R4 has the target's value, and all but R4, R5 and PC is as the source instruction leaves it
+-- by the entry that takes over, if one does: R4 has the target's value, and all but R4, R5 and PC is as the source instruction
+-- leaves it
 abbrev pub EndsBy : Object → Domain → (m r : List ℕ) → Line → Option (ℕ × Src) → Type 0
 EndsBy o d m r l None = EndsWell o d m r l
 EndsBy o d m r l (Some h) = Hands m r (unit_at o d l) (unit_behind o d l) (source_does o d m r l) h.0 (source_value Wide (placed_src o d (own l).source h.1) 0 m r)
 
--- the check fails and the unit ends at its entry with nothing written, and all but PC, R4, R5 and the four flags as before the check, or it doesn't fail
+-- the check fails and the unit ends at its entry with nothing written, and all but PC, R4, R5 and the four flags as before the
+-- check, or it doesn't fail
 pub data UnitEnds (o : Object) (d : Domain) (low top : ℕ) (m r : List ℕ) (l : Line) : Type 0 where
   Halted : Fails o d low top m r (check_of o l) → Halts m r (unit_at o d l) (unit_behind o d l) (entry_of (check_of o l)) (before_check o d r l (check_of o l) l.instr) → UnitEnds o d low top m r l
   Done : (Fails o d low top m r (check_of o l) → ⊥) → EndsBy o d m r l (handed l.instr) → UnitEnds o d low top m r l
@@ -113,7 +115,8 @@ pub record Works (o : Object) (d : Domain) (m r : List ℕ) (g : Group) : Type 0
   pub runs : WorksUnit m r (unit_at o d g.head) (group_behind o d g) (source_after o d m r (members g)).0 (spread (source_after o d m r (members g)).1 x y)
   pub lands : reg (source_after o d m r (members g)).1 PC ≡ group_behind o d g
 
--- Where an address that its guard tests is outside of the region, the unit of a group of stores ends at the store fault with nothing written; else it does them all
+-- Where an address that its guard tests is outside of the region, the unit of a group of stores ends at the store fault with
+-- nothing written; else it does them all
 pub data GroupEnds (o : Object) (d : Domain) (low top : ℕ) (m r : List ℕ) (g : Group) : Type 0 where
   Stopped : AnyFails o d low top m r g → Halts m r (unit_at o d g.head) (group_behind o d g) STORE_FAULT r → GroupEnds o d low top m r g
   Worked : (AnyFails o d low top m r g → ⊥) → Works o d m r g → GroupEnds o d low top m r g

@@ -74,8 +74,9 @@ placed o d p = placed_instr o d p.source p.destination p.instr
 
 -- ---- what a source instruction does
 
--- A jump leads to the unit of its target, the offset that the machine takes from the jump's own, or to the next unit. Any other instruction does what it does with its words in place, where it
--- stands just before the next unit: there it goes on, and that address a call pushes.
+-- A jump leads to the unit of its target, the offset that the machine takes from the jump's own, or to the next unit. Any other
+-- instruction does what it does with its words in place, where it stands just before the next unit: there it goes on, and that
+-- address a call pushes.
 abbrev pub instr_does : Object → Domain → (m r : List ℕ) → Line → Instr → Effect
 instr_does o d m r l (instr.Two op w s t) = ended (unit_behind o d l) m r (placed o d (own l)) (count l.instr)
 instr_does o d m r l (instr.One op w s) = ended (unit_behind o d l) m r (placed o d (own l)) (count l.instr)

@@ -1,8 +1,8 @@
 //! The unit law: an object with guards does what its source does, unit by unit, but for R4, R5 and failed checks.
 //!
 //! `specs/Placed.antt` says where the unit of a source instruction stands in memory and what the instruction does there,
-//! `specs/Checks.antt` which check its unit makes, and `specs/Ends.antt` where running the unit ends. The laws are functions that do
-//! nothing. They stand on the rows of the unit table over numbers (`unit_laws`), on the inserter's definitions (`insert_model`)
+//! `specs/Checks.antt` which check its unit makes, and `specs/Ends.antt` where running the unit ends. The laws are functions that
+//! do nothing. They stand on the rows of the unit table over numbers (`unit_laws`), on the inserter's definitions (`insert_model`)
 //! and laws (`insert_laws`), and on the images of placed objects (`load_model`).
 #![tactic(auto)]
 
@@ -72,9 +72,9 @@ pub fn unit_ends()
     unit_stands();
 }
 
-/// Running the unit of a group of stores ends at the store fault, with nothing written, exactly where an address that its guard tests is
-/// outside of the region. Elsewhere it does what the source instructions do, one after another, but for R4 and R5, and leads to the next
-/// unit.
+/// Running the unit of a group of stores ends at the store fault, with nothing written, exactly where an address that its guard
+/// tests is outside of the region. Elsewhere it does what the source instructions do, one after another, but for R4 and R5, and
+/// leads to the next unit.
 pub fn group_ends()
     ensures { GroupEndsLaw }
 {

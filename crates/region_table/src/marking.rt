@@ -17,7 +17,8 @@ use kernel_model::map::{BITMAP, CODE_POOL, CODE_POOL_END};
 use place_model::places::Regions;
 
 /// Makes the bits of the region's code exactly the marks: the word `n` bytes behind the code's start has its bit exactly where the
-/// marks have the offset `n`. The code has even ends, lies in the code pool and has at most 16,384 bytes. Other bits and bytes stay.
+/// marks have the offset `n`. The code has even ends, lies in the code pool and has at most 16,384 bytes. Other bits and bytes
+/// stay.
 pub fn set_marks(m: &mut FlatMem, r: &Regions, marks: &Marks)
     requires from { CODE_POOL ≤ r.now.code_lo }
     requires to { r.now.code_hi ≤ CODE_POOL_END }

@@ -19,10 +19,10 @@ use kernel_model::states::FREE;
 use place_model::laws::{numbers_are_least, placings_are_lowest, placings_keep_settled};
 use place_model::places::{DomainRow, NoRoom, Pool, Range, Regions};
 
-/// Places so many bytes of code and of region, both even, the code at most 16,384 bytes: takes the least free row of the kind and the
-/// lowest gap of each pool that fits, and fills the row. A gap is a maximal run of addresses that no domain has. Refusals leave memory
-/// as it was, and name the first cause that stands: no row of the kind is free, no gap is as long as the code, or none is as long as
-/// the region, with the length of the longest gap.
+/// Places so many bytes of code and of region, both even, the code at most 16,384 bytes: takes the least free row of the kind and
+/// the lowest gap of each pool that fits, and fills the row. A gap is a maximal run of addresses that no domain has. Refusals leave
+/// memory as it was, and name the first cause that stands: no row of the kind is free, no gap is as long as the code, or none is as
+/// long as the region, with the length of the longest gap.
 pub fn place(m: &mut FlatMem, kind: Kind, code_len: u16, region_len: u32) -> Result<Regions, NoRoom>
     requires code_even { code_len % 2 ≡ 0 }
     requires code_some { 2 ≤ code_len }

@@ -13,8 +13,8 @@ use place_model::places::Range;
 /// The most gaps that the ranges of the domains leave: one before each and one behind the last.
 const GAPS: usize = DOMAINS + 1;
 
-/// The place of so many bytes in a pool: the start of the lowest gap that is as long, and the pool's start for none. Else the length
-/// of the longest gap.
+/// The place of so many bytes in a pool: the start of the lowest gap that is as long, and the pool's start for none. Else the
+/// length of the longest gap.
 pub fn place_in(pool: &Range, ranges: &ArrayVec<Range, DOMAINS>, need: u32) -> Result<u16, u16>
     requires { pool.now.from ≤ pool.now.to }
     ensures answer { result ≡ place_in pool.now ranges.now.items need }

@@ -5,8 +5,8 @@
 //! `specs/Loading.antt` says what it leaves. A relocation adds to its word, modulo 65,536: CODE the code's address, DATA and LO the
 //! region's, HI the address behind the region. Each byte is written once, and no call takes memory.
 //!
-//! `load` stands on memory that is settled, and leaves it so; memory that `clear` begins with is (`laws`). `put_module` loads a module
-//! without its functions, and `loaded` any object with any marks: it is what both do.
+//! `load` stands on memory that is settled, and leaves it so; memory that `clear` begins with is (`laws`). `put_module` loads a
+//! module without its functions, and `loaded` any object with any marks: it is what both do.
 #![tactic(auto)]
 
 pub mod laws;

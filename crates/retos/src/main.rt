@@ -31,8 +31,8 @@ fn main(rt: HostRuntime) -> ExitCode {
 }
 
 /// Files in the places of those standard streams that are closed, so that no file that is opened later gets such a place and is
-/// written to in the stream's stead. They are opened to be read alone: a write to such a stream fails. A system gives a new file the
-/// lowest free place, so three are enough; they stay open as long as they are kept.
+/// written to in the stream's stead. They are opened to be read alone: a write to such a stream fails. A system gives a new file
+/// the lowest free place, so three are enough; they stay open as long as they are kept.
 fn kept_streams(rt: &HostRuntime) -> [Option<File>; 3] {
     let input = File::open(rt, NULL_DEVICE).ok();
     let out = File::open(rt, NULL_DEVICE).ok();

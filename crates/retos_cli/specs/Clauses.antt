@@ -164,8 +164,8 @@ OneAnswerClause call = Told call.folder_before.files (HasOneAnswer call.command)
 
 -- ---- confinement
 
--- Where a run has all its inputs and there is room for its objects: at every number of steps up to the run's end the system is sound,
--- each record is confined by the system before it and keeps the others, and a fault leaves its row faulted
+-- Where a run has all its inputs and there is room for its objects: at every number of steps up to the run's end the system is
+-- sound, each record is confined by the system before it and keeps the others, and a fault leaves its row faulted
 abbrev pub IsConfinedJob : Files → Job → Type 0
 IsConfinedJob m job = (t : Script) (os : List Loadable) (s : System) → IsSupplied m job t os → booted os ≡ Ok s → IsSoundRun job.steps t s
 

@@ -98,9 +98,9 @@ pub record Scripts (held : Option (List ℕ)) (t : Script) : Type 0 where
   pub short : length text ≤ most_bytes
   pub gives : script_of text ≡ Ok t
 
--- The input is refused for this. A source and a script are refused for a line alone, an object that is to get guards for its text or
--- for what the inserter finds, and an object that is checked for its text, its kind or its check; what isn't held or is too long is
--- none of them. Room is asked for once all inputs are taken
+-- The input is refused for this. A source and a script are refused for a line alone, an object that is to get guards for its text
+-- or for what the inserter finds, and an object that is checked for its text, its kind or its check; what isn't held or is too long
+-- is none of them. Room is asked for once all inputs are taken
 unfoldable pub Refuses : Purpose → Option (List ℕ) → Why → Type 0
 Refuses purpose held why.Absent = held ≡ None
 Refuses purpose held why.TooLong = (bytes : List ℕ) × (held ≡ Some bytes) × (most_bytes < length bytes)

@@ -31,7 +31,8 @@ pub enum Judged {
     NoMemory,
 }
 
-/// Takes the inputs of these names one after another: their objects with the marks of their unit starts, or why one ends the command.
+/// Takes the inputs of these names one after another: their objects with the marks of their unit starts, or why one ends the
+/// command.
 pub fn take_all<F: Folder>(
     alloc: Global,
     files: &mut F,

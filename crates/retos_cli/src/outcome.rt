@@ -60,7 +60,8 @@ pub enum Why {
     Check { rule: u8, place: u16 },
     /// There is no room for it.
     Room(NoRoom),
-    /// A source text with this first fault: on which line, counted from 1, and what is wrong. Line 0 is for what is missing as a whole.
+    /// A source text with this first fault: on which line, counted from 1, and what is wrong. Line 0 is for what is missing as a
+    /// whole.
     Line { line: u32, kind: AsmKind },
     /// A script with this first line that breaks a rule, counted from 1.
     Script { line: u32 },

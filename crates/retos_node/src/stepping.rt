@@ -1,6 +1,6 @@
-//! A step, by its cases: lines are raised, and then an interrupt is accepted, the machine idles, an entry or a routine of the kernel
-//! takes its turn, a module's budget is spent, or the instruction at PC runs. Each case is a function, whose contract says what it
-//! gives each sound system that memory and registers stand for (`specs/Cases.antt`).
+//! A step, by its cases: lines are raised, and then an interrupt is accepted, the machine idles, an entry or a routine of the
+//! kernel takes its turn, a module's budget is spent, or the instruction at PC runs. Each case is a function, whose contract says
+//! what it gives each sound system that memory and registers stand for (`specs/Cases.antt`).
 
 ghost use Rattle.std.specs.Prelude.{◌≡◌, ◌≢◌, ◌+◌, ◌<◌, ◌≤◌, ◌^◌, IfSome, length, None, false, true};
 ghost use Rattle.msp_encode.specs.Spelling.{Legal, words_after};

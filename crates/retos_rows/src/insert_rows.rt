@@ -123,7 +123,10 @@ fn four_guarded(alloc: Global, from_end: u16) -> Result<Bytes, Fail> {
 const FOUR_AT_THE_END: [(u16, &str, u8); 2] = [
     (
         0xFFF8,
-        "\n10 a0.t0 601E 4394 2008:01 2009:00\n11 a0.t0 6022 43A4 200A:02 200B:00\n12 a0.t0 6026 42A4 200C:04 200D:00\n13 a0.t0 602A 42B4 200E:08 200F:00\n",
+        "\n10 a0.t0 601E 4394 2008:01 2009:00\n\
+11 a0.t0 6022 43A4 200A:02 200B:00\n\
+12 a0.t0 6026 42A4 200C:04 200D:00\n\
+13 a0.t0 602A 42B4 200E:08 200F:00\n",
         0,
     ),
     (

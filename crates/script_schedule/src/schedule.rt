@@ -1,7 +1,7 @@
 //! What a script gives for the next step, without a search.
 //!
-//! The steps of a script's `at` lines never fall, so a place moves along them, and the next step for which a line stands is kept: at
-//! all others a step costs a compare, and one more number is drawn where the script has a `mix` line.
+//! The steps of a script's `at` lines never fall, so a place moves along them, and the next step for which a line stands is kept:
+//! at all others a step costs a compare, and one more number is drawn where the script has a `mix` line.
 
 ghost use Rattle.std.specs.Prelude.{◌≡◌, ◌≢◌, ℕ, ◌<◌, ◌≤◌, ◌+◌, ◌-◌, ◌*◌, ◌/◌, ◌%◌, ◌^◌, length, nat_lt, bit_or};
 ghost use Rattle.std.specs.List.{list_any};

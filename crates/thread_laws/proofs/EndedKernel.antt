@@ -83,8 +83,8 @@ no_four i xs h = cond-false (ltb i 4) xs [] (le-ltb i 4 h)
 four_nothing : (i : ℕ) → of_four i [] ≡ []
 four_nothing i = cond_both (ltb i 4) [] [] (λ (xs : List ℕ). xs ≡ []) (λ e. refl) (λ e. refl)
 
--- a list at a number of an application's four, where all members are of that application, and the row is as new for application a and as
--- before for the others
+-- a list at a number of an application's four, where all members are of that application, and the row is as new for application a
+-- and as before for the others
 pub waiters_kept : (a b i : ℕ) (now before : List ℕ) → ((t : ℕ) → Contains (of_four i before) t → app_of t ≡ b) → (b ≡ a → i < 4 → now ≡ [])
     → (b ≢ a → i < 4 → now ≡ before) → of_four i now ≡ filter (λ t. not (is_of a t)) (of_four i before)
 waiters_kept a b i now before all new old = ⊎_elim

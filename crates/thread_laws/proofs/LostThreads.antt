@@ -20,8 +20,8 @@ pub record MutexStays (k next : Kernel) (gone : ℕ → Bool) (a i : ℕ) : Type
   pub row : mutex_at next a i ≡ mutex_at k a i
   pub owner : owner_of k a i < 4 → gone (identity a (owner_of k a i)) ≡ false
 
--- next is k without the threads that are gone, and no module runs: they own no mutex, and the applications of the others are as before.
--- Its limits are those of who runs then
+-- next is k without the threads that are gone, and no module runs: they own no mutex, and the applications of the others are as
+-- before. Its limits are those of who runs then
 pub record HasLost (k next : Kernel) (gone : ℕ → Bool) : Type 0 where
   pub shape : HasShape next
   pub limit : word_of next CurLim ≡ limit_of next

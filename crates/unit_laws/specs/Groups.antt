@@ -46,7 +46,8 @@ pub record Reaches (m r : List ℕ) (first past : ℕ) (n d : List ℕ) : Type 0
 
 -- ---- the stores of a group
 
--- An operation that stores at an index behind a base register. The source's ends at an address, and the unit's is so many bytes behind R4
+-- An operation that stores at an index behind a base register. The source's ends at an address, and the unit's is so many bytes
+-- behind R4
 pub record Store : Type 0 where
   pub op : Op2
   pub width : Width

@@ -19,7 +19,8 @@ use Rattle.unit_laws.specs.Running.{IsInside, RunsUnit}
 use Rattle.unit_laws.specs.Frame.{SrcAvoids, InstrAvoids, spread, spread_effect}
 use Rattle.unit_laws.specs.Guards.{Passes}
 
--- where a guard passes, an instruction behind it that leads out of the unit ends it, with all but R4 and R5 as it would be without the guard
+-- where a guard passes, an instruction behind it that leads out of the unit ends it, with all but R4 and R5 as it would be without
+-- the guard
 abbrev pub GuardedLaw : Type 0
 GuardedLaw = (m r : List ℕ) (first past steps next x : ℕ) (i : Instr) (n : ℕ) → IsContext r → next % 2 ≡ 0 → Passes m r first past steps next x → InstrAvoids i → IsFetched m next i n
     → (IsInside first past (reg (does m (set_reg r PC next) i n).context PC) → ⊥) → RunsUnit m first past r (spread_effect (does m (set_reg r PC next) i n) x (reg r SR))
@@ -58,7 +59,8 @@ IsCellOperand (src.AutoInc j) n x = ⊥
 IsCellOperand (src.Immediate z) n x = ⊥
 IsCellOperand (src.Const k) n x = ⊥
 
--- RRC, RRA, SWPB or SXT on @R4 does what it does on the cell whose address R4 has, but for R4 and R5, where both end at the same place
+-- RRC, RRA, SWPB or SXT on @R4 does what it does on the cell whose address R4 has, but for R4 and R5, where both end at the same
+-- place
 abbrev pub AtR4Law : Type 0
 AtR4Law = (m r : List ℕ) (op : Op1) (w : Width) (s : Src) (pc k n x y : ℕ) → IsContext r → changes op ≡ true → IsCellOperand s n x → n ≢ 0 → x < 65536 → pc % 2 ≡ 0 → 1 ≤ k → pc + 2 * k < 65536
     → does m (spread (set_reg r PC (pc + (2 * k - 2))) (sum_of x (reg r n)) y) (instr.One op w (src.Indirect CHECKED)) 1 ≡ spread_effect (does m (set_reg r PC pc) (instr.One op w s) k) (sum_of x (reg r n)) y

@@ -18,7 +18,8 @@ silent q = record { context = q; written = [] }
 abbrev pub IsInside : (first past : ℕ) → ℕ → Type 0
 IsInside first past a = (first < a) × (a < past)
 
--- So many steps lead from a context to another. Each is of the instruction that is fetched, writes nothing, and leads inside the unit.
+-- So many steps lead from a context to another. Each is of the instruction that is fetched, writes nothing, and leads inside the
+-- unit.
 pub data Runs (m : List ℕ) (first past : ℕ) : ℕ → List ℕ → List ℕ → Type 0 where
   Stays : (c : List ℕ) → Runs m first past zero c c
   Goes : (k : ℕ) (c q d : List ℕ) (i : Instr) (n : ℕ) → IsFetched m (reg c PC) i n → does m c i n ≡ silent q → IsInside first past (reg q PC) → Runs m first past k q d → Runs m first past (suc k) c d

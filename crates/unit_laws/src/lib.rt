@@ -39,17 +39,20 @@ pub fn line_does()
     ensures { LineLaw }
 {}
 
-/// The carry flag tells after a comparison whether the destination is at least the source, and the zero flag whether they are equal.
+/// The carry flag tells after a comparison whether the destination is at least the source, and the zero flag whether they are
+/// equal.
 pub fn comparison_tells()
     ensures { ComparedLaw }
 {}
 
-/// Where a run of the store guard ends: at the guarded instruction, with the address in R4, exactly where it is in the region, and at F000 elsewhere.
+/// Where a run of the store guard ends: at the guarded instruction, with the address in R4, exactly where it is in the region, and
+/// at F000 elsewhere.
 pub fn store_guard_ends()
     ensures { StoreGuardLaw }
 {}
 
-/// Where a run of the growth guard ends: at the guarded instruction exactly where SP is at least the current limit, and at F002 elsewhere.
+/// Where a run of the growth guard ends: at the guarded instruction exactly where SP is at least the current limit, and at F002
+/// elsewhere.
 pub fn growth_guard_ends()
     ensures { GrowthGuardLaw }
 {}
@@ -59,7 +62,8 @@ pub fn pop_guard_ends()
     ensures { PopGuardLaw }
 {}
 
-/// Where a run of the SP guard ends: at the guarded instruction exactly where R4 is between the current limit and the current top, and at F002 elsewhere.
+/// Where a run of the SP guard ends: at the guarded instruction exactly where R4 is between the current limit and the current top,
+/// and at F002 elsewhere.
 pub fn sp_guard_ends()
     ensures { SpGuardLaw }
 {}
@@ -79,7 +83,8 @@ pub fn through_same()
     ensures { ThroughLaw }
 {}
 
-/// RRC, RRA, SWPB or SXT on @R4 does what it does on x(Rn), on @Rn or on an absolute address, where R4 has that address, but for R4 and R5.
+/// RRC, RRA, SWPB or SXT on @R4 does what it does on x(Rn), on @Rn or on an absolute address, where R4 has that address, but for R4
+/// and R5.
 pub fn at_r4_same()
     ensures { AtR4Law }
 {}
@@ -134,13 +139,14 @@ pub fn change_unit_ends()
     ensures { ChangeUnitLaw }
 {}
 
-/// The stores of a group behind one guard do what the source's do, one after another, where the address of the first is where the guard
-/// lets it be, and the unit ends at F000 elsewhere.
+/// The stores of a group behind one guard do what the source's do, one after another, where the address of the first is where the
+/// guard lets it be, and the unit ends at F000 elsewhere.
 pub fn group_unit_ends()
     ensures { GroupUnitLaw }
 {}
 
-/// A guarded PUSH or CALL of a place does what the source's does where SP is at least the current limit, and ends at F002 elsewhere.
+/// A guarded PUSH or CALL of a place does what the source's does where SP is at least the current limit, and ends at F002
+/// elsewhere.
 pub fn growth_unit_ends()
     ensures { GrowthUnitLaw }
 {}
@@ -165,7 +171,8 @@ pub fn return_unit_ends()
     ensures { ReturnUnitLaw }
 {}
 
-/// A guarded operation on SP does what the source's does where the result is from the current limit to the current top, and ends at F002 elsewhere.
+/// A guarded operation on SP does what the source's does where the result is from the current limit to the current top, and ends at
+/// F002 elsewhere.
 pub fn set_sp_unit_ends()
     ensures { SetSpUnitLaw }
 {}
