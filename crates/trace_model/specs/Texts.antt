@@ -1,5 +1,5 @@
 -- The lines of a trace.
-use Rattle.std.specs.Prelude.{ℕ, Bool, true, false, ◌==◌, ◌-◌, ◌/◌, ◌%◌, ◌&&◌, List, [], ◌∷◌, ◌++◌, length, drop, codes, decimal, if◌then◌else◌}
+use Rattle.std.specs.Prelude.{ℕ, Bool, true, false, ◌==◌, ◌-◌, ◌&&◌, List, [], ◌∷◌, ◌++◌, length, drop, codes, decimal, if◌then◌else◌}
 use Rattle.std.specs.List.{filter, flat_map}
 use Rattle.line_text.specs.Hexadecimal.{hex_byte, hex_word}
 use Rattle.trace_model.specs.declared.records.Who.{Who}
