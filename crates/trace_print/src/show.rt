@@ -42,7 +42,8 @@ impl Tail {
         writes: Writes,
     )
         ensures kept { self.new ≡ kept_with show self.old (told.Instr step who pc word writes) }
-        ensures holds { (made : List RecordOf) → self.old ≡ kept_of show made → self.new ≡ kept_of show (made ++ told.Instr step who pc word writes ∷ []) }
+        ensures holds { (made : List RecordOf) → self.old ≡ kept_of show made
+            → self.new ≡ kept_of show (made ++ told.Instr step who pc word writes ∷ []) }
     {
         if !show.tail {
             return;
