@@ -1,7 +1,7 @@
 -- The tests of an instruction's parts tell its conditions.
-use Rattle.std.proofs.Common.{◌≡◌, ◌≢◌, ◌↔◌, ℕ, ◌<◌, ◌==◌, not, nat_lt, Bool, true, ◌&&◌, arith, refl}
+use Rattle.std.proofs.Common.{◌≡◌, ◌≢◌, ◌↔◌, ℕ, ◌<◌, ◌==◌, not, nat_lt, true, ◌&&◌, arith, refl}
 use Rattle.std.proofs.lemmas.Bool.Decides.{nat_tests}
-use Rattle.msp_encode.specs.declared.registers.TheConstants.{PC, SR, CONSTANTS}
+use Rattle.msp_encode.specs.declared.registers.TheConstants.{CONSTANTS}
 use Rattle.msp_encode.specs.declared.instr.Op1.{Op1}
 use Rattle.msp_encode.specs.declared.instr.Op1.TheVariants as op1
 use Rattle.msp_encode.specs.declared.instr.Width.{Width}

@@ -1,5 +1,5 @@
 -- What programs print, step by step or at the end, and which objects are refused.
-use Rattle.std.specs.Prelude.{◌≡◌, ℕ, true, false, List, [], ◌∷◌, ◌++◌, codes, Some}
+use Rattle.std.specs.Prelude.{◌≡◌, true, false, [], ◌∷◌, ◌++◌, codes, Some}
 use Rattle.place_model.specs.declared.places.NoRoom.TheVariants.{Slots, Taken}
 use Rattle.node_examples.specs.Programs.{adding_form, adding, asking_form, asking, calling_form, calling, emitting_form, emitting, handing_form, handing, jumping_form, jumping, jumping_into_guard_form, jumping_into_guard, looping_form, looping, looping_module_form, looping_module, overwriting_form, overwriting, pushing_form, pushing, sleeping_form, sleeping, storing_form, storing, storing_low_form, storing_low, yielding_form, yielding}
 use Rattle.node_model.specs.Booting.{booted}

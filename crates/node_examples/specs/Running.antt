@@ -1,5 +1,5 @@
 -- Runs of programs from boot, and what they print.
-use Rattle.std.specs.Prelude.{ℕ, ◌-◌, ◌+◌, Bool, true, false, List, [], ◌∷◌, ◌++◌, take, drop, length, codes, Option, Result, Ok, Err, None, Some}
+use Rattle.std.specs.Prelude.{ℕ, ◌-◌, ◌+◌, Bool, true, false, List, [], ◌∷◌, ◌++◌, drop, length, Option, Result, Ok, Err, None, Some}
 use Rattle.kernel_model.specs.Kernel.{with_word}
 use Rattle.kernel_model.specs.declared.rows.SysWord.TheVariants.{Budget}
 use Rattle.trace_model.specs.declared.scripts.AtKind.TheVariants.{Raise, Pick}

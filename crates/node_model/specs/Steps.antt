@@ -1,5 +1,5 @@
 -- One step of a system.
-use Rattle.std.specs.Prelude.{ℕ, ◌+◌, ◌-◌, ◌*◌, ◌/◌, ◌%◌, ◌^◌, Bool, ◌==◌, nat_le, if◌then◌else◌, ◌&&◌, List, [], ◌∷◌, bit_or, Option, None, Some}
+use Rattle.std.specs.Prelude.{ℕ, ◌+◌, ◌-◌, ◌*◌, ◌%◌, ◌^◌, Bool, ◌==◌, nat_le, if◌then◌else◌, ◌&&◌, List, [], ◌∷◌, bit_or, Option, None, Some}
 use Rattle.std.specs.List.{find}
 use Rattle.std.specs.Int.{bit_at}
 use Rattle.msp_encode.specs.declared.registers.TheConstants.{PC, SR}

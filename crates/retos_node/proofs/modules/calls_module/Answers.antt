@@ -1,4 +1,4 @@
-use Rattle.std.proofs.Common.{ℕ, List, Err, subst}
+use Rattle.std.proofs.Common.{ℕ, List, subst}
 use Rattle.machine_model.specs.Context.{reg, set_reg}
 use Rattle.kernel_model.specs.declared.entries.TheConstants.{MODULE_CALL}
 use Rattle.kernel_model.specs.Kernel.{Kernel}
