@@ -1,6 +1,7 @@
 //! What the machine does when it accepts an interrupt.
 
 ghost use Rattle.std.specs.Prelude.{◌≡◌, ◌≢◌, ◌<◌, ◌≤◌, ◌+◌, ◌/◌, ◌%◌, length};
+ghost use Rattle.msp_encode.specs.declared.registers.TheConstants.{SP};
 ghost use Rattle.flat_mem.specs.Bytes.{with_word};
 ghost use Rattle.machine_model.specs.Memory.{IsMemory, even, word_at};
 ghost use Rattle.machine_model.specs.Context.{reg};
@@ -61,8 +62,8 @@ fn vector(m: &FlatMem, line: u8) -> u16
 #[tactic(auto, using(crate::proofs::Pushes::sp_after))]
 fn push(value: u16, m: &mut FlatMem, r: &mut Regs) -> u16
     ensures context { r.new ≡ lowered r.old }
-    ensures at { result ≡ sum_of (reg r.old 1) 65534 }
-    ensures sp { reg r.new 1 ≡ result }
+    ensures at { result ≡ sum_of (reg r.old SP) 65534 }
+    ensures sp { reg r.new SP ≡ result }
     ensures even { result % 2 ≡ 0 }
     ensures memory { m.new ≡ with_word m.old result value }
 {

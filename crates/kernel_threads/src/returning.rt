@@ -1,6 +1,7 @@
 //! Where the running domain goes on: at the address that it returns to, or that it jumps to.
 
 ghost use Rattle.std.specs.Prelude.{◌↔◌, IsTrue};
+ghost use Rattle.msp_encode.specs.declared.registers.TheConstants.{SP, CHECKED};
 ghost use Rattle.machine_model.specs.Context.{reg};
 ghost use Rattle.machine_model.specs.Memory.{word_at};
 ghost use Rattle.kernel_model.specs.Layout.{kernel_of};
@@ -19,7 +20,7 @@ use region_table::is_marked;
 #[tactic(auto, unfolding(machine_model::specs::Memory::word_at))]
 pub fn take_return(m: &FlatMem, r: &mut Regs) -> Result<(), u16>
     requires { DomainRuns (kernel_of m.now) }
-    ensures { let at = word_at m.now (reg r.old 1) in GoesOn m.now r.old r.new at (returned_to r.old at) result }
+    ensures { let at = word_at m.now (reg r.old SP) in GoesOn m.now r.old r.new at (returned_to r.old at) result }
 {
     let stack = r.get(SP);
     let address = m.word(stack);
@@ -35,7 +36,7 @@ pub fn take_return(m: &FlatMem, r: &mut Regs) -> Result<(), u16>
 /// registers are as before.
 pub fn jump(m: &FlatMem, r: &mut Regs) -> Result<(), u16>
     requires { DomainRuns (kernel_of m.now) }
-    ensures { let at = reg r.old 4 in GoesOn m.now r.old r.new at (gone_to r.old at) result }
+    ensures { let at = reg r.old CHECKED in GoesOn m.now r.old r.new at (gone_to r.old at) result }
 {
     let target = r.get(CHECKED);
     if !is_own_mark(m, target) {

@@ -1,6 +1,7 @@
 //! What one instruction does.
 
 ghost use Rattle.std.specs.Prelude.{◌≡◌, ◌≤◌, ◌+◌, length, pos, negsuc, ◌≤ℤ◌};
+ghost use Rattle.msp_encode.specs.declared.registers.TheConstants.{PC};
 ghost use Rattle.msp_encode.specs.Spelling.{Legal, words_after};
 ghost use Rattle.machine_model.specs.Memory.{IsMemory};
 ghost use Rattle.machine_model.specs.Context.{reg};
@@ -142,7 +143,7 @@ fn change(op: Op1, width: Width, src: Src, len: u8, m: &mut FlatMem, r: &mut Reg
 /// Moves PC past the instruction, reads its source, and then lowers SP by two.
 fn pushed_source(width: Width, src: Src, len: u8, m: &FlatMem, r: &mut Regs) -> u16
     requires { NamesRegisters src }
-    ensures value { result ≡ source_value width src (sum_of (reg r.old 0) 2) m.now (passed r.old len) }
+    ensures value { result ≡ source_value width src (sum_of (reg r.old PC) 2) m.now (passed r.old len) }
     ensures context { r.new ≡ lowered (after_source width src (passed r.old len)) }
 {
     let at = sum(r.get(PC), 2);

@@ -1,6 +1,7 @@
 //! The routines of the interrupt lines.
 
 ghost use Rattle.std.specs.Prelude.{◌≡◌, ◌<◌, ◌==◌, if◌then◌else◌};
+ghost use Rattle.msp_encode.specs.declared.registers.TheConstants.{SP};
 ghost use Rattle.kernel_model.specs.Layout.{kernel_of};
 ghost use Rattle.kernel_model.specs.Queues.{Leaves};
 ghost use Rattle.kernel_model.specs.Running.{NoneRuns};
@@ -40,7 +41,7 @@ pub fn vector(m: &mut FlatMem, r: &mut Regs, line: u8, moment: Moment) -> Record
 /// The word at SP.
 #[tactic(auto, unfolding(machine_model::specs::Memory::word_at))]
 fn top(m: &FlatMem, r: &Regs) -> u16
-    ensures { result ≡ word_at m.now (reg r.now 1) }
+    ensures { result ≡ word_at m.now (reg r.now SP) }
 {
     m.word(r.get(SP))
 }

@@ -3,6 +3,7 @@
 //! what it gives each sound system that memory and registers stand for (`specs/Cases.antt`).
 
 ghost use Rattle.std.specs.Prelude.{◌≡◌, ◌≢◌, ◌+◌, ◌<◌, ◌≤◌, ◌^◌, IfSome, length, None, false, true};
+ghost use Rattle.msp_encode.specs.declared.registers.TheConstants.{PC};
 ghost use Rattle.msp_encode.specs.Spelling.{Legal, words_after};
 ghost use Rattle.machine_model.specs.Context.{reg};
 ghost use Rattle.machine_model.specs.Does.{does, memory_after};
@@ -170,7 +171,7 @@ fn acceptance(m: &mut FlatMem, r: &mut Regs, line: u8, moment: Moment) -> Record
 /// The case at an address of the kernel.
 #[inline(never)]
 fn in_kernel(m: &mut FlatMem, r: &mut Regs, moment: Moment) -> Record
-    requires above { FIRST_ENTRY ≤ reg r.old 0 }
+    requires above { FIRST_ENTRY ≤ reg r.old PC }
     requires stands { StandsForOne m.old r.old moment.step }
     requires none { line_to_accept (kernel_of m.old) r.old ≡ None }
     ensures { Gives m.old m.new r.old r.new moment result }
@@ -221,7 +222,7 @@ fn enter(m: &mut FlatMem, r: &mut Regs, moment: Moment) -> Record
 fn has_a_row(m: &FlatMem, r: &Regs, moment: Moment)
     requires stands { StandsForOne m.now r.now moment.step }
     requires at { IsAtEntry (kernel_of m.now) r.now }
-    ensures { HasRow (kernel_of m.now) (reg r.now 0) }
+    ensures { HasRow (kernel_of m.now) (reg r.now PC) }
 {
     steps_are_safe();
     rowless_is_not_confined();
@@ -373,7 +374,7 @@ fn execute(
     requires size { words ≡ 1 + length (words_after instr.now) }
     ensures memory { m.new ≡ memory_after m.old (does m.old r.old instr.now words) }
     ensures context { r.new ≡ (does m.old r.old instr.now words).context }
-    ensures shown { let pc = reg r.old 0 in result ≡ told.Instr moment.step who pc (word_at m.old pc) (does m.old r.old instr.now words).written }
+    ensures shown { let pc = reg r.old PC in result ≡ told.Instr moment.step who pc (word_at m.old pc) (does m.old r.old instr.now words).written }
     ensures is_memory { IsMemory m.new }
 {
     let pc = r.get(PC);
